@@ -1,5 +1,5 @@
 //! A shelf in memory: it tells its files, and fails where it is told to.
-ghost use Rattle.std.specs.Prelude.{◌≡◌, ℕ, ◌+◌, ◌^◌, ◌-◌, ◌↔◌, min, List, Vec, Some, IsTrue, Contains, option_copied};
+ghost use Rattle.std.specs.Prelude.{◌≡◌, ℕ, ◌+◌, ◌<◌, ◌≤◌, ◌↔◌, ◌⊎◌, min, length, Some, None, IsSomeAnd, IfOk, IsErrOf, IsTrue, Contains, option_copied};
 ghost use Rattle.pfc_io.specs.Counts.{greatest};
 ghost use Rattle.pfc_io.specs.Files.{bytes_of};
 ghost use Rattle.pfc_io.specs.Memory.{files_of, NoneAbove};

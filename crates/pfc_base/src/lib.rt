@@ -9,6 +9,8 @@ mod memory_error;
 mod names;
 mod places;
 pub mod sign;
+#[cfg(test)]
+mod tests;
 mod texts;
 mod tokens;
 pub mod word;

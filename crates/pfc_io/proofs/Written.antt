@@ -1,5 +1,5 @@
 -- Writes one after the other.
-use Rattle.std.proofs.Common.{◌≡◌, ℕ, ◌+◌, ◌-◌, ◌≤◌, List, ◌++◌, length, take, drop, Option, subst, sym, arith, length-append, length-drop, length-take}
+use Rattle.std.proofs.Common.{ℕ, ◌+◌, ◌-◌, ◌≤◌, List, ◌++◌, length, take, drop, Option, subst, sym, arith, length-append, length-drop}
 use Rattle.std.proofs.Math.Seq.{take-add, take-append-add, take-length}
 use Rattle.std.proofs.lemmas.List.{take_rest, take-append-le}
 use Rattle.std.specs.Io.KnownBytes.{Appends}

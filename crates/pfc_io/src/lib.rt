@@ -11,6 +11,8 @@ mod memory_sink;
 mod output;
 mod shelf;
 mod sink;
+#[cfg(test)]
+mod tests;
 
 pub use disk::DiskShelf;
 pub use memory_shelf::MemoryShelf;

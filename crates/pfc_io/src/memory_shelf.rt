@@ -44,9 +44,30 @@ impl Shelf for MemoryShelf {
 
     ghost longs = { λ shelf. shelf.longs };
 
+    // No number is listed that a later call has.
     ghost is_steady = { λ shelf. NoneAbove shelf.fails.items shelf.calls };
 
-    fn load(&mut self, alloc: Global, name: &str, most: usize) -> Result<Vec<u8>, LoadFault> {
+    fn load(&mut self, alloc: Global, name: &str, most: usize) -> Result<Vec<u8>, LoadFault>
+        ensures given { IfOk result (λ bytes.
+            bytes_of name.now (files_of self.old.files.items) ≡ Some bytes.items) }
+        ensures bounded { IfOk result (λ bytes. length bytes.items ≤ most) }
+        ensures failed { IsErrOf result LoadFault.Failed ↔ (Contains self.old.fails.items (self.old.calls + 1)
+            ⊎ (bytes_of name.now (files_of self.old.files.items) ≡ None)) }
+        ensures long { IsErrOf result LoadFault.TooLong →
+            IsSomeAnd (bytes_of name.now (files_of self.old.files.items)) (λ bytes. most < length bytes) }
+
+        ensures calls { self.new.calls ≡ min (self.old.calls + 1) greatest }
+        ensures faults { self.old.faults ≤ self.new.faults }
+        ensures counted { IsErrOf result LoadFault.Failed → self.new.faults ≡ min (self.old.faults + 1) greatest }
+        ensures uncounted { ¬ IsErrOf result LoadFault.Failed → self.new.faults ≡ self.old.faults }
+        ensures longs { self.old.longs ≤ self.new.longs }
+        ensures long_counted { IsErrOf result LoadFault.TooLong → self.new.longs ≡ min (self.old.longs + 1) greatest }
+        ensures long_uncounted { ¬ IsErrOf result LoadFault.TooLong → self.new.longs ≡ self.old.longs }
+
+        ensures steady { NoneAbove self.old.fails.items self.old.calls → NoneAbove self.new.fails.items self.new.calls }
+        ensures files { self.new.files ≡ self.old.files }
+        ensures numbers { self.new.fails ≡ self.old.fails }
+    {
         let fails = is_next(&self.fails, self.calls);
         self.calls = self.calls.saturating_add(1);
         let held = if fails { None } else { find(&self.files, name) };

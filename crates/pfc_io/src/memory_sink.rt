@@ -1,5 +1,5 @@
 //! A sink in memory: it tells its bytes, and fails where it is told to.
-ghost use Rattle.std.specs.Prelude.{◌≡◌, ℕ, ◌+◌, ◌-◌, ◌^◌, ◌<◌, ◌≤◌, ◌++◌, ◌↔◌, ◌⊎◌, [], min, List, length, take, Some, IsErr, IfOk, OnErr, is_err, if◌then◌else◌, Contains};
+ghost use Rattle.std.specs.Prelude.{◌≡◌, ℕ, ◌+◌, ◌-◌, ◌<◌, ◌≤◌, ◌++◌, ◌↔◌, ◌⊎◌, [], min, length, take, Some, IsErr, IfOk, OnErr, is_err, if◌then◌else◌, Contains};
 ghost use Rattle.std.specs.Vec.{vec_capacity};
 ghost use Rattle.pfc_io.specs.Counts.{greatest};
 
@@ -59,15 +59,19 @@ impl Sink for MemorySink {
     ghost faults = { λ sink. sink.faults };
 
     fn write(&mut self, piece: &[u8]) -> Result<usize, Failed>
-        ensures fails { IsErr result ↔ (0 < length piece.now
-            × (Contains self.old.fails.items (self.old.calls + 1) ⊎ self.old.room ≤ length self.old.written.items)) }
-        ensures taken { IfOk result (λ n. (n ≡ min (min (length piece.now) self.old.most) (self.old.room - length self.old.written.items))
-            × (self.new.written.items ≡ self.old.written.items ++ take n piece.now)) }
-        ensures cut { OnErr result (self.new.written.items ≡ self.old.written.items) }
+        ensures failed { IsErr result ↔ (0 < length piece.now × (Contains self.old.fails.items (self.old.calls + 1)
+            ⊎ (self.old.room ≤ length self.old.written.items))) }
+        ensures taken { IfOk result (λ n.
+            n ≡ min (min (length piece.now) self.old.most) (self.old.room - length self.old.written.items)) }
+        ensures appended { IfOk result (λ n.
+            self.new.written.items ≡ self.old.written.items ++ take n piece.now) }
+        ensures unchanged { OnErr result (self.new.written.items ≡ self.old.written.items) }
+
         ensures calls { self.new.calls ≡ min (self.old.calls + 1) greatest }
         ensures faults { self.old.faults ≤ self.new.faults }
         ensures counted { self.new.faults ≡
             (if is_err result then min (self.old.faults + 1) greatest else self.old.faults) }
+
         ensures room { self.new.room ≡ self.old.room }
         ensures most { self.new.most ≡ self.old.most }
         ensures numbers { self.new.fails ≡ self.old.fails }

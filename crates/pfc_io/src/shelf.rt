@@ -56,7 +56,8 @@ pub trait Shelf {
         ensures too_long { IsErrOf result LoadFault.TooLong → Rose (longs self.old) (longs self.new) }
 
         // With `bounded` and `given`, this is exact, but for a failure and for want of memory.
-        ensures long { IsErrOf result LoadFault.TooLong → IsSome (told self.old) → IsLong (told self.old) name.now most }
+        ensures long { IsErrOf result LoadFault.TooLong → IsSome (told self.old)
+            → IsLong (told self.old) name.now most }
 
         ensures tells { is_steady self.old → IsSome (told self.old) }
         ensures steady { is_steady self.old → is_steady self.new }

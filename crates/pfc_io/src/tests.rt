@@ -113,6 +113,7 @@ fn loads_from_the_disk(rt: HostRuntime) -> Result<(), Fail> {
         Some(LoadFault::Failed)
     );
     assert_eq!(rt; (disk.faults, disk.longs), (1, 1));
+    fs::remove_file(&rt, "a.pas")?;
     Ok(())
 }
 

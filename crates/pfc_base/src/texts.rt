@@ -32,6 +32,13 @@ impl Text {
         Ok(Text { text })
     }
 
+    /// The text of the bytes of a list.
+    pub fn from_vec(text: Vec<u8>) -> Text
+        ensures { result ≡ text.items }
+    {
+        Text { text }
+    }
+
     /// The bytes of the text.
     pub fn bytes(&self) -> &[u8]
         ensures { result.now ≡ self.now }

@@ -1,0 +1,13 @@
+pub mod Closers
+pub mod Codes
+pub mod Firsts
+pub mod Fronts
+pub mod Lists
+pub mod Marks
+pub mod One
+pub mod Quotes
+pub mod Reals
+pub mod Reserved
+pub mod Steps
+pub mod Values
+pub mod Written

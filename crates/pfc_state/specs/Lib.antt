@@ -1,0 +1,4 @@
+pub mod Seats
+pub mod Slots
+pub mod Stands
+pub mod Waits

@@ -1,0 +1,13 @@
+use Rattle.std.proofs.Common.{[]}
+use Rattle.pfc_world.proofs.Changes.{Now, blocks}
+use Rattle.pfc_world.proofs.world.World.block.Goals as goal
+
+pub invariant_of-self : goal.invariant_of-self
+invariant_of-self c =
+    let h : Now c.self.inside.rows.items c.self.inside.acting c.self.inside.done c.self.inside.moment c.self.inside.room c.args.self.now = record { tied = c.self.invariant; is = c.self.view_is } in
+    (blocks _ _ _ _ _ c.number.result c.args.r.number c.args.why [] _ _ _ h c.number.ensures c.requires.acts c.index_mut-row.ensures.value c.block.ensures c.requires.fresh).tied
+
+pub returns : goal.returns
+returns c =
+    let h : Now c.self.inside.rows.items c.self.inside.acting c.self.inside.done c.self.inside.moment c.self.inside.room c.args.self.now = record { tied = c.self.invariant; is = c.self.view_is } in
+    (blocks _ _ _ _ _ c.number.result c.args.r.number c.args.why [] _ _ _ h c.number.ensures c.requires.acts c.index_mut-row.ensures.value c.block.ensures c.requires.fresh).is

@@ -1,0 +1,10 @@
+pub mod Coend
+pub mod Firsts
+pub mod Partners
+pub mod Rows
+pub mod Settling
+pub mod Sought
+pub mod Tables
+pub mod Tickets
+pub mod Transitions
+pub mod Walks

@@ -1,0 +1,10 @@
+pub mod Cut
+pub mod Digits
+pub mod Draws
+pub mod Laws
+pub mod Modes
+pub mod Picks
+pub mod Ready
+pub mod Script
+pub mod SoFar
+pub mod Words

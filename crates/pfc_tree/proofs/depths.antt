@@ -1,0 +1,5 @@
+pub mod Evens
+pub mod Exprs
+pub mod Parts
+pub mod Stmts
+pub mod Types

@@ -1,0 +1,11 @@
+pub mod Grammar
+pub mod Readings
+pub mod Symbols
+pub mod depths
+pub mod forget
+pub mod kept
+pub mod lawful
+pub mod shapes
+pub mod tokens
+pub mod trees
+pub mod views

@@ -1,0 +1,12 @@
+pub mod Lists
+pub mod Sound
+pub mod SoundLoops
+pub mod Complete
+pub mod CompleteLoops
+pub mod Local
+pub mod LocalLoops
+pub mod Heads
+pub mod sound_rules
+pub mod complete_rules
+pub mod local_rules
+pub mod Exact

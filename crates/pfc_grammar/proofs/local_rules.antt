@@ -1,0 +1,4 @@
+pub mod Exprs
+pub mod Parts
+pub mod Stmts
+pub mod Types

@@ -1,0 +1,4 @@
+pub mod Exprs
+pub mod Types
+pub mod Stmts
+pub mod Parts

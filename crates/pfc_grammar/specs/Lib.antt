@@ -1,0 +1,4 @@
+pub mod Heads
+pub mod Outcomes
+pub mod Reading
+pub mod grammar

@@ -1,0 +1,4 @@
+pub mod Adding
+pub mod First
+pub mod Names
+pub mod Samples

@@ -1,0 +1,9 @@
+pub mod Blocks
+pub mod Checking
+pub mod Faults
+pub mod Fields
+pub mod Scopes
+pub mod Table
+pub mod Types
+pub mod Views
+pub mod rules

@@ -1,0 +1,9 @@
+pub mod Bodies
+pub mod Calls
+pub mod Constants
+pub mod Declarations
+pub mod Expressions
+pub mod Kinds
+pub mod Routines
+pub mod Statements
+pub mod Whole

@@ -1,0 +1,1 @@
+program a; begin writeln(1+2) end.

@@ -1,0 +1,4 @@
+pub mod Form
+pub mod Last
+pub mod Simulation
+pub mod Sound

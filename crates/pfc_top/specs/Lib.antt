@@ -1,0 +1,9 @@
+pub mod Bytes
+pub mod Code
+pub mod Form
+pub mod Items
+pub mod Machine
+pub mod Ran
+pub mod Reader
+pub mod Answers
+pub mod Outcome

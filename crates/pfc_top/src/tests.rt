@@ -1,0 +1,161 @@
+//! Texts, words, files and sinks from outside, each with the status and the bytes that are owed.
+
+use crate::pfc;
+use pfc_base::Memory;
+use pfc_io::{MemoryShelf, MemorySink};
+use std::alloc::Global;
+use std::test::Fail;
+
+/// The words of a command line.
+fn words(alloc: Global, texts: &[&str]) -> Result<Vec<String>, Memory> {
+    let mut words = Vec::new(alloc);
+    for text in texts {
+        words.push(String::from_str(alloc, text)?)?;
+    }
+    Ok(words)
+}
+
+/// A shelf that holds one file, of which the loads with these numbers fail.
+fn shelf(alloc: Global, text: &[u8], fails: &[u64]) -> Result<MemoryShelf, Memory> {
+    let mut files = Vec::new(alloc);
+    let name = String::from_str(alloc, "a.pas")?;
+    files.push((name, Vec::from_slice(alloc, text)?))?;
+    Ok(MemoryShelf::new(files, Vec::from_slice(alloc, fails)?))
+}
+
+/// The status and the bytes that the text comes to.
+fn answer(alloc: Global, text: &[u8]) -> Result<(u8, Vec<u8>), Memory> {
+    let words = words(alloc, &["pfc", "a.pas"])?;
+    let mut shelf = shelf(alloc, text, &[])?;
+    let mut sink = MemorySink::new(alloc, 1000, 1000, Vec::new(alloc))?;
+    let status = pfc(alloc, &words, &mut shelf, &mut sink);
+    Ok((status, sink.written))
+}
+
+const SUM: &[u8] = b"program a; begin writeln(1+2) end.";
+
+const NOT_BUILT: &str = "-- refused 200 at line 1, column 1: not built yet\n";
+
+#[test]
+fn texts_are_answered(rt: HostRuntime) -> Result<(), Fail> {
+    for (text, status, bytes) in [
+        ("program a; begin writeln(1+2) end.", 0, "3\n-- finished\n"),
+        (
+            "program a; begin writeln(2147483647+1) end.",
+            3,
+            "-- fault 1: integer overflow in process 0 a at line 1\n",
+        ),
+        (
+            "program d; begin write(7); writeln(2147483647+1) end.",
+            3,
+            "7\n-- fault 1: integer overflow in process 0 d at line 1\n",
+        ),
+        (
+            "program D_1;\nbegin\n  writeln;\n  write(2147483646 + 1);\n  writeln({one} 2 + 3 + 5);\n  writeln(1 +\n 2147483647)\nend.",
+            3,
+            "\n214748364710\n-- fault 1: integer overflow in process 0 d_1 at line 6\n",
+        ),
+        ("PROGRAM a; BEGIN WriteLn(007) END.", 0, "7\n-- finished\n"),
+        ("program a; begin write(1) end.", 0, "1\n-- finished\n"),
+        (
+            "program a;\nbegin\n  writeln(1.5)\nend.",
+            1,
+            "-- refused 105 at line 3, column 11: real number\n",
+        ),
+        (
+            "program a; begin writeln(2147483648) end.",
+            1,
+            "-- refused 104 at line 1, column 26: number too large\n",
+        ),
+        (
+            "program a; begin $ end.",
+            1,
+            "-- refused 101 at line 1, column 18: bad byte\n",
+        ),
+        ("", 1, NOT_BUILT),
+        ("program a; begin end.", 1, NOT_BUILT),
+        ("program a; begin writeln(1) end", 1, NOT_BUILT),
+        ("program a; begin writeln(1) end..", 1, NOT_BUILT),
+        ("program a; begin writeln() end.", 1, NOT_BUILT),
+        ("program a; begin writeln(1+) end.", 1, NOT_BUILT),
+        ("program a; begin write end.", 1, NOT_BUILT),
+        ("program a; begin writeln(1); end.", 1, NOT_BUILT),
+        ("program a; begin writeln(1:2) end.", 1, NOT_BUILT),
+        ("program a; begin writeln(1) end. a", 1, NOT_BUILT),
+    ] {
+        let (given, written) = answer(rt.alloc(), text.as_bytes())?;
+        assert_eq!(rt; given, status, "in {text:?}");
+        assert!(rt; written.as_slice() == bytes.as_bytes(), "in {text:?}");
+    }
+    Ok(())
+}
+
+#[test]
+fn words_are_refused(rt: HostRuntime) -> Result<(), Fail> {
+    for texts in [
+        [].as_slice(),
+        ["pfc"].as_slice(),
+        ["pfc", "a.pas", "b.pas"].as_slice(),
+    ] {
+        let words = words(rt.alloc(), texts)?;
+        let mut shelf = shelf(rt.alloc(), SUM, &[])?;
+        let mut sink = MemorySink::new(rt.alloc(), 100, 100, Vec::new(rt.alloc()))?;
+        let status = pfc(rt.alloc(), &words, &mut shelf, &mut sink);
+        assert_eq!(rt; status, 2);
+        assert_eq!(rt;
+            sink.written.as_slice(),
+            b"-- words refused\nusage: pfc FILE\n".as_slice()
+        );
+    }
+    Ok(())
+}
+
+#[test]
+fn loads_fail(rt: HostRuntime) -> Result<(), Fail> {
+    for (name, fails) in [("b.pas", 9), ("a.pas", 1)] {
+        let words = words(rt.alloc(), &["pfc", name])?;
+        let mut shelf = shelf(rt.alloc(), SUM, &[fails])?;
+        let mut sink = MemorySink::new(rt.alloc(), 100, 100, Vec::new(rt.alloc()))?;
+        assert_eq!(rt; pfc(rt.alloc(), &words, &mut shelf, &mut sink), 6);
+        assert_eq!(rt; shelf.faults, 1);
+        assert!(rt; sink.written.is_empty());
+    }
+    Ok(())
+}
+
+#[test]
+fn a_sink_fails(rt: HostRuntime) -> Result<(), Fail> {
+    let whole = b"3\n-- finished\n";
+    for fail in 1..16 {
+        let words = words(rt.alloc(), &["pfc", "a.pas"])?;
+        let mut shelf = shelf(rt.alloc(), SUM, &[])?;
+        let fails = Vec::from_slice(rt.alloc(), &[fail])?;
+        let mut sink = MemorySink::new(rt.alloc(), 100, 1, fails)?;
+        let status = pfc(rt.alloc(), &words, &mut shelf, &mut sink);
+        if fail <= 14 {
+            assert_eq!(rt; status, 7);
+            assert!(rt; whole.starts_with(&sink.written), "at write {fail}");
+            assert_eq!(rt; sink.written.len() as u64 + 1, fail);
+        } else {
+            assert_eq!(rt; status, 0);
+            assert_eq!(rt; sink.written.as_slice(), whole.as_slice());
+        }
+    }
+    Ok(())
+}
+
+#[test]
+fn texts_have_a_length(rt: HostRuntime) -> Result<(), Fail> {
+    let mut text = Vec::from_slice(rt.alloc(), SUM)?;
+    while text.len() < 262_144 {
+        text.push(b' ')?;
+    }
+    let (status, written) = answer(rt.alloc(), &text)?;
+    assert_eq!(rt; status, 0);
+    assert_eq!(rt; written.as_slice(), b"3\n-- finished\n".as_slice());
+    text.push(b' ')?;
+    let (status, written) = answer(rt.alloc(), &text)?;
+    assert_eq!(rt; status, 9);
+    assert!(rt; written.is_empty());
+    Ok(())
+}

@@ -129,11 +129,6 @@ complete_skip f g {r = r} {toks = toks} skips h = record { same = h.same; reads 
     at [] e = refl
     at (s ∷ ss) e = ap (λ z. branch_at z g r s ss) e
 
-pub complete_choose : {B : Type 0} {n : ℕ} (p : Symbol → Bool) {g : Reader B} (r : Reader B) {s : Symbol} {toks : List Symbol} {m : List ℕ} {v : B} {C : List Symbol → Type 0} →
-    p s ≡ true → Complete n g (s ∷ toks) m v C → Complete n (choose p g r) (s ∷ toks) m v C
-unfolding choose
-complete_choose p {g = g} r {s = s} {toks = toks} e h = record { same = h.same; reads = λ rest c. ap (λ z. choose_at z g r (s ∷ (toks ++ rest))) e ∙ h.reads rest c }
-
 pub complete_pass : {B : Type 0} {n : ℕ} (p : Symbol → Bool) (g : Reader B) {r : Reader B} {toks : List Symbol} {m : List ℕ} {v : B} {C : List Symbol → Type 0} →
     ((rest : List Symbol) → C rest → Lacks p (toks ++ rest)) → Complete n r toks m v C → Complete n (choose p g r) toks m v C
 unfolding choose

@@ -1,6 +1,6 @@
 -- What is read is lawful and writes the symbols that were taken; where a reading halts, the symbols so far begin
 -- something lawful. Both are one fact on a reader, which goes through the combinators.
-use Rattle.std.proofs.Common.{◌≡◌, ℕ, suc, List, [], ◌∷◌, ◌++◌, length, Bool, true, false, Option, Some, None, Ok, Err, refl, sym, ap, ◌∙◌, append_assoc, is_some, ◌||◌}
+use Rattle.std.proofs.Common.{◌≡◌, ℕ, suc, List, [], ◌∷◌, ◌++◌, length, Bool, true, false, Option, Some, None, Ok, Err, refl, sym, ap, ◌∙◌, append_assoc, is_some}
 use Rattle.pfc_tree.specs.Symbols.{Symbol}
 use Rattle.pfc_grammar.specs.Reading.{Halt, bad, deep, Outcome, Reader, pure, then_read, bind, stop, stop_deep, branch_at, branch, choose_at, choose}
 use Rattle.pfc_grammar.proofs.Lists.{Apart, none, or_taken, or-both, apart_none, apart_less}
@@ -237,19 +237,6 @@ sound_branch {O = O} {T = T} {L = L} {X = X} {t = t} {F = F} {f = f} {g = g} {r 
     go : (ss : List Symbol) → Apart t ss → When (branch f g r ss) (Took T L X F ss) (Halts T L F ss)
     go [] a = other.reads [] tt
     go (s ∷ ss) a = at s ss (f s) refl a
-
-pub sound_choose : {B : Type 0} {T : B → List Symbol} {L : B → Type 0} {X : B → Symbol → Bool} {t : Symbol → Bool} {F : List Symbol → List Symbol} (p : Symbol → Bool) {g r : Reader B} →
-    Sound T L X t F g → Sound T L X (λ s. t s || p s) F r → Sound T L X t F (choose p g r)
-unfolding choose
-sound_choose {T = T} {L = L} {X = X} {t = t} {F = F} p {g = g} {r = r} h other = record { goes = other.goes; reads = go }
-  where
-    at : (s : Symbol) (ss : List Symbol) (b : Bool) → p s ≡ b → t s ≡ false → When (choose_at b g r (s ∷ ss)) (Took T L X F (s ∷ ss)) (Halts T L F (s ∷ ss))
-    at s ss true e a = h.reads (s ∷ ss) a
-    at s ss false e a = other.reads (s ∷ ss) (or-both (t s) _ a e)
-
-    go : (ss : List Symbol) → Apart t ss → When (choose p g r ss) (Took T L X F ss) (Halts T L F ss)
-    go [] a = other.reads [] tt
-    go (s ∷ ss) a = at s ss (p s) refl a
 
 -- where the level is the last, each symbol that begins something halts, and it does begin something lawful
 pub sound_level : {B : Type 0} {T : B → List Symbol} {L : B → Type 0} {X : B → Symbol → Bool} {p : Symbol → Bool} {r : Reader B} →

@@ -1,7 +1,7 @@
 -- The reader of the first form reads what is written, and nothing else.
-use Rattle.std.proofs.Common.{◌≡◌, ℕ, ℤ, pos, negsuc, Bool, true, false, ◌==◌, cond, List, [], ◌∷◌, ◌++◌, Option, Some, None, refl, ap, ◌∙◌, sym, subst, rules, codes, append_assoc, bytes_eq}
+use Rattle.std.proofs.Common.{◌≡◌, ℕ, pos, List, [], ◌∷◌, ◌++◌, Some, None, refl, ap, ◌∙◌, sym, subst, rules, codes, append_assoc}
 use Rattle.pfc_base.specs.declared.tokens.Kind.{Kind}
-use Rattle.pfc_base.specs.declared.tokens.Kind.TheVariants.{Word, Sign, Name, Number, Literal}
+use Rattle.pfc_base.specs.declared.tokens.Kind.TheVariants.{Word, Sign, Name, Number}
 use Rattle.pfc_base.specs.declared.tokens.Token.{Token}
 use Rattle.pfc_base.specs.declared.word.TheConstants.{BEGIN, END, PROGRAM}
 use Rattle.pfc_base.specs.declared.sign.TheConstants.{PLUS, OPEN_PAREN, CLOSE_PAREN, DOT, SEMICOLON}
@@ -13,9 +13,9 @@ use Rattle.pfc_top.specs.declared.items.Printing.TheVariants.{Write, WriteLine, 
 use Rattle.pfc_top.specs.declared.reader.LineEnd.{LineEnd}
 use Rattle.pfc_top.specs.declared.reader.LineEnd.TheVariants.{Open, Ended as LineEnded}
 use Rattle.pfc_top.specs.declared.reader.State.{State}
-use Rattle.pfc_top.specs.declared.reader.State.TheVariants.{Start, Heading, Named, Headed, Between, Writing, WritingLine, Adding, Added, Listed, Ended, Whole, Barred}
-use Rattle.pfc_top.specs.Form.{Written, plain, more_written, sum_written, called, printing_written, semicolon_written, items_written, program_written, HasNumbers, AllHaveNumbers, HasItems, IsKept, IsToken, AreTokens, HasForm}
-use Rattle.pfc_top.specs.Reader.{Stage, start, moved, next, step, read_from, program_in, whole, whole_of, printing, with_item}
+use Rattle.pfc_top.specs.declared.reader.State.TheVariants.{Heading, Named, Headed, Between, Writing, WritingLine, Adding, Added, Listed, Ended, Whole}
+use Rattle.pfc_top.specs.Form.{Written, plain, more_written, sum_written, called, printing_written, semicolon_written, items_written, program_written, HasNumbers, AllHaveNumbers, HasItems, IsKept, AreTokens, HasForm}
+use Rattle.pfc_top.specs.Reader.{Stage, start, next, step, read_from, program_in, whole}
 
 known : (c d : ℕ) → c ≡ d → IsRefusalCode d → IsRefusalCode c
 known c d e h = subst IsRefusalCode (sym e) h

@@ -1,5 +1,5 @@
 -- The last byte of an output.
-use Rattle.std.proofs.Common.{◌≡◌, ℕ, suc, ◌+◌, ◌-◌, ◌<◌, not, ◌==◌, List, [], ◌∷◌, length, get_or, refl, ap, ◌∙◌, sym, arith}
+use Rattle.std.proofs.Common.{◌≡◌, ℕ, suc, ◌-◌, ◌<◌, not, ◌==◌, List, [], ◌∷◌, length, get_or, refl, ap, ◌∙◌, arith}
 use Rattle.pfc_top.specs.Bytes.{is_open}
 
 pub open_at_last : (bs : List ℕ) → 0 < length bs → not (get_or bs (length bs - 1) 0 == 10) ≡ is_open bs

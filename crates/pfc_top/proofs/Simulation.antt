@@ -1,13 +1,13 @@
 -- The code of some items does what the items say.
-use Rattle.std.proofs.Common.{◌≡◌, ℕ, ◌+◌, nat_le, true, false, Bool, List, [], ◌∷◌, ◌++◌, Option, Some, None, refl, ap, ◌∙◌, sym, append_assoc, cond, option_map, decimal, drop}
-use Rattle.pfc_top.specs.Items.{Ran, finished, overflow, added, value_of, printed_by, continued, after_printing, run_of, maxint}
-use Rattle.pfc_top.specs.Code.{at_line, more_code, sum_code, printing_code, item_code, program_code}
-use Rattle.pfc_top.specs.Machine.{row, performed}
+use Rattle.std.proofs.Common.{◌≡◌, ℕ, ◌+◌, nat_le, true, false, List, [], ◌∷◌, ◌++◌, Option, Some, None, refl, ap, ◌∙◌, sym, append_assoc, cond, option_map, decimal}
+use Rattle.pfc_top.specs.Items.{Ran, overflow, added, value_of, printed_by, continued, after_printing, run_of, maxint}
+use Rattle.pfc_top.specs.Code.{at_line, more_code, sum_code, printing_code, program_code}
+use Rattle.pfc_top.specs.Machine.{performed}
 use Rattle.pfc_top.specs.declared.items.Item.{Item}
 use Rattle.pfc_top.specs.declared.items.Printing.{Printing}
 use Rattle.pfc_top.specs.declared.items.Printing.TheVariants.{Write, WriteLine, NewLine}
 use Rattle.pfc_top.specs.declared.code.Coded.{Coded}
-use Rattle.pfc_top.specs.declared.code.Instr.TheVariants.{Lit, Add, WriteInteger, WriteNewLine, End}
+use Rattle.pfc_top.specs.declared.code.Instr.TheVariants.{WriteInteger, WriteNewLine}
 
 -- the run after a sum whose value is on top of the stack, or that has none
 abbrev with_value : Option ℕ → ℕ → List Coded → List ℕ → Ran

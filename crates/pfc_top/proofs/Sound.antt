@@ -1,5 +1,5 @@
 -- What the reader of the first form reads is written so.
-use Rattle.std.proofs.Common.{◌≡◌, ℕ, ℤ, pos, negsuc, Bool, true, false, ◌==◌, cond, List, [], ◌∷◌, ◌++◌, Option, Some, None, refl, ap, ◌∙◌, sym, subst, codes, append_assoc, bytes_eq, arith}
+use Rattle.std.proofs.Common.{◌≡◌, ℕ, pos, negsuc, Bool, true, false, ◌==◌, cond, List, [], ◌∷◌, ◌++◌, Option, Some, None, refl, ap, ◌∙◌, sym, subst, codes, append_assoc, bytes_eq, arith}
 use Rattle.std.proofs.lemmas.Slice.Eq.{bytes_eq-Decides}
 use Rattle.std.proofs.lemmas.Bool.Decides.{nat_tests}
 use Rattle.pfc_base.specs.declared.tokens.Kind.{Kind}
@@ -9,13 +9,13 @@ use Rattle.pfc_base.specs.declared.word.TheConstants.{BEGIN, END, PROGRAM}
 use Rattle.pfc_base.specs.declared.sign.TheConstants.{PLUS, OPEN_PAREN, CLOSE_PAREN, DOT, SEMICOLON}
 use Rattle.pfc_top.specs.declared.items.Item.{Item}
 use Rattle.pfc_top.specs.declared.items.Printing.{Printing}
-use Rattle.pfc_top.specs.declared.items.Printing.TheVariants.{Write, WriteLine, NewLine}
+use Rattle.pfc_top.specs.declared.items.Printing.TheVariants.{NewLine}
 use Rattle.pfc_top.specs.declared.reader.LineEnd.{LineEnd}
 use Rattle.pfc_top.specs.declared.reader.LineEnd.TheVariants.{Open, Ended as LineEnded}
 use Rattle.pfc_top.specs.declared.reader.State.{State}
 use Rattle.pfc_top.specs.declared.reader.State.TheVariants.{Start, Heading, Named, Headed, Between, Writing, WritingLine, Adding, Added, Listed, Ended, Whole, Barred}
-use Rattle.pfc_top.specs.Form.{Written, plain, more_written, sum_written, called, printing_written, semicolon_written, items_written, program_written, HasNumbers, AllHaveNumbers, HasItems, IsKept, IsToken, AreTokens, HasForm}
-use Rattle.pfc_top.specs.Reader.{Stage, start, moved, next, step, read_from, program_in, whole, whole_of, printing, with_item, when, is_word, is_sign, is_called, named, numbered, added, begun, line_begun, behind_item}
+use Rattle.pfc_top.specs.Form.{Written, plain, more_written, sum_written, called, printing_written, items_written, program_written, HasNumbers, AllHaveNumbers, HasItems, IsToken, AreTokens, HasForm}
+use Rattle.pfc_top.specs.Reader.{Stage, start, moved, next, step, read_from, program_in, whole_of, printing, when, is_word, is_sign, is_called, named, numbered, added, begun, line_begun, behind_item}
 
 -- ---- what tests of a kind say
 

@@ -1,12 +1,11 @@
 -- The bytes of a run: what it printed, and its report.
-use Rattle.std.specs.Prelude.{◌≡◌, ℕ, Bool, true, false, not, ◌==◌, List, [], ◌∷◌, ◌++◌, codes}
+use Rattle.std.specs.Prelude.{ℕ, Bool, false, not, ◌==◌, List, [], ◌∷◌, ◌++◌}
 use Rattle.pfc_base.specs.declared.faults.RunFault.TheVariants.{Overflow}
 use Rattle.pfc_code.specs.Images.{PlainImage}
 use Rattle.pfc_report.specs.Reports.{report_text}
 use Rattle.pfc_state.specs.declared.endings.Ending.{Ending}
 use Rattle.pfc_state.specs.declared.endings.Ending.TheVariants.{Finished, Fault}
-use Rattle.pfc_top.specs.Items.{Ran, Ended, finished, overflow, run_of}
-use Rattle.pfc_top.specs.declared.items.Item.{Item}
+use Rattle.pfc_top.specs.Items.{Ran, Ended, finished, overflow}
 
 -- an image of which only main's label is told: the program's name
 abbrev pub image_of_main : List ℕ → PlainImage

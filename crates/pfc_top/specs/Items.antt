@@ -1,5 +1,5 @@
 -- The run of the first form of program: its items, gone through in order.
-use Rattle.std.specs.Prelude.{◌≡◌, ℕ, ◌+◌, ◌≤◌, nat_le, List, [], ◌∷◌, ◌++◌, Option, Some, None, if◌then◌else◌, cond, option_map, decimal}
+use Rattle.std.specs.Prelude.{ℕ, ◌+◌, nat_le, List, [], ◌∷◌, ◌++◌, Option, Some, None, if◌then◌else◌, option_map, decimal}
 use Rattle.pfc_top.specs.declared.items.Item.{Item}
 use Rattle.pfc_top.specs.declared.items.Printing.{Printing}
 use Rattle.pfc_top.specs.declared.items.Printing.TheVariants.{Write, WriteLine, NewLine}

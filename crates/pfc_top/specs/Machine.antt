@@ -1,5 +1,5 @@
 -- The rows of the machine's instructions, over a stack of numbers with its top first.
-use Rattle.std.specs.Prelude.{ℕ, ◌+◌, nat_le, List, [], ◌∷◌, ◌++◌, drop, slice_index, if◌then◌else◌, decimal}
+use Rattle.std.specs.Prelude.{ℕ, ◌+◌, nat_le, List, [], ◌∷◌, drop, slice_index, if◌then◌else◌, decimal}
 use Rattle.pfc_top.specs.Items.{Ran, finished, overflow, after_printing, maxint}
 use Rattle.pfc_top.specs.declared.code.Coded.{Coded}
 use Rattle.pfc_top.specs.declared.code.Instr.{Instr}

@@ -1,5 +1,4 @@
 -- The session as a run.
-use Rattle.std.specs.Prelude.{ℕ, List}
 use Rattle.pfc_top.specs.Items.{Ran, Ended, finished, overflow}
 use Rattle.pfc_top.specs.declared.machine.Session.{Session}
 use Rattle.pfc_top.specs.declared.machine.Ending.{Ending}

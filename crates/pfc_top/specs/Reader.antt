@@ -1,7 +1,7 @@
 -- The reader of the first form: what it has read, and what one token more makes of it.
-use Rattle.std.specs.Prelude.{ℕ, ℤ, pos, negsuc, Bool, true, false, ◌==◌, if◌then◌else◌, List, [], ◌∷◌, ◌++◌, Option, Some, None, codes, bytes_eq}
+use Rattle.std.specs.Prelude.{ℕ, pos, Bool, false, ◌==◌, if◌then◌else◌, List, [], ◌∷◌, ◌++◌, Option, Some, None, codes, bytes_eq}
 use Rattle.pfc_base.specs.declared.tokens.Kind.{Kind}
-use Rattle.pfc_base.specs.declared.tokens.Kind.TheVariants.{Word, Sign, Name, Number, Literal}
+use Rattle.pfc_base.specs.declared.tokens.Kind.TheVariants.{Word, Sign, Name, Number}
 use Rattle.pfc_base.specs.declared.tokens.Token.{Token}
 use Rattle.pfc_base.specs.declared.word.TheConstants.{BEGIN, END, PROGRAM}
 use Rattle.pfc_base.specs.declared.sign.TheConstants.{PLUS, OPEN_PAREN, CLOSE_PAREN, DOT, SEMICOLON}

@@ -18,6 +18,9 @@ use std::alloc::Global;
 /// The status of a refused text.
 const REFUSED: u8 = 1;
 
+/// The most tokens of a program that is built.
+const TOKEN_LIMIT: usize = 200_000;
+
 /// The line for a text that is in order and is not built yet.
 const NOT_BUILT: &[u8] = b"-- refused 200 at line 1, column 1: not built yet\n";
 
@@ -58,6 +61,9 @@ fn answer_to_tokens(alloc: Global, tokens: &[Token]) -> Result<Answer, Memory>
     ensures answer { IfOk result (λ a. IsAnswerToTokens tokens.now a.status a.bytes.items) }
     ensures status { IfOk result (λ a. IsAnswered a.status) }
 {
+    if tokens.len() > TOKEN_LIMIT {
+        return not_built(alloc);
+    }
     match read(alloc, tokens)? {
         Some(program) => run_program(alloc, program),
         None => not_built(alloc),

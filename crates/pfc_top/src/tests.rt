@@ -90,23 +90,22 @@ fn texts_are_answered(rt: HostRuntime) -> Result<(), Fail> {
     Ok(())
 }
 
+/// Whether a command line of these words is refused.
+fn is_refused(alloc: Global, texts: &[&str]) -> Result<bool, Memory> {
+    let words = words(alloc, texts)?;
+    let mut shelf = shelf(alloc, SUM, &[])?;
+    let mut sink = MemorySink::new(alloc, 100, 100, Vec::new(alloc))?;
+    let status = pfc(alloc, &words, &mut shelf, &mut sink);
+    let lines = b"-- words refused\nusage: pfc FILE\n";
+    Ok(status == 2 && sink.written.as_slice() == lines.as_slice())
+}
+
 #[test]
 fn words_are_refused(rt: HostRuntime) -> Result<(), Fail> {
-    for texts in [
-        [].as_slice(),
-        ["pfc"].as_slice(),
-        ["pfc", "a.pas", "b.pas"].as_slice(),
-    ] {
-        let words = words(rt.alloc(), texts)?;
-        let mut shelf = shelf(rt.alloc(), SUM, &[])?;
-        let mut sink = MemorySink::new(rt.alloc(), 100, 100, Vec::new(rt.alloc()))?;
-        let status = pfc(rt.alloc(), &words, &mut shelf, &mut sink);
-        assert_eq!(rt; status, 2);
-        assert_eq!(rt;
-            sink.written.as_slice(),
-            b"-- words refused\nusage: pfc FILE\n".as_slice()
-        );
-    }
+    assert!(rt; is_refused(rt.alloc(), &[])?);
+    assert!(rt; is_refused(rt.alloc(), &["pfc"])?);
+    assert!(rt; is_refused(rt.alloc(), &["pfc", "a.pas", "b.pas"])?);
+    assert!(rt; !is_refused(rt.alloc(), &["pfc", "a.pas"])?);
     Ok(())
 }
 
@@ -147,7 +146,7 @@ fn a_sink_fails(rt: HostRuntime) -> Result<(), Fail> {
 #[test]
 fn texts_have_a_length(rt: HostRuntime) -> Result<(), Fail> {
     let mut text = Vec::from_slice(rt.alloc(), SUM)?;
-    while text.len() < 262_144 {
+    for _i in SUM.len()..262_144 {
         text.push(b' ')?;
     }
     let (status, written) = answer(rt.alloc(), &text)?;
@@ -157,5 +156,30 @@ fn texts_have_a_length(rt: HostRuntime) -> Result<(), Fail> {
     let (status, written) = answer(rt.alloc(), &text)?;
     assert_eq!(rt; status, 9);
     assert!(rt; written.is_empty());
+    Ok(())
+}
+
+/// The text that begins with `head`, and ends with a sum of so many ones and what closes the program.
+fn with_ones(alloc: Global, head: &[u8], ones: u32) -> Result<Vec<u8>, Memory> {
+    let mut text = Vec::from_slice(alloc, head)?;
+    text.push(b'1')?;
+    for _i in 1..ones {
+        text.extend_from_slice(b"+1")?;
+    }
+    text.extend_from_slice(b") end.")?;
+    Ok(text)
+}
+
+/// Programs of 200,000 and of 200,001 tokens.
+#[test]
+fn programs_have_a_count_of_tokens(rt: HostRuntime) -> Result<(), Fail> {
+    let text = with_ones(rt.alloc(), b"program a; begin write(", 99_996)?;
+    let (status, written) = answer(rt.alloc(), &text)?;
+    assert_eq!(rt; status, 0);
+    assert_eq!(rt; written.as_slice(), b"99996\n-- finished\n".as_slice());
+    let text = with_ones(rt.alloc(), b"program a; begin write(1); write(", 99_994)?;
+    let (status, written) = answer(rt.alloc(), &text)?;
+    assert_eq!(rt; status, 1);
+    assert_eq!(rt; written.as_slice(), NOT_BUILT.as_bytes());
     Ok(())
 }

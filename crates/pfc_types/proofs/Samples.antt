@@ -11,20 +11,20 @@ use Rattle.pfc_tree.specs.trees.Parts.{PartTree, PartTrees, ProgramTree, vars, s
 use Rattle.pfc_types.specs.rules.Whole.{first_fault, first_concurrency_fault}
 
 -- the place of token n, and a refusal there
-abbrev at : ℕ → Place
+abbrev pub at : ℕ → Place
 at n = record { line = 1; column = n }
 
-abbrev refused : ℕ → ℕ → Option Refusal
+abbrev pub refused : ℕ → ℕ → Option Refusal
 refused code n = Some (record { code = code; place = at n })
 
 -- expressions and statements, short
-abbrev factor : FactorTree → ℕ → ExprTree
+abbrev pub factor : FactorTree → ℕ → ExprTree
 factor f n = plain (sum None (product f no_multipliers) no_summands) (at n)
 
-abbrev name : Text → ℕ → DesigTree
+abbrev pub name : Text → ℕ → DesigTree
 name x n = desig x no_selectors (at n)
 
-abbrev named_value : Text → ℕ → ExprTree
+abbrev pub named_value : Text → ℕ → ExprTree
 named_value x n = factor (applied (name x n) no_actuals (at n)) n
 
 abbrev plus : Text → ℕ → ℕ → Text → ℕ → ExprTree
@@ -32,19 +32,19 @@ plus x n o y m =
     plain (sum None (product (applied (name x n) no_actuals (at n)) no_multipliers)
     (more_summands (Add, at o) (product (applied (name y m) no_actuals (at m)) no_multipliers) no_summands)) (at n)
 
-abbrev one_stmt : StmtTree → StmtTrees
+abbrev pub one_stmt : StmtTree → StmtTrees
 one_stmt s = more_stmts s no_stmts
 
-abbrev body_of : StmtTrees → BodyTree
+abbrev pub body_of : StmtTrees → BodyTree
 body_of ss = body ss (at 0) (at 9999)
 
-abbrev var_part : Text → ℕ → TypeTree → PartTree
+abbrev pub var_part : Text → ℕ → TypeTree → PartTree
 var_part x n t = vars (more_vars (var_item ((x, at n) ∷ []) t) no_vars)
 
-abbrev program : PartTrees → StmtTrees → ProgramTree
+abbrev pub program : PartTrees → StmtTrees → ProgramTree
 program ps ss = record { name = (codes "a", at 1); params = []; parts = ps; body = body_of ss; place = at 0 }
 
-abbrev one_part : PartTree → PartTrees
+abbrev pub one_part : PartTree → PartTrees
 one_part q = more_parts q no_parts
 
 abbrev i : Text
@@ -53,10 +53,10 @@ i = codes "i"
 abbrev s : Text
 s = codes "s"
 
-abbrev x : Text
+abbrev pub x : Text
 x = codes "x"
 
-abbrev an_integer : ℕ → TypeTree
+abbrev pub an_integer : ℕ → TypeTree
 an_integer n = named (codes "integer") (at n)
 
 -- program a; begin end.

@@ -381,9 +381,6 @@ module _ (n : ℕ) (e : Reader ExprShape) (he : ReadsExprs n e) where
             ∙ append_assoc u (p ∷ []) (((v ++ w) ++ x) ++ y) ∙ sym (append_assoc u (p ∷ ((v ++ w) ++ x)) y) ∙ ap (λ k. k ++ y) (sym (append_assoc u (p ∷ (v ++ w)) x))
 
     -- Accepts and alternatives.
-    follow_accept : (a : AcceptShape) (rest : List Symbol) → Ends (accept_ends_in_if a) (accept_ends_in_expr a) rest → Closer rest
-    follow_accept a rest c = c.0
-
     complete_accept : (a : AcceptShape) → IsLawfulAccept a → Complete n (accept_behind s) (accept_tokens a) (accept_depths a) a (Ends (accept_ends_in_if a) (accept_ends_in_expr a))
     unfolding accept_behind
     complete_accept (accept x gs) l = complete_same (ap (λ z. Name x ∷ z) (append-nil (formals_tokens gs))) (ap (λ z. 0 ∷ z) (append-nil (level (formals_tokens gs)))) refl

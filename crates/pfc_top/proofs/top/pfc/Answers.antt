@@ -1,4 +1,4 @@
-use Rattle.std.proofs.Common.{◌≡◌, rules, refl, ℕ, List, Option, subst, sym}
+use Rattle.std.proofs.Common.{◌≡◌, rules, ℕ, List, Option, subst, sym}
 use Rattle.std.specs.Io.KnownBytes.{Appends}
 use Rattle.pfc_io.specs.Files.{File}
 use Rattle.pfc_io.specs.Writes.{AppendsFront}

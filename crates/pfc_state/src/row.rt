@@ -11,6 +11,7 @@ use std::alloc::Global;
 use std::marker::Model;
 use std::mem;
 
+/// What the place of a process holds: the typed state of the process, or its number.
 #[derive(Drop)]
 pub enum Slot {
     Idle(Idle),
@@ -262,6 +263,7 @@ impl Row {
         }
     }
 
+    /// Whether the process is ready or acts.
     pub fn is_ready(&self) -> bool
         ensures { result ≡ is_ready self.now.stand }
     {
@@ -271,6 +273,7 @@ impl Row {
         }
     }
 
+    /// Whether the process is activated, and has not begun.
     pub fn is_created(&self) -> bool
         ensures { result ≡ is_created self.now.stand }
     {

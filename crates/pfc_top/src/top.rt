@@ -26,6 +26,16 @@ const TOO_LONG: u8 = 9;
 
 const USAGE: &str = "-- words refused\nusage: pfc FILE\n";
 
+/// Runs the program of the file that the words name, and answers the status.
+///
+/// The words are the name of the command and FILE, whose text has at most 262,144 bytes. What is written goes to the
+/// sink: the output of the run and the line of its ending, or the line of the text's refusal, or the lines for
+/// refused words. The status is
+///
+/// * 0 where the run finished, and 3 where it met a fault;
+/// * 1 where the text is refused, and 2 where the words are;
+/// * 6 where the shelf does not give the file, and 9 where the file is longer; then nothing is written;
+/// * 7 where the sink takes no more, and 8 where memory is wanting.
 pub fn pfc<F: Shelf, O: Sink>(alloc: Global, words: &[String], shelf: &mut F, sink: &mut O) -> u8
     // The headline: where the shelf tells its files, no call on shelf or sink failed and memory was not refused.
     ensures headline { (files : List File) → F.told shelf.old ≡ Some files

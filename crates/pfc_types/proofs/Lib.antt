@@ -1,5 +1,10 @@
 pub mod Adding
+pub mod BlockSamples
 pub mod Concurrent
+pub mod ConcurrentSamples
 pub mod First
 pub mod Names
+pub mod OrderSamples
 pub mod Samples
+pub mod SequentialSamples
+pub mod UseSamples

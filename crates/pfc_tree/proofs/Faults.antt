@@ -1,7 +1,7 @@
 -- A list of kinds has at most one syntax fault.
-use Rattle.std.proofs.Common.{◌≡◌, ℕ, ◌+◌, ◌<◌, ◌≤◌, ◌⊎◌, inl, inr, List, length, take, sym, subst, arith, refl}
+use Rattle.std.proofs.Common.{◌≡◌, ℕ, ◌<◌, ◌≤◌, inl, inr, List, length, arith, refl}
 use Rattle.pfc_tree.specs.Symbols.{Symbol}
-use Rattle.pfc_tree.specs.Grammar.{BeginsProgram, IsProgram, StopsAt, StopsAtEnd, IsUnexpected, IsTooDeep, IsDeep, IsSyntaxFault, unexpected, deep, up_to}
+use Rattle.pfc_tree.specs.Grammar.{IsUnexpected, IsDeep, IsSyntaxFault, unexpected, deep}
 
 -- two places, of which neither is before the other, are one
 one_place : (i j : ℕ) → (i < j → ⊥) → (j < i → ⊥) → i ≡ j

@@ -1,7 +1,7 @@
 -- Types: as many depths as tokens.
-use Rattle.std.proofs.Common.{◌≡◌, ℕ, List, [], ◌∷◌, length, refl}
+use Rattle.std.proofs.Common.{◌≡◌, List, [], ◌∷◌, length, refl}
 use Rattle.pfc_tree.proofs.depths.Evens.{evens, flat}
-use Rattle.pfc_tree.specs.tokens.Types.{names_tokens, ranges_tokens, constants_tokens, const_items_tokens, formals_tokens}
+use Rattle.pfc_tree.specs.tokens.Types.{names_tokens, ranges_tokens}
 use Rattle.pfc_tree.specs.shapes.Types.{TypeShape, VarShape, VarShapes, TypeItemShape, named, channel, array, fields, var_item, no_vars, more_vars}
 use Rattle.pfc_tree.specs.tokens.Types.{type_tokens, var_tokens, fields_tokens, semicolon_fields_tokens, vars_tokens, type_items_tokens}
 use Rattle.pfc_tree.specs.depths.Types.{type_depths, var_depths, fields_depths, semicolon_fields_depths, vars_depths, type_items_depths}

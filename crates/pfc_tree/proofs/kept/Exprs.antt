@@ -1,7 +1,6 @@
 -- Expressions: a trace passes as many tokens as are written.
-use Rattle.std.proofs.Common.{◌≡◌, ℕ, Bool, true, false, List, [], ◌∷◌, length, refl, map, Option, Some, None, option_map}
+use Rattle.std.proofs.Common.{◌≡◌, length, refl, Option, Some, None, option_map}
 use Rattle.pfc_base.specs.declared.places.Place.{Place}
-use Rattle.pfc_tree.specs.Symbols.{Text}
 use Rattle.pfc_tree.specs.kept.Exprs.{passed}
 use Rattle.pfc_tree.proofs.kept.Passing.{passing}
 use Rattle.pfc_tree.specs.declared.tree.Sign.{Sign}

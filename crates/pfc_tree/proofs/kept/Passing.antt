@@ -1,5 +1,5 @@
 -- How many tokens a trace passes, built beside the tokens that are written.
-use Rattle.std.proofs.Common.{◌≡◌, ◌+◌, suc, List, ◌++◌, length, refl, ap, ◌∙◌, sym, arith, length-append, [], ◌∷◌}
+use Rattle.std.proofs.Common.{◌≡◌, ◌+◌, suc, List, ◌++◌, length, ap, ◌∙◌, sym, arith, length-append, [], ◌∷◌}
 use Rattle.pfc_tree.specs.Symbols.{Symbol}
 use Rattle.pfc_tree.specs.kept.Exprs.{Step, here, next, passed}
 

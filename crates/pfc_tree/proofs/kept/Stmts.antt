@@ -1,7 +1,6 @@
 -- Statements: a trace passes as many tokens as are written.
-use Rattle.std.proofs.Common.{◌≡◌, ℕ, Bool, true, false, List, [], ◌∷◌, length, refl, map, Option, Some, None, option_map}
+use Rattle.std.proofs.Common.{◌≡◌, Bool, true, false, length, refl, Option, Some, None, option_map}
 use Rattle.pfc_base.specs.declared.places.Place.{Place}
-use Rattle.pfc_tree.specs.Symbols.{Text}
 use Rattle.pfc_tree.specs.kept.Exprs.{passed}
 use Rattle.pfc_tree.proofs.kept.Passing.{passing}
 use Rattle.pfc_tree.specs.trees.Stmts.{StmtTree, StmtTrees, BodyTree, ArmTree, ArmTrees, AcceptTree, AltTree, AltTrees, CommTree, empty, null, block, if_then, if_then_else, case_of, while_do, repeat_until, repeat_forever, for_do, cobegin, accepting, requeue, select, select_else, assign, send, receive, call, no_stmts, more_stmts, body, arm, no_arms, more_arms, accept, accept_do, alt, no_alts, more_alts, comm_accept, comm_send, comm_receive, timeout, terminate}

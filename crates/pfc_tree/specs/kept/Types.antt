@@ -7,7 +7,7 @@ use Rattle.pfc_tree.specs.declared.tree.Range.{Range}
 use Rattle.pfc_tree.specs.declared.tree.ConstItem.{ConstItem}
 use Rattle.pfc_tree.specs.Symbols.{Text}
 use Rattle.pfc_tree.specs.trees.Types.{TypeTree, VarTree, VarTrees, TypeItemTree, GroupTree, named, channel, array, fields, var_item, no_vars, more_vars}
-use Rattle.pfc_tree.specs.kept.Exprs.{Step, here, next, at, sign_trace}
+use Rattle.pfc_tree.specs.kept.Exprs.{Step, next, at, sign_trace}
 
 abbrev pub comma_names_trace : List (Text × Place) → List Step
 comma_names_trace [] = []

@@ -10,3 +10,5 @@ pub mod sound_rules
 pub mod complete_rules
 pub mod local_rules
 pub mod Exact
+pub mod placed_bare
+pub mod ExactTokens

@@ -7,4 +7,7 @@
 
 mod laws;
 
-pub use laws::{a_program_begins_no_other, a_program_has_one_tree, a_reading_is_exact};
+pub use laws::{
+    a_program_begins_no_other, a_program_has_one_tree, a_reading_is_exact,
+    a_reading_of_tokens_is_exact,
+};

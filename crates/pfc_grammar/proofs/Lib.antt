@@ -11,4 +11,5 @@ pub mod complete_rules
 pub mod local_rules
 pub mod Exact
 pub mod placed_bare
+pub mod placed_kept
 pub mod ExactTokens

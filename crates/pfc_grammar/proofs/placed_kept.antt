@@ -1,3 +1,4 @@
 pub mod Exprs
 pub mod Loops
 pub mod Readers
+pub mod Types

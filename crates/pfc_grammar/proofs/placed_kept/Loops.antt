@@ -93,6 +93,14 @@ module _ {A : Type 0} (T : A → List Step) (P : List A → List Step) (ch : Cha
         go start ts l (Ok p) w = record { kept = subst (λ z. AreKept z start p.1) (e w.items ∙ ap K (sym w.joined)) (l (P w.items) p.1 w.kept) }
         go start ts l (Err q) w = tt
 
+    pub leads_onto : {F : List Step → List Step} {M : List A → List Step → List Step} (xs : List A) → ((items : List A) (steps : List Step) → F (P items ++ steps) ≡ M (xs ++ items) steps) → Keeps F (Leading M) (many_onto xs c g)
+    unfolding many_onto
+    leads_onto {F = F} {M = M} xs e = record { reaches = λ start ts l. go start ts l (many_turns (length ts) xs c g ts) (turns (length ts) xs ts) }
+      where
+        go : (start ts : List Token) → Leads F start ts → (o : Outcome (List A)) → Reaches (λ ys rest. Onto P xs ys ts rest) o → Reaches (λ ys rest. Leading M ys start rest) o
+        go start ts l (Ok p) w = record { leads = λ steps rest k. subst (λ z. AreKept z start rest) (e w.items steps ∙ ap (λ ys. M ys steps) (sym w.joined)) (l (P w.items ++ steps) rest (kept_both (P w.items) steps ts p.1 rest w.kept k)) }
+        go start ts l (Err q) w = tt
+
     pub keeps_many : Whole P (many c g)
     unfolding many
     keeps_many = keeps_onto [] (λ items. refl)

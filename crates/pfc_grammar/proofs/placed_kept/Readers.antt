@@ -139,3 +139,16 @@ keeps_choose {F = F} {Q = Q} c {g = g} {r = r} h k = record { reaches = go }
     go : (start ts : List Token) → Leads F start ts → Reaches (λ x rest. Q x start rest) (choose c g r ts)
     go start [] l = k.reaches start [] l
     go start (t ∷ ts) l = at start t ts l (c t.kind)
+
+-- a token by itself
+pub keeps_take : {O : Type 0} (c : Symbol → Option O) → Whole (λ o. here o.1 ∷ next ∷ []) (take_as c)
+unfolding take_as
+keeps_take c = keep_branch c (λ o. keeps_pure o refl) keeps_stop
+
+-- no steps follow
+pub keeps_end : {A : Type 0} {F : List Step → List Step} {M : A → List Step → List Step} {K : A → List Step} {r : Reader A} → ((x : A) → M x [] ≡ K x) → Keeps F (Leading M) r → Keeps F (Traced K) r
+keeps_end {A = A} {F = F} {M = M} {K = K} {r = r} e h = record { reaches = λ start ts l. go start (r ts) (h.reaches start ts l) }
+  where
+    go : (start : List Token) (o : Outcome A) → Reaches (λ x rest. Leading M x start rest) o → Reaches (λ x rest. Traced K x start rest) o
+    go start (Ok p) w = record { kept = subst (λ z. AreKept z start p.1) (e p.0) (w.leads [] p.1 refl) }
+    go start (Err q) w = tt

@@ -1,4 +1,4 @@
-use Rattle.pfc_grammar.proofs.placed_kept.Exprs.{keeps_expr_at}
+use Rattle.pfc_grammar.proofs.placed_kept.Types.{keeps_type_at}
 use Rattle.pfc_grammar.proofs.placed_bare.Parts.{tokens_are_read}
 use Rattle.pfc_grammar.proofs.ExactTokens.{shape_is_read, lawful_is_read, none_is_deep, bad_token, deep_token}
 use Rattle.pfc_grammar.proofs.laws.a_reading_of_tokens_is_exact.Goals as goal

@@ -9,7 +9,7 @@ use Rattle.pfc_tree.specs.tokens.Parts.{tokens_of}
 use Rattle.pfc_tree.specs.lawful.Parts.{IsLawful}
 use Rattle.pfc_tree.specs.depths.Parts.{depths_of}
 use Rattle.pfc_tree.specs.Grammar.{most_depth, IsDeep, IsSyntaxFault}
-use Rattle.pfc_grammar.specs.Outcomes.{IsRead, bare_outcome}
+use Rattle.pfc_grammar.specs.Outcomes.{IsRead, IsTreeOf, bare_outcome}
 use Rattle.pfc_grammar.specs.Reading.{bad, deep}
 use Rattle.pfc_grammar.specs.grammar.Parts.{read_program}
 use Rattle.pfc_grammar.specs.placed.Reading.{Outcome}
@@ -17,6 +17,7 @@ use Rattle.pfc_grammar.specs.placed.Parts.{read_tokens}
 use Rattle.pfc_grammar.proofs.Exact.{read_is_sound, read_is_complete, read_is_not_deep, bad_is_fault, deep_is_fault}
 use Rattle.pfc_grammar.proofs.placed_bare.Readers.{counted}
 use Rattle.pfc_grammar.proofs.placed_bare.Parts.{tokens_are_read}
+use Rattle.pfc_grammar.proofs.placed_kept.Parts.{places_are_kept}
 
 -- what comes of tokens comes of their kinds
 of_kinds : (ts : List Token) (o : Outcome ProgramTree) → read_tokens ts ≡ o → read_program (symbols ts) ≡ bare_outcome o
@@ -24,6 +25,11 @@ of_kinds ts o e = sym (tokens_are_read ts) ∙ ap bare_outcome e
 
 pub shape_is_read : (tokens rest : List Token) (tree : ProgramTree) → read_tokens tokens ≡ Ok (tree, rest) → IsRead most_depth (symbols tokens) (forget_program tree)
 shape_is_read tokens rest tree e = read_is_sound (symbols tokens) (forget_program tree) (symbols rest) (of_kinds tokens (Ok (tree, rest)) e)
+
+pub tree_is_read : (tokens rest : List Token) (tree : ProgramTree) → read_tokens tokens ≡ Ok (tree, rest) → IsTreeOf tokens tree
+tree_is_read tokens rest tree e =
+    let shape : IsRead most_depth (symbols tokens) (forget_program tree) = shape_is_read tokens rest tree e in
+    record { lawful = shape.lawful; written = shape.written; kept = places_are_kept tokens rest tree e }
 
 pub lawful_is_read : (tokens : List Token) (shape : ProgramShape) → IsLawful shape → All (λ d. d ≤ most_depth) (depths_of shape) → symbols tokens ≡ tokens_of shape → bare_outcome (read_tokens tokens) ≡ Ok (shape, [])
 lawful_is_read tokens shape lawful within e = tokens_are_read tokens ∙ ap read_program e ∙ read_is_complete shape lawful within

@@ -10,7 +10,7 @@ ghost use Rattle.pfc_base.specs.declared.tokens.Token.{Token};
 ghost use Rattle.pfc_tree.specs.Symbols.{symbols};
 ghost use Rattle.pfc_tree.specs.trees.Parts.{ProgramTree};
 ghost use Rattle.pfc_tree.specs.forget.Parts.{forget_program};
-ghost use Rattle.pfc_grammar.specs.Outcomes.{IsRead, bare_outcome};
+ghost use Rattle.pfc_grammar.specs.Outcomes.{IsRead, IsTreeOf, bare_outcome};
 ghost use Rattle.pfc_grammar.specs.placed.Parts.{read_tokens};
 ghost use Rattle.pfc_grammar.specs.Reading.{bad, deep};
 ghost use Rattle.pfc_grammar.specs.grammar.Parts.{read_program};
@@ -37,11 +37,12 @@ pub fn a_program_begins_no_other()
     ensures { (tree other : ProgramShape) (more : List Symbol) → IsLawful tree → IsLawful other → tokens_of other ≡ tokens_of tree ++ more → more ≡ [] }
 {}
 
-/// What the reading of tokens comes to, but for places: it is what the reading of their kinds comes to. A tree that is
-/// read has no token deeper than 64; each lawful shape that writes the kinds and has none is read. A halt is the syntax
-/// fault.
+/// What the reading of tokens comes to, exactly: but for places it is what the reading of their kinds comes to. A tree
+/// that is read is one of the tokens, with their places, and has no token deeper than 64; each lawful shape that writes
+/// the kinds and has none is read. A halt with `left` tokens left is the syntax fault at that place.
 pub fn a_reading_of_tokens_is_exact()
     ensures bare { (tokens : List Token) → bare_outcome (read_tokens tokens) ≡ read_program (symbols tokens) }
+    ensures read { (tokens rest : List Token) (tree : ProgramTree) → read_tokens tokens ≡ Ok (tree, rest) → IsTreeOf tokens tree }
     ensures within { (tokens rest : List Token) (tree : ProgramTree) → read_tokens tokens ≡ Ok (tree, rest) → All (λ d. d ≤ most_depth) (depths_of (forget_program tree)) }
     ensures back { (tokens : List Token) (shape : ProgramShape) → IsLawful shape → All (λ d. d ≤ most_depth) (depths_of shape) → symbols tokens ≡ tokens_of shape → bare_outcome (read_tokens tokens) ≡ Ok (shape, []) }
     ensures level { (tokens rest : List Token) (tree : ProgramTree) (place : ℕ) → read_tokens tokens ≡ Ok (tree, rest) → IsDeep (symbols tokens) place → ⊥ }

@@ -6,7 +6,7 @@ use Rattle.pfc_tree.specs.Symbols.{Symbol}
 use Rattle.pfc_tree.specs.kept.Exprs.{Step, here, next, AreKept}
 use Rattle.pfc_tree.specs.kept.Types.{flag_trace}
 use Rattle.pfc_grammar.specs.placed.Reading.{Outcome, Reader, pure, then_read, bind, stop, branch_at, branch, choose_at, choose, many_turns, many_onto, many, some_of, list_of, end_turns, end_onto, list_end, while_turns, while_onto, many_while}
-use Rattle.pfc_grammar.proofs.placed_kept.Readers.{kept_both, Reaches, Leads, Traced, Leading, Keeps, Whole, led, keeps_bind}
+use Rattle.pfc_grammar.proofs.placed_kept.Readers.{kept_both, Reaches, Leads, Traced, Leading, Keeps, Whole, led}
 
 -- the trace of a list goes through its items by T
 pub record Chain {A : Type 0} (T : A → List Step) (P : List A → List Step) : Type 0 where
@@ -223,8 +223,10 @@ module _ {O A : Type 0} (K : A → List Step) (P : List A → List Step) (ch : C
 
       behind : (start ts : List Token) → Leads F start ts → (x : A) (mid : List Token) → AreKept (K x) ts mid → (o : Outcome (List A × Bool)) → Reaches (λ ys rest. OntoEnd P (x ∷ []) ys mid rest) o →
           Reaches (λ ys rest. Leading (λ zs steps. F (L zs.0 ++ (flag_trace zs.1 ++ steps))) ys start rest) o
-      behind start ts l x mid v (Ok q) w = record { leads = λ steps rest k. l (L q.0.0 ++ (flag_trace q.0.1 ++ steps)) rest
-          (subst (λ z. AreKept z ts rest) (append_assoc (L q.0.0) (flag_trace q.0.1) steps) (kept_both (L q.0.0 ++ flag_trace q.0.1) steps ts q.1 rest (traced x q.0 ts mid q.1 v w) k)) }
+      behind start ts l x mid v (Ok q) w = record {
+        leads = λ steps rest k. l (L q.0.0 ++ (flag_trace q.0.1 ++ steps)) rest
+            (subst (λ z. AreKept z ts rest) (append_assoc (L q.0.0) (flag_trace q.0.1) steps) (kept_both (L q.0.0 ++ flag_trace q.0.1) steps ts q.1 rest (traced x q.0 ts mid q.1 v w) k));
+      }
       behind start ts l x mid v (Err q) w = tt
 
       first : (start ts : List Token) → Leads F start ts → (o : Outcome A) → Reaches (λ x rest. Traced K x ts rest) o →

@@ -152,3 +152,12 @@ keeps_end {A = A} {F = F} {M = M} {K = K} {r = r} e h = record { reaches = λ st
     go : (start : List Token) (o : Outcome A) → Reaches (λ x rest. Leading M x start rest) o → Reaches (λ x rest. Traced K x start rest) o
     go start (Ok p) w = record { kept = subst (λ z. AreKept z start p.1) (e p.0) (w.leads [] p.1 refl) }
     go start (Err q) w = tt
+
+-- what is made of a value that is read
+pub keeps_made : {A B : Type 0} {F : List Step → List Step} {K : A → List Step} {K' : B → List Step} {r : Reader A} (f : A → B) → ((x : A) (start rest : List Token) → AreKept (K x) start rest → AreKept (K' (f x)) start rest) → Keeps F (Traced K) r → Keeps F (Traced K') (bind r (λ x. pure (f x)))
+unfolding bind pure
+keeps_made {A = A} {F = F} {K = K} {K' = K'} {r = r} f e h = record { reaches = λ start ts l. go start (r ts) (h.reaches start ts l) }
+  where
+    go : (start : List Token) (o : Outcome A) → Reaches (λ x rest. Traced K x start rest) o → Reaches (λ y rest. Traced K' y start rest) (then_read o (λ x. pure (f x)))
+    go start (Ok p) w = record { kept = e p.0 start p.1 w.kept }
+    go start (Err q) w = tt

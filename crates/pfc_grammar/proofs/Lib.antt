@@ -12,4 +12,5 @@ pub mod local_rules
 pub mod Exact
 pub mod placed_bare
 pub mod placed_kept
+pub mod placed_one
 pub mod ExactTokens

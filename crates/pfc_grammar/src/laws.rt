@@ -49,3 +49,13 @@ pub fn a_reading_of_tokens_is_exact()
     ensures unexpected { (tokens : List Token) (left : ℕ) → read_tokens tokens ≡ Err (bad left) → IsSyntaxFault (symbols tokens) 201 (length tokens - left) }
     ensures too_deep { (tokens : List Token) (left : ℕ) → read_tokens tokens ≡ Err (deep left) → IsSyntaxFault (symbols tokens) 202 (length tokens - left) }
 {}
+
+/// A text has one tree: two trees of the same tokens, with their places, are the same, whatever their depths.
+pub fn a_text_has_one_tree()
+    ensures { (tokens : List Token) (tree other : ProgramTree) → IsTreeOf tokens tree → IsTreeOf tokens other → tree ≡ other }
+{}
+
+/// The tree of the tokens is read, where it has no token deeper than 64.
+pub fn a_tree_of_tokens_is_read()
+    ensures { (tokens : List Token) (tree : ProgramTree) → IsTreeOf tokens tree → All (λ d. d ≤ most_depth) (depths_of (forget_program tree)) → read_tokens tokens ≡ Ok (tree, []) }
+{}

@@ -1,0 +1,5 @@
+pub mod Exprs
+pub mod Filling
+pub mod Parts
+pub mod Stmts
+pub mod Types

@@ -1,13 +1,12 @@
 //! Laws of the readers. Each function does nothing; its contract is the law.
 ghost use Rattle.std.specs.Prelude.{◌≡◌, ℕ, ◌-◌, ◌≤◌, ◌++◌, List, [], All, Ok, Err, length};
-ghost use Rattle.pfc_tree.specs.Symbols.{Symbol};
+ghost use Rattle.pfc_tree.specs.Symbols.{Symbol, symbols};
 ghost use Rattle.pfc_tree.specs.shapes.Parts.{ProgramShape};
 ghost use Rattle.pfc_tree.specs.tokens.Parts.{tokens_of};
 ghost use Rattle.pfc_tree.specs.lawful.Parts.{IsLawful};
 ghost use Rattle.pfc_tree.specs.depths.Parts.{depths_of};
 ghost use Rattle.pfc_tree.specs.Grammar.{most_depth, IsDeep, IsSyntaxFault};
 ghost use Rattle.pfc_base.specs.declared.tokens.Token.{Token};
-ghost use Rattle.pfc_tree.specs.Symbols.{symbols};
 ghost use Rattle.pfc_tree.specs.trees.Parts.{ProgramTree};
 ghost use Rattle.pfc_tree.specs.forget.Parts.{forget_program};
 ghost use Rattle.pfc_grammar.specs.Outcomes.{IsRead, IsTreeOf, bare_outcome};

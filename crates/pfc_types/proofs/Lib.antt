@@ -1,10 +1,15 @@
 pub mod Adding
 pub mod BlockSamples
+pub mod Clean
 pub mod Concurrent
 pub mod ConcurrentSamples
+pub mod FaultyExprs
+pub mod FaultyNames
+pub mod FaultyOperators
 pub mod First
 pub mod Names
 pub mod OrderSamples
+pub mod PredeclaredTypes
 pub mod Samples
 pub mod SequentialSamples
 pub mod UseSamples

@@ -1,6 +1,7 @@
 pub mod Blocks
 pub mod Checking
 pub mod Faults
+pub mod Faulty
 pub mod Fields
 pub mod Scopes
 pub mod Table

@@ -3,6 +3,7 @@ pub mod Calls
 pub mod Constants
 pub mod Declarations
 pub mod Expressions
+pub mod FaultyNames
 pub mod Kinds
 pub mod Routines
 pub mod Statements

@@ -1,0 +1,5 @@
+use Rattle.pfc_types.proofs.FaultyExprs.{expressions_faulty}
+use Rattle.pfc_types.proofs.laws.an_expression_is_faulty_exactly.Goals as goal
+
+pub returns : goal.returns
+returns c = expressions_faulty

@@ -10,6 +10,14 @@ pub mod First
 pub mod Names
 pub mod OrderSamples
 pub mod PredeclaredTypes
+pub mod Prefixes
 pub mod Samples
 pub mod SequentialSamples
 pub mod UseSamples
+pub mod Views
+pub mod ViewsParts
+pub mod ViewsStatements
+pub mod WalkDeclarations
+pub mod WalkParts
+pub mod WalkStatements
+pub mod Walking

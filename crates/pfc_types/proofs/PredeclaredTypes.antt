@@ -26,8 +26,8 @@ below-three n h = grind (arith, nat_tests)
 pub simple_no_object : (forms : Forms) → BeginsPredeclared forms → (t : TypeId) → is_simple t ≡ true → has_object forms (Some t) ≡ false
 simple_no_object forms b t h = ap (λ f. is_object f t) b.splits ∙ at t.place (below-three t.place h)
   where
-    at : (n : ℕ) → n < 3 → is_object (predeclared_forms ++ b.others) (record { place = n }) ≡ false
-    at zero h = ap (λ held. (held.shared || held.conditions) || nat_lt 0 held.processes) (kept (all_held predeclared_forms) b.others one_cell 0 (lit< tt))
-    at (suc zero) h = ap (λ held. (held.shared || held.conditions) || nat_lt 0 held.processes) (kept (all_held predeclared_forms) b.others one_cell 1 (lit< tt))
-    at (suc (suc zero)) h = ap (λ held. (held.shared || held.conditions) || nat_lt 0 held.processes) (kept (all_held predeclared_forms) b.others one_cell 2 (lit< tt))
+    at : (n : ℕ) → n < 3 → is_object (predeclared_forms ++ b.more) (record { place = n }) ≡ false
+    at zero h = ap (λ held. (held.shared || held.conditions) || nat_lt 0 held.processes) (kept (all_held predeclared_forms) b.more one_cell 0 (lit< tt))
+    at (suc zero) h = ap (λ held. (held.shared || held.conditions) || nat_lt 0 held.processes) (kept (all_held predeclared_forms) b.more one_cell 1 (lit< tt))
+    at (suc (suc zero)) h = ap (λ held. (held.shared || held.conditions) || nat_lt 0 held.processes) (kept (all_held predeclared_forms) b.more one_cell 2 (lit< tt))
     at (suc (suc (suc n))) h = absurd (omega (arith, h))

@@ -1,7 +1,8 @@
 -- Faulty parts: a part has no type exactly where a rule is broken in it or it uses a faulty name.
-use Rattle.std.specs.Prelude.{◌≡◌, ◌≢◌, ◌⊎◌, ◌↔◌, Bool, true, [], ◌++◌, Option, None}
+use Rattle.std.specs.Prelude.{◌≡◌, ◌≢◌, ◌⊎◌, ◌↔◌, Bool, true, [], Option, None}
 use Rattle.pfc_tree.specs.trees.Exprs.{ExprTree, SimpleTree, TermTree, FactorTree, DesigTree}
 use Rattle.pfc_types.specs.Faults.{Faults, listed}
+use Rattle.pfc_types.specs.Growing.{Begins}
 use Rattle.pfc_types.specs.Types.{Forms, predeclared_forms}
 use Rattle.pfc_types.specs.declared.types.TypeId.{TypeId}
 use Rattle.pfc_types.specs.rules.Expressions.{Env, expr_type, simple_type, term_type, factor_type, desig_type, broken_expr, broken_simple, broken_term, broken_factor, broken_desig}
@@ -12,9 +13,8 @@ abbrev pub IsFaultyExactly : Option TypeId → Faults → Bool → Type 0
 IsFaultyExactly t fs uses = (t ≡ None) ↔ (listed fs ≢ [] ⊎ uses ≡ true)
 
 -- the table of types begins with the six predeclared ones
-pub record BeginsPredeclared (forms : Forms) : Type 0 where
-  pub others : Forms
-  pub splits : forms ≡ predeclared_forms ++ others
+abbrev pub BeginsPredeclared : Forms → Type 0
+BeginsPredeclared forms = Begins predeclared_forms forms
 
 -- Of an expression and its parts, and of a variable that stands alone.
 pub record AreFaultyExactly (env : Env) : Type 0 where

@@ -3,8 +3,10 @@ pub mod Checking
 pub mod Faults
 pub mod Faulty
 pub mod Fields
+pub mod Growing
 pub mod Scopes
 pub mod Table
 pub mod Types
 pub mod Views
+pub mod Visits
 pub mod rules

@@ -1,9 +1,14 @@
 //! Laws of the definitions. Each function does nothing: its contract is the law.
+ghost use Rattle.std.specs.Prelude.{◌≡◌, ◌+◌, length};
 ghost use Rattle.pfc_tree.specs.views.Parts.{tree_view};
+ghost use Rattle.pfc_tree.specs.trees.Parts.{ProgramTree};
 ghost use Rattle.pfc_types.specs.Faults.{IsFirstOf};
 ghost use Rattle.pfc_types.specs.Faulty.{BeginsPredeclared, AreFaultyExactly};
+ghost use Rattle.pfc_types.specs.Visits.{AreCounted, visits, views};
 ghost use Rattle.pfc_types.specs.rules.Expressions.{Env};
-ghost use Rattle.pfc_types.specs.rules.Whole.{broken, first_fault, first_concurrency_fault};
+ghost use Rattle.pfc_types.specs.rules.Statements.{body_scopes};
+ghost use Rattle.pfc_types.specs.rules.Bodies.{parts_scopes};
+ghost use Rattle.pfc_types.specs.rules.Whole.{broken, first_fault, first_concurrency_fault, types_of, scopes_of};
 
 use pfc_tree::Tree;
 
@@ -19,7 +24,18 @@ pub fn first_concurrency_fault_is_first(tree: &Tree)
 {}
 
 /// An expression, like each of its parts, has no type exactly where a rule is broken in it or it uses a faulty name: one
-/// in view whose own declaration has no type. So has a variable that stands alone, with its selectors.
+/// in view whose own declaration has no type. So has a variable that stands alone, with its selectors. The table of
+/// types has to begin with the predeclared ones, and that of each tree does.
 pub fn an_expression_is_faulty_exactly()
-    ensures { (env : Env) → BeginsPredeclared env.state.forms → AreFaultyExactly env }
+    ensures parts { (env : Env) → BeginsPredeclared env.state.forms → AreFaultyExactly env }
+    ensures table { (t : ProgramTree) → BeginsPredeclared (types_of t) }
+{}
+
+/// The names in view at a body, counted over the finished scopes, are those that the scopes held when the declarations
+/// before it had been made: at each body, guard and statement of an accept the two walks over a tree have the same view,
+/// and each name is found alike over the finished scopes and over those that there were. One scope is opened for the
+/// program, for each block in it and for each accept.
+pub fn names_in_view_are_counted()
+    ensures views { (t : ProgramTree) → AreCounted (scopes_of t).scopes (visits t) (views (scopes_of t).scopes t) }
+    ensures count { (t : ProgramTree) → length (scopes_of t).scopes ≡ 1 + parts_scopes t.parts + body_scopes t.body }
 {}

@@ -1,5 +1,5 @@
 -- Whether a rule is broken, as a Boolean, and what a part with a type owes to its own parts.
-use Rattle.std.proofs.Common.{◌≡◌, ◌≢◌, ℕ, ◌⊎◌, inl, inr, Bool, true, false, not, ◌&&◌, is_some, List, [], ◌∷◌, ◌++◌, Option, Some, None, refl, sym, ap, ap₂, ◌∙◌}
+use Rattle.std.proofs.Common.{◌≡◌, ◌≢◌, ℕ, ◌⊎◌, inl, inr, Bool, true, false, not, ◌&&◌, ◌||◌, is_some, List, [], ◌∷◌, ◌++◌, Option, Some, None, refl, sym, ap, ap₂, ◌∙◌}
 use Rattle.pfc_base.specs.declared.places.Place.{Place}
 use Rattle.pfc_base.specs.declared.faults.Refusal.{Refusal}
 use Rattle.pfc_types.specs.Faults.{Faults, none, one, ◌⨾◌, listed, unless}
@@ -39,6 +39,25 @@ pub and-right : (a b : Bool) → (a && b) ≡ true → b ≡ true
 and-right true b h = h
 and-right false b h = cc
 
+-- Parts of which each has a type exactly where a is so and it uses no faulty name, which is u; and a rule r between them.
+pub related_parts : (a u b v r : Bool) → (((a && not u) && (b && not v)) && r) ≡ ((a && (b && r)) && not (u || v))
+related_parts false u b v r = refl
+related_parts true true b v r = sym (and-false (b && r))
+related_parts true false false v r = refl
+related_parts true false true true r = sym (and-false r)
+related_parts true false true false true = refl
+related_parts true false true false false = refl
+
+pub two_parts : (a u b v : Bool) → ((a && not u) && (b && not v)) ≡ ((a && b) && not (u || v))
+two_parts false u b v = refl
+two_parts true true b v = sym (and-false b)
+two_parts true false b v = refl
+
+-- what was before, and two parts behind it
+pub then_parts : (t a u b v : Bool) → ((t && (a && not u)) && (b && not v)) ≡ (t && ((a && b) && not (u || v)))
+then_parts false a u b v = refl
+then_parts true a u b v = two_parts a u b v
+
 -- ## The list
 
 no_fault : (f : Refusal) (fs : List Refusal) → f ∷ fs ≡ [] → ⊥
@@ -63,8 +82,8 @@ listed-clean (one f) e = absurd (no_fault f [] e)
 listed-clean (fs ⨾ gs) e = ap₂ (λ x y. x && y) (listed-clean fs (empty-left (listed fs) (listed gs) e)) (listed-clean gs (empty-right (listed fs) (listed gs) e))
 
 -- a Boolean equation says when the type is missing
-pub faulty_exactly : (t : Option TypeId) (fs : Faults) (u : Bool) → is_some t ≡ (clean fs && not u) → IsFaultyExactly t fs u
-faulty_exactly t fs u e = (λ h. why (clean fs) u refl (ap is_some (sym h) ∙ e), λ h. missing t e h)
+pub faulty_exactly : {A : Type 0} (t : Option A) (fs : Faults) (u : Bool) → is_some t ≡ (clean fs && not u) → IsFaultyExactly t fs u
+faulty_exactly {A} t fs u e = (λ h. why (clean fs) u refl (ap is_some (sym h) ∙ e), λ h. missing t e h)
   where
     why : (c v : Bool) → clean fs ≡ c → false ≡ (c && not v) → (listed fs ≢ []) ⊎ (v ≡ true)
     why false v is h = inl (λ l. cc_of (sym (listed-clean fs l) ∙ is))
@@ -74,7 +93,7 @@ faulty_exactly t fs u e = (λ h. why (clean fs) u refl (ap is_some (sym h) ∙ e
     why true true is h = inr refl
     why true false is h = cc
 
-    missing : (r : Option TypeId) → is_some r ≡ (clean fs && not u) → (listed fs ≢ []) ⊎ (u ≡ true) → r ≡ None
+    missing : (r : Option A) → is_some r ≡ (clean fs && not u) → (listed fs ≢ []) ⊎ (u ≡ true) → r ≡ None
     missing None x h = refl
     missing (Some s) x (inl h) = absurd (h (clean-listed fs (and-left (clean fs) (not u) (sym x))))
     missing (Some s) x (inr h) = absurd (against u h (and-right (clean fs) (not u) (sym x)))

@@ -13,7 +13,7 @@ use Rattle.pfc_types.specs.rules.Kinds.{value_rule, may_have}
 use Rattle.pfc_types.specs.rules.Routines.{Want, want_rules}
 use Rattle.pfc_types.specs.rules.Expressions.{Env, find, simple_place, expr_place, add_operand, mul_operand, operated, operator_rule, signed_type, signed_rule, relation_rule, element_type, index_rule, field_rule, actual_count, is_variable, expr_type, simple_type, summed, term_type, multiplied, factor_type, selected_by, indexed, arg_fits, desig_type, broken_expr, broken_simple, broken_summands, broken_term, broken_multipliers, broken_factor, broken_selectors, broken_selector, broken_indexes, broken_actuals, broken_actual, broken_wanted, broken_desig}
 use Rattle.pfc_types.specs.rules.FaultyNames.{expr_uses_faulty, simple_uses_faulty, summands_use_faulty, term_uses_faulty, multipliers_use_faulty, factor_uses_faulty, desig_uses_faulty, selectors_use_faulty, selector_uses_faulty, exprs_use_faulty, actuals_use_faulty, actual_uses_faulty}
-use Rattle.pfc_types.proofs.Clean.{clean, clean-unless, some-where_so, and-false, faulty_exactly}
+use Rattle.pfc_types.proofs.Clean.{related_parts, two_parts, then_parts, clean, clean-unless, some-where_so, and-false, faulty_exactly}
 use Rattle.pfc_types.proofs.FaultyOperators.{operated_exactly, signed_exactly, has_exactly, related_exactly, element_exactly, field_exactly, is_wanted, all_wanted, wanted_exactly}
 use Rattle.pfc_types.proofs.FaultyNames.{SelectorsExact, ArgumentsExact, use_exact, desig_exact}
 
@@ -27,19 +27,6 @@ Exact t fs uses = is_some t ≡ (clean fs && not uses)
 abbrev ExactFrom : Option TypeId → Option TypeId → Faults → Bool → Type 0
 ExactFrom t r fs uses = is_some r ≡ (is_some t && (clean fs && not uses))
 
-related_parts : (a u b v r : Bool) → (((a && not u) && (b && not v)) && r) ≡ ((a && (b && r)) && not (u || v))
-related_parts false u b v r = refl
-related_parts true true b v r = sym (and-false (b && r))
-related_parts true false false v r = refl
-related_parts true false true true r = sym (and-false r)
-related_parts true false true false true = refl
-related_parts true false true false false = refl
-
-two_parts : (a u b v : Bool) → ((a && not u) && (b && not v)) ≡ ((a && b) && not (u || v))
-two_parts false u b v = refl
-two_parts true true b v = sym (and-false b)
-two_parts true false b v = refl
-
 -- a first part, a rule, and what comes behind
 first_parts : (a u r b v : Bool) → (((a && not u) && r) && (b && not v)) ≡ ((a && (r && b)) && not (u || v))
 first_parts false u r b v = refl
@@ -51,10 +38,6 @@ first_parts true false true b v = refl
 next_parts : (t a u r b v : Bool) → (((t && (a && not u)) && r) && (b && not v)) ≡ (t && ((a && (r && b)) && not (u || v)))
 next_parts false a u r b v = refl
 next_parts true a u r b v = first_parts a u r b v
-
-then_parts : (t a u b v : Bool) → ((t && (a && not u)) && (b && not v)) ≡ (t && ((a && b) && not (u || v)))
-then_parts false a u b v = refl
-then_parts true a u b v = two_parts a u b v
 
 one_rule : (a u r : Bool) → ((a && not u) && r) ≡ ((a && r) && not u)
 one_rule false u r = refl

@@ -3,9 +3,11 @@ pub mod BlockSamples
 pub mod Clean
 pub mod Concurrent
 pub mod ConcurrentSamples
+pub mod FaultyConstants
 pub mod FaultyExprs
 pub mod FaultyNames
 pub mod FaultyOperators
+pub mod FaultyTypes
 pub mod First
 pub mod Names
 pub mod OrderSamples
@@ -13,6 +15,7 @@ pub mod PredeclaredTypes
 pub mod Prefixes
 pub mod Samples
 pub mod SequentialSamples
+pub mod SimpleConstants
 pub mod UseSamples
 pub mod Views
 pub mod ViewsParts

@@ -73,11 +73,11 @@ mutual
   made_kept carried s view (fields vs last p) =
       kept_trans (items_kept view (fields_begun s) vs) (added_kept (made_items view (fields_begun s) vs).state (record_form (made_items view (fields_begun s) vs)) p)
 
-  items_kept : (view : List Level) (r : MadeFields) (vs : VarTrees) → Kept r.state (made_items view r vs).state
+  pub items_kept : (view : List Level) (r : MadeFields) (vs : VarTrees) → Kept r.state (made_items view r vs).state
   items_kept view r no_vars = kept_same r.state
   items_kept view r (more_vars v vs) = kept_trans (item_kept view r v) (items_kept view (made_item view r v) vs)
 
-  item_kept : (view : List Level) (r : MadeFields) (v : VarTree) → Kept r.state (made_item view r v).state
+  pub item_kept : (view : List Level) (r : MadeFields) (v : VarTree) → Kept r.state (made_item view r v).state
   item_kept view r (var_item xs t) =
       kept_trans (made_kept false r.state view t) (group_kept (record r { state = (made false r.state view t).state }) (made false r.state view t).t xs)
 

@@ -3,7 +3,10 @@ ghost use Rattle.std.specs.Prelude.{◌≡◌, ◌+◌, length};
 ghost use Rattle.pfc_tree.specs.views.Parts.{tree_view};
 ghost use Rattle.pfc_tree.specs.trees.Parts.{ProgramTree};
 ghost use Rattle.pfc_types.specs.Faults.{IsFirstOf};
-ghost use Rattle.pfc_types.specs.Faulty.{BeginsPredeclared, AreFaultyExactly};
+ghost use Rattle.std.specs.Prelude.{List};
+ghost use Rattle.pfc_types.specs.Blocks.{State};
+ghost use Rattle.pfc_types.specs.Scopes.{Level};
+ghost use Rattle.pfc_types.specs.Faulty.{BeginsPredeclared, AreFaultyExactly, HoldSimpleConstants, AreWrittenExactly};
 ghost use Rattle.pfc_types.specs.Visits.{AreCounted, visits, views};
 ghost use Rattle.pfc_types.specs.rules.Expressions.{Env};
 ghost use Rattle.pfc_types.specs.rules.Statements.{body_scopes};
@@ -38,4 +41,9 @@ pub fn an_expression_is_faulty_exactly()
 pub fn names_in_view_are_counted()
     ensures views { (t : ProgramTree) → AreCounted (scopes_of t).scopes (visits t) (views (scopes_of t).scopes t) }
     ensures count { (t : ProgramTree) → length (scopes_of t).scopes ≡ 1 + parts_scopes t.parts + body_scopes t.body }
+{}
+
+/// A constant, a type and a group of parameters
+pub fn a_type_is_faulty_exactly()
+    ensures parts { (s : State) (view : List Level) → HoldSimpleConstants s.blocks.scopes → AreWrittenExactly s view }
 {}

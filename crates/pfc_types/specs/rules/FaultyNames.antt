@@ -2,7 +2,12 @@
 -- declaration, where a rule is broken.
 use Rattle.std.specs.Prelude.{Bool, true, false, not, ◌&&◌, ◌||◌, List, [], ◌∷◌, Option, Some, None, is_some}
 use Rattle.pfc_tree.specs.trees.Exprs.{ExprTree, SimpleTree, SummandTrees, TermTree, MultiplierTrees, FactorTree, DesigTree, SelectorTree, SelectorTrees, ExprTrees, ActualTree, ActualTrees, plain, related, sum, no_summands, more_summands, product, no_multipliers, more_multipliers, number, literal, negation, paren, applied, desig, index, field, no_selectors, more_selectors, no_exprs, more_exprs, actual, actual_width, no_actuals, more_actuals}
+use Rattle.pfc_tree.specs.declared.tree.Constant.{Constant}
+use Rattle.pfc_tree.specs.declared.tree.Constant.TheVariants.{Number, Named as NamedConstant, Literal}
+use Rattle.pfc_tree.specs.declared.tree.Range.{Range}
+use Rattle.pfc_tree.specs.trees.Types.{TypeTree, VarTree, VarTrees, GroupTree, named, channel, array, fields, var_item, no_vars, more_vars}
 use Rattle.pfc_types.specs.Blocks.{Blocks, sub_at}
+use Rattle.pfc_types.specs.Scopes.{Names, Level, look}
 use Rattle.pfc_types.specs.declared.scope.Meaning.{Meaning}
 use Rattle.pfc_types.specs.declared.scope.Meaning.TheVariants.{Sub, Faulty}
 use Rattle.pfc_types.specs.declared.view.Found.{Found}
@@ -31,6 +36,43 @@ is_faulty b m = false
 abbrev pub is_faulty_found : Blocks → Option Found → Bool
 is_faulty_found b None = false
 is_faulty_found b (Some found) = is_faulty b found.meaning
+
+-- a name that should stand for a constant or a type
+abbrev pub stands_faulty : Option Meaning → Bool
+stands_faulty (Some Faulty) = true
+stands_faulty m = false
+
+-- ## Constants, types and parameters as they are written
+
+-- whether a name that stands in a constant is faulty
+abbrev pub constant_uses_faulty : List Names → List Level → Constant → Bool
+constant_uses_faulty scopes view (Number sign n p) = false
+constant_uses_faulty scopes view (NamedConstant sign x p) = stands_faulty (look scopes view x)
+constant_uses_faulty scopes view (Literal x p) = false
+
+abbrev pub ranges_use_faulty : List Names → List Level → List Range → Bool
+ranges_use_faulty scopes view [] = false
+ranges_use_faulty scopes view (r ∷ rs) =
+    (constant_uses_faulty scopes view r.low || constant_uses_faulty scopes view r.high) || ranges_use_faulty scopes view rs
+
+-- whether a name that stands in a type is faulty
+abbrev mutual
+  pub type_uses_faulty : List Names → List Level → TypeTree → Bool
+  type_uses_faulty scopes view (named x p) = stands_faulty (look scopes view x)
+  type_uses_faulty scopes view (channel t p) = type_uses_faulty scopes view t
+  type_uses_faulty scopes view (array rs t p) = ranges_use_faulty scopes view rs || type_uses_faulty scopes view t
+  type_uses_faulty scopes view (fields vs last p) = items_use_faulty scopes view vs
+
+  pub items_use_faulty : List Names → List Level → VarTrees → Bool
+  items_use_faulty scopes view no_vars = false
+  items_use_faulty scopes view (more_vars v vs) = item_uses_faulty scopes view v || items_use_faulty scopes view vs
+
+  pub item_uses_faulty : List Names → List Level → VarTree → Bool
+  item_uses_faulty scopes view (var_item xs t) = type_uses_faulty scopes view t
+
+-- whether the name of the type of a group of parameters is faulty
+abbrev pub group_uses_faulty : List Names → List Level → GroupTree → Bool
+group_uses_faulty scopes view g = stands_faulty (look scopes view g.form.0)
 
 -- ## Expressions
 

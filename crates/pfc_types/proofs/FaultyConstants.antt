@@ -1,5 +1,5 @@
 -- Faulty constants, ranges and groups of parameters as they are written.
-use Rattle.std.proofs.Common.{◌≡◌, ℕ, ℤ, Bool, true, false, not, ◌&&◌, ◌||◌, if◌then◌else◌, is_some, List, [], ◌∷◌, Option, Some, None, refl, sym, ap, ap₂, ◌∙◌}
+use Rattle.std.proofs.Common.{◌≡◌, ℕ, Bool, true, false, not, ◌&&◌, ◌||◌, if◌then◌else◌, is_some, List, [], ◌∷◌, Option, Some, None, refl, sym, ap, ap₂, ◌∙◌}
 use Rattle.std.specs.Prelude.{int_le}
 use Rattle.pfc_base.specs.declared.places.Place.{Place}
 use Rattle.pfc_tree.specs.Symbols.{Text}
@@ -8,7 +8,7 @@ use Rattle.pfc_tree.specs.declared.tree.Constant.{Constant}
 use Rattle.pfc_tree.specs.declared.tree.Constant.TheVariants.{Number, Named as NamedConstant, Literal}
 use Rattle.pfc_tree.specs.declared.tree.Range.{Range}
 use Rattle.pfc_tree.specs.trees.Types.{GroupTree}
-use Rattle.pfc_types.specs.Faults.{Faults, unless, ◌⨾◌}
+use Rattle.pfc_types.specs.Faults.{unless}
 use Rattle.pfc_types.specs.Faulty.{IsSimpleConstant, HoldSimpleConstants}
 use Rattle.pfc_types.specs.Types.{Forms, integer, is_same, is_simple, synchronous}
 use Rattle.pfc_types.specs.Blocks.{State}
@@ -16,12 +16,12 @@ use Rattle.pfc_types.specs.Scopes.{Names, Level, look}
 use Rattle.pfc_types.specs.declared.types.TypeId.{TypeId}
 use Rattle.pfc_types.specs.declared.scope.Meaning.{Meaning}
 use Rattle.pfc_types.specs.declared.scope.Meaning.TheVariants.{Constant as AConstant, Named, Variable, Sub, Module, Process, Entry, Predeclared, Faulty}
-use Rattle.pfc_types.specs.rules.Kinds.{a_constant, name_rules, where_so, type_name_rules, named_type}
+use Rattle.pfc_types.specs.rules.Kinds.{a_constant, name_rules, type_name_rules, named_type}
 use Rattle.pfc_types.specs.rules.Constants.{Ordinal, signed, sign_fits, sign_rule, named_constant, char_value, is_char, constant_value, constant_place, broken_constant, Extent, are_bounds, extent_of, range_extent, bounds_rule, broken_range, broken_ranges, range_extents}
 use Rattle.pfc_types.specs.rules.Declarations.{passed_fits, parameter_fits, parameter_rules, parameter_type, group_type, broken_group}
 use Rattle.pfc_types.specs.rules.FaultyNames.{stands_faulty, constant_uses_faulty, ranges_use_faulty, group_uses_faulty}
 use Rattle.pfc_types.proofs.Clean.{clean, clean-unless, some-where_so, and-false, and-right, related_parts, two_parts}
-use Rattle.pfc_types.proofs.SimpleConstants.{look_simple}
+use Rattle.pfc_types.proofs.Looks.{look_simple}
 
 -- ## Constants
 
@@ -54,7 +54,7 @@ constant_exact scopes view (Literal x p) = by x
     by (b ∷ c ∷ rest) = refl
 
 -- the value of a constant is of a simple type
-abbrev IsSimpleValue : Option Ordinal → Type 0
+abbrev pub IsSimpleValue : Option Ordinal → Type 0
 IsSimpleValue None = Unit {0}
 IsSimpleValue (Some c) = is_simple c.t ≡ true
 

@@ -10,21 +10,21 @@ use Rattle.pfc_tree.specs.trees.Types.{TypeTree, VarTree, VarTrees, named, chann
 use Rattle.pfc_types.specs.Faults.{Faults, none, one, ◌⨾◌, unless}
 use Rattle.pfc_types.specs.Faulty.{HoldSimpleConstants, IsMadeExactly, AreWrittenExactly}
 use Rattle.pfc_types.specs.Fields.{type_named}
-use Rattle.pfc_types.specs.Types.{Forms, integer, is_simple, is_object, has_bounds, held_form, all_held}
-use Rattle.pfc_types.specs.Blocks.{State, note, add_form}
+use Rattle.pfc_types.specs.Types.{integer, is_simple, is_object, has_bounds, held_form, all_held}
+use Rattle.pfc_types.specs.Blocks.{State, note}
 use Rattle.pfc_types.specs.Scopes.{Names, Level, look}
 use Rattle.pfc_types.specs.declared.types.TypeId.{TypeId}
 use Rattle.pfc_types.specs.declared.types.TypeForm.{TypeForm}
 use Rattle.pfc_types.specs.declared.types.TypeForm.TheVariants.{Channel, Array, Record}
 use Rattle.pfc_types.specs.declared.table.TypeFault.TheVariants.{Bounds, Cells}
-use Rattle.pfc_types.specs.rules.Kinds.{type_name_rules, named_type, has_object}
-use Rattle.pfc_types.specs.rules.Constants.{constant_value, broken_constant, broken_ranges, range_extents, Extent, Made, added_unless, added, channel_form, made_channel, array_of, made_arrays, MadeFields, made_field, made_names, made_group, record_form, fields_begun, made, made_items, made_item, type_place}
+use Rattle.pfc_types.specs.rules.Kinds.{type_name_rules}
+use Rattle.pfc_types.specs.rules.Constants.{constant_value, broken_constant, broken_ranges, range_extents, Extent, Made, added_unless, added, made_channel, array_of, made_arrays, MadeFields, made_field, made_names, made_group, record_form, fields_begun, made, made_items, made_item, type_place}
 use Rattle.pfc_types.specs.rules.Declarations.{group_type, broken_group}
 use Rattle.pfc_types.specs.rules.FaultyNames.{stands_faulty, constant_uses_faulty, ranges_use_faulty, group_uses_faulty, type_uses_faulty, items_use_faulty, item_uses_faulty}
 use Rattle.pfc_types.proofs.Clean.{clean, and-false, and-true, then_parts, faulty_exactly}
 use Rattle.pfc_types.proofs.FaultyConstants.{constant_exact, all_some, extents_exact, AreBounds, extents_bounds, named_type_exact, group_exact}
 use Rattle.pfc_types.proofs.Walking.{held, note_kept}
-use Rattle.pfc_types.proofs.WalkDeclarations.{made_kept, item_kept}
+use Rattle.pfc_types.proofs.WalkDeclarations.{item_kept}
 
 -- ## What is noted
 

@@ -5,10 +5,10 @@ use Rattle.pfc_base.specs.declared.places.Place.{Place}
 use Rattle.pfc_tree.specs.Symbols.{Text}
 use Rattle.pfc_tree.specs.trees.Types.{GroupTree}
 use Rattle.pfc_tree.specs.trees.Parts.{KindTree, PartTree, PartTrees, SubTree, ModuleTree, ProcessTree, ProgramTree, consts, types, vars, sub_part, monitor, resource, process_part, no_parts, more_parts, sub, the_module, process}
-use Rattle.pfc_types.specs.Faulty.{BeginsPredeclared}
+use Rattle.pfc_types.specs.Faulty.{BeginsPredeclared, HoldSimpleConstants}
 use Rattle.pfc_types.specs.Types.{predeclared_forms}
-use Rattle.pfc_types.specs.Scopes.{Names, Level, scope_at, here}
-use Rattle.pfc_types.specs.Blocks.{State, note, open_scope, add_sub, add_module, add_process}
+use Rattle.pfc_types.specs.Scopes.{Names, Level, scope_at, here, found_in, look}
+use Rattle.pfc_types.specs.Blocks.{State, no_blocks, note, open_scope, add_sub, add_module, add_process}
 use Rattle.pfc_types.specs.declared.heads.SubHead.{SubHead}
 use Rattle.pfc_types.specs.declared.heads.ProcessHead.{ProcessHead}
 use Rattle.pfc_types.specs.declared.scope.Meaning.TheVariants.{Module}
@@ -16,8 +16,12 @@ use Rattle.pfc_types.specs.rules.Declarations.{Owner, in_program, elsewhere, Hea
 use Rattle.pfc_types.specs.rules.Statements.{body_scopes}
 use Rattle.pfc_types.specs.rules.Bodies.{passed, passed_part, part_scopes, parts_scopes, sub_scopes, module_scopes, process_scopes, sub_name, module_name, process_name}
 use Rattle.pfc_types.specs.rules.Whole.{begun, declared_parts, declared_all, finished, types_of, scopes_of, main_cells}
+use Rattle.pfc_types.proofs.Sound.{sound_simple, sound_faulty, AreSound, subs_same, subs_push}
+use Rattle.pfc_types.proofs.WholeHeads.{heading_subs, heading_typed, sub_sound}
+use Rattle.pfc_types.specs.rules.FaultyNames.{is_faulty_found, stands_faulty}
+use Rattle.pfc_types.proofs.Looks.{look_sound}
 use Rattle.pfc_types.proofs.Prefixes.{begins_same, begins_trans}
-use Rattle.pfc_types.proofs.Walking.{held, Kept, Walked, kept_same, kept_trans, opened_trans, kept_walked, walked_count, walked_trans, walked_opened, walked_kept, opened_then_walked, kept_then_walked, opened_inner, walked_inner, note_kept, open_opened, declare_walked}
+use Rattle.pfc_types.proofs.Walking.{kept_opened, opened_count, held, Kept, Walked, kept_same, kept_trans, opened_trans, kept_walked, walked_count, walked_trans, walked_opened, walked_kept, opened_then_walked, kept_then_walked, opened_inner, walked_inner, note_kept, open_opened, declare_walked}
 use Rattle.pfc_types.proofs.WalkDeclarations.{consts_walked, types_walked, vars_walked, entries_walked, exports_kept, process_named_walked}
 use Rattle.pfc_types.proofs.WalkStatements.{heading_opened, body_opened, init_opened}
 
@@ -32,7 +36,7 @@ passed_parts names n (more_parts q qs) = passed_parts names (passed_part names n
 pub sub_named_walked :
     (s : State) (i : ℕ) (outer : List Level) (x : Text × Place) (gs : List GroupTree) (kind : KindTree) → i < length (held s)
     → Walked i (heading (open_scope s) (length (held s)) (here (held s) i outer) gs).state (sub_headed s i outer x gs kind) 0 (λ names n. passed names n x.0)
-sub_named_walked s i outer x gs kind b = kept_then_walked there added (declare_walked _ i x _ (omega (arith, there, ap length added.scopes)))
+sub_named_walked s i outer x gs kind b = kept_then_walked there added (declare_walked _ i x _ (omega (arith, there, ap length added.scopes)) (λ r. sub_sound (note h.state (broken_sort h.state view kind)).blocks head h.whole (length s.blocks.subs) (ap length (heading_subs s own around gs (broken_sort h.state view kind))) (heading_typed (open_scope s) own around gs)))
   where
     own : ℕ
     own = length s.blocks.scopes
@@ -53,7 +57,7 @@ sub_named_walked s i outer x gs kind b = kept_then_walked there added (declare_w
     there = omega (arith, b, (heading_opened s around gs).count)
 
     added : Kept h.state (add_sub (note h.state (broken_sort h.state view kind)) head)
-    added = kept_trans (note_kept h.state (broken_sort h.state view kind)) (record { scopes = refl; forms = begins_same _ })
+    added = kept_trans (note_kept h.state (broken_sort h.state view kind)) (record { scopes = refl; forms = begins_same _; subs = subs_push (note h.state (broken_sort h.state view kind)).blocks head })
 
 pub sub_headed_walked :
     (s : State) (i : ℕ) (outer : List Level) (x : Text × Place) (gs : List GroupTree) (kind : KindTree) → i < length (held s)
@@ -79,7 +83,7 @@ process_named_behind s i outer many x gs b = kept_then_walked there added (proce
     there = omega (arith, b, (heading_opened s (here s.blocks.scopes i outer) gs).count)
 
     added : Kept h.state (add_process h.state head)
-    added = record { scopes = refl; forms = begins_same _ }
+    added = record { scopes = refl; forms = begins_same _; subs = subs_same _ _ refl }
 
 pub process_headed_walked :
     (s : State) (i : ℕ) (outer : List Level) (many : Bool) (x : Text × Place) (gs : List GroupTree) → i < length (held s)
@@ -89,10 +93,10 @@ process_headed_walked s i outer many x gs b = opened_then_walked b (heading_open
 pub module_closed_walked :
     (is_resource : Bool) (s : State) (i own : ℕ) (x : Text × Place) (exports : List (List (Text × Place))) → i < length (held s)
     → Walked i s (module_closed is_resource s i own x exports) 0 (λ names n. passed names n x.0)
-module_closed_walked is_resource s i own x exports b = kept_then_walked b added (declare_walked _ i x (Module (length s.blocks.modules)) (omega (arith, b, ap length added.scopes)))
+module_closed_walked is_resource s i own x exports b = kept_then_walked b added (declare_walked _ i x (Module (length s.blocks.modules)) (omega (arith, b, ap length added.scopes)) (λ r. tt))
   where
     added : Kept s (add_module (exports_state s own exports) (record { scope = own; resource = is_resource }))
-    added = kept_trans (exports_kept s own exports) (record { scopes = refl; forms = begins_same _ })
+    added = kept_trans (exports_kept s own exports) (record { scopes = refl; forms = begins_same _; subs = subs_same _ _ refl })
 
 -- ## Parts
 
@@ -167,3 +171,18 @@ scopes_counted t = ap length (finished_kept t).scopes ∙ (all_walked t).count �
 -- the table of types of a tree begins with the predeclared types
 pub types_begin : (t : ProgramTree) → BeginsPredeclared (types_of t)
 types_begin t = begins_trans predeclared_forms (declared_all t).forms (types_of t) (all_walked t).forms (finished_kept t).forms
+
+-- what the names of a tree stand for is sound
+pub scopes_sound : (t : ProgramTree) → AreSound (scopes_of t)
+scopes_sound t = (opened_count (kept_opened (finished_kept t)) refl).sound ((all_walked t).sound begun_sound)
+  where
+    begun_sound : AreSound begun.blocks
+    begun_sound = (open_opened (record { forms = predeclared_forms; blocks = no_blocks })).sound (λ i x. tt)
+
+-- each constant of a tree is of a simple type
+pub constants_simple : (t : ProgramTree) → HoldSimpleConstants (scopes_of t).scopes
+constants_simple t = sound_simple (scopes_of t) (scopes_sound t)
+
+-- in a tree a name is faulty exactly where it stands for nothing that is known
+pub names_faulty : (t : ProgramTree) (view : List Level) (x : Text) → is_faulty_found (scopes_of t) (found_in (scopes_of t).scopes view x) ≡ stands_faulty (look (scopes_of t).scopes view x)
+names_faulty t view x = sound_faulty (scopes_of t) (found_in (scopes_of t).scopes view x) (look_sound (scopes_of t) (scopes_sound t) view x)

@@ -1,97 +1,56 @@
 -- What holds of each name in the scopes holds of what is in view.
-use Rattle.std.proofs.Common.{ℕ, Bool, true, false, cond, nat_lt, List, [], ◌∷◌, bytes_eq, Option, Some, None, option_map, refl}
+use Rattle.std.proofs.Common.{◌≡◌, ℕ, Bool, true, false, ◌&&◌, cond, nat_lt, List, [], ◌∷◌, bytes_eq, Option, Some, None, option_map, refl}
 use Rattle.std.specs.Option.{option_or}
 use Rattle.pfc_tree.specs.Symbols.{Text}
 use Rattle.pfc_types.specs.Faulty.{IsSimpleConstant, HoldSimpleConstants}
-use Rattle.pfc_types.specs.Blocks.{Blocks}
+use Rattle.pfc_types.specs.Blocks.{Blocks, no_blocks}
+use Rattle.pfc_types.specs.Types.{is_simple}
 use Rattle.pfc_types.specs.Scopes.{Names, Level, meaning_in, scope_at, position_in, within, predeclared_names, found_in, meaning_of, look}
 use Rattle.pfc_types.specs.declared.scope.Meaning.{Meaning}
-use Rattle.pfc_types.proofs.Sound.{IsSound, AreSound}
+use Rattle.pfc_types.specs.declared.scope.Meaning.TheVariants.{Constant, Named, Variable, Sub, Module, Process, Entry, Predeclared, Faulty}
+use Rattle.pfc_types.proofs.Clean.{and-left, and-right}
+use Rattle.pfc_types.proofs.Sound.{IsSound, AreSound, simple_of}
 
 -- ## The predeclared names
 
-abbrev Each : (Option Meaning → Type 0) → Names → Type 0
-Each P [] = Unit {0}
-Each P (e ∷ es) = P (Some e.1) × Each P es
+-- no sub, and no constant but of a simple type
+abbrev is_plain : Meaning → Bool
+is_plain (Constant t v) = is_simple t
+is_plain (Sub n) = false
+is_plain m = true
 
-each_found : (P : Option Meaning → Type 0) → P None → (names : Names) → Each P names → (x : Text) → P (meaning_in names x)
-each_found P none [] h x = none
-each_found P none (e ∷ es) h x = by (bytes_eq x e.0) (each_found P none es h.1 x)
+abbrev all_plain : Names → Bool
+all_plain [] = true
+all_plain (e ∷ es) = is_plain e.1 && all_plain es
+
+plain_found : (P : Option Meaning → Type 0) → P None → ((m : Meaning) → is_plain m ≡ true → P (Some m)) → (names : Names) → all_plain names ≡ true → (x : Text) → P (meaning_in names x)
+plain_found P none some [] h x = none
+plain_found P none some (e ∷ es) h x = by (bytes_eq x e.0) (plain_found P none some es (and-right (is_plain e.1) (all_plain es) h) x)
   where
     by : (b : Bool) → P (meaning_in es x) → P (cond b (Some e.1) (meaning_in es x))
-    by true k = h.0
+    by true k = some e.1 (and-left (is_plain e.1) (all_plain es) h)
     by false k = k
 
--- the constants among them are the seventh to the ninth
-predeclared_simple : Each IsSimpleConstant predeclared_names
-predeclared_simple = (
-  tt,
-  (
-    tt,
-    (
-      tt,
-      (
-        tt,
-        (
-          tt,
-          (
-            tt,
-            (
-              refl,
-              (
-                refl,
-                (
-                  refl,
-                  (tt, (tt, (tt, (tt, (tt, (tt, (tt, (tt, (tt, (tt, (tt, (tt, (tt, (tt, (tt, (tt, (tt, (tt, (tt, (tt, (tt, (tt, (tt, tt))))))))))))))))))))))),
-                ),
-              ),
-            ),
-          ),
-        ),
-      ),
-    ),
-  ),
-)
-
-predeclared_sound : (b : Blocks) → Each (IsSound b) predeclared_names
-predeclared_sound b = (
-  tt,
-  (
-    tt,
-    (
-      tt,
-      (
-        tt,
-        (
-          tt,
-          (
-            tt,
-            (
-              refl,
-              (
-                refl,
-                (
-                  refl,
-                  (tt, (tt, (tt, (tt, (tt, (tt, (tt, (tt, (tt, (tt, (tt, (tt, (tt, (tt, (tt, (tt, (tt, (tt, (tt, (tt, (tt, (tt, (tt, tt))))))))))))))))))))))),
-                ),
-              ),
-            ),
-          ),
-        ),
-      ),
-    ),
-  ),
-)
+plain_sound : (b : Blocks) (m : Meaning) → is_plain m ≡ true → IsSound b (Some m)
+plain_sound b (Constant t v) h = h
+plain_sound b (Named t) h = tt
+plain_sound b (Variable t r) h = tt
+plain_sound b (Sub n) h = cc
+plain_sound b (Module n) h = tt
+plain_sound b (Process n) h = tt
+plain_sound b (Entry n) h = tt
+plain_sound b (Predeclared k) h = tt
+plain_sound b Faulty h = tt
 
 -- ## What is in view
 
-look_holds : (P : Option Meaning → Type 0) → P None → Each P predeclared_names → (scopes : List Names) → ((i : ℕ) (x : Text) → P (meaning_in (scope_at scopes i) x)) → (view : List Level) (x : Text) → P (look scopes view x)
-look_holds P none each scopes h [] x = by (meaning_in predeclared_names x) (each_found P none predeclared_names each x)
+look_holds : (P : Option Meaning → Type 0) → P None → ((m : Meaning) → is_plain m ≡ true → P (Some m)) → (scopes : List Names) → ((i : ℕ) (x : Text) → P (meaning_in (scope_at scopes i) x)) → (view : List Level) (x : Text) → P (look scopes view x)
+look_holds P none some scopes h [] x = by (meaning_in predeclared_names x) (plain_found P none some predeclared_names refl x)
   where
     by : (m : Option Meaning) → P m → P (meaning_of (option_map (λ y. record { scope = None; place = 0; meaning = y }) m))
     by None g = g
     by (Some y) g = g
-look_holds P none each scopes h (level ∷ view) x = by (position_in (scope_at scopes level.scope) x) (meaning_in (scope_at scopes level.scope) x) (h level.scope x) (look_holds P none each scopes h view x)
+look_holds P none some scopes h (level ∷ view) x = by (position_in (scope_at scopes level.scope) x) (meaning_in (scope_at scopes level.scope) x) (h level.scope x) (look_holds P none some scopes h view x)
   where
     by : (p : Option ℕ) (m : Option Meaning) → P m → P (look scopes view x) → P (meaning_of (option_or (within level p m) (found_in scopes view x)))
     by None m g outside = outside
@@ -104,7 +63,7 @@ look_holds P none each scopes h (level ∷ view) x = by (position_in (scope_at s
 
 -- a constant in view is of a simple type
 pub look_simple : (scopes : List Names) → HoldSimpleConstants scopes → (view : List Level) (x : Text) → IsSimpleConstant (look scopes view x)
-look_simple scopes h view x = look_holds IsSimpleConstant tt predeclared_simple scopes h view x
+look_simple scopes h view x = look_holds IsSimpleConstant tt (λ m p. simple_of no_blocks (Some m) (plain_sound no_blocks m p)) scopes h view x
 
 pub look_sound : (b : Blocks) → AreSound b → (view : List Level) (x : Text) → IsSound b (look b.scopes view x)
-look_sound b h view x = look_holds (IsSound b) tt (predeclared_sound b) b.scopes h view x
+look_sound b h view x = look_holds (IsSound b) tt (plain_sound b) b.scopes h view x

@@ -84,7 +84,7 @@ sound_push b (e ∷ es) x y m h g = by (bytes_eq y e.0) h (λ k. sound_push b es
     by true k others = k
     by false k others = others k
 
-simple_of : (b : Blocks) (m : Option Meaning) → IsSound b m → IsSimpleConstant m
+pub simple_of : (b : Blocks) (m : Option Meaning) → IsSound b m → IsSimpleConstant m
 simple_of b None h = tt
 simple_of b (Some (Constant t v)) h = h
 simple_of b (Some (Named t)) h = tt

@@ -12,11 +12,13 @@ pub mod First
 pub mod Looks
 pub mod Names
 pub mod OrderSamples
+pub mod PartViews
 pub mod PredeclaredTypes
 pub mod Prefixes
 pub mod Samples
 pub mod SequentialSamples
 pub mod Sound
+pub mod Stops
 pub mod UseSamples
 pub mod Views
 pub mod ViewsBlocks

@@ -8,7 +8,9 @@ use Rattle.pfc_tree.specs.trees.Parts.{KindTree, EntryTree, PartTrees, procedure
 use Rattle.pfc_types.specs.Growing.{Begins}
 use Rattle.pfc_types.specs.Scopes.{Names, Level, scope_at, here}
 use Rattle.pfc_types.specs.Blocks.{State, open_scope}
-use Rattle.pfc_types.specs.Visits.{Visit, AreCounted, guard_visits, head_visit, body_visits, init_visits, parts_visits, sub_visits, module_visits, process_visits, guard_views, body_views, init_views, parts_views, sub_views, module_views, process_views}
+use Rattle.pfc_types.specs.Visits.{Visit, AreCounted, guard_visits, head_visit, body_visits, init_visits, parts_visits, sub_visits, module_visits, process_visits}
+use Rattle.pfc_types.specs.Stops.{guard_views, body_views}
+use Rattle.pfc_types.proofs.PartViews.{init_views, parts_views, sub_views, module_views, process_views}
 use Rattle.pfc_types.specs.rules.Declarations.{Owner, elsewhere, Heading, heading, sub_headed, process_headed, process_cells, entries_state, module_owner, init_state, body_state, cells_rule, scope_cells, result_cells, parts_state, sub_state, module_state, process_state}
 use Rattle.pfc_types.specs.rules.Bodies.{init_scopes, passed, passed_groups, passed_entries, parts_scopes, level}
 use Rattle.pfc_types.proofs.Walking.{held, Opened, Walked, opened_trans, opened_inner, note_kept, open_opened, open_empty, kept_opened}

@@ -1,18 +1,21 @@
 -- The names in view at the bodies of all parts: the names that the walk over the bodies counts in the finished scopes are those that
 -- the scopes held when the walk over the declarations came there.
-use Rattle.std.proofs.Common.{◌≡◌, ℕ, ◌<◌, Bool, true, false, List, [], length, Some, sym, ap, ap₂, subst, arith}
+use Rattle.std.proofs.Common.{◌≡◌, ◌++◌, ◌+◌, ℕ, ◌<◌, Bool, true, false, List, [], length, Some, sym, ap, ap₂, subst, arith}
 use Rattle.pfc_tree.specs.trees.Parts.{PartTree, PartTrees, SubTree, ModuleTree, ProcessTree, ProgramTree, consts, types, vars, sub_part, monitor, resource, process_part, no_parts, more_parts, sub, the_module, process}
 use Rattle.pfc_types.specs.Growing.{Begins}
 use Rattle.pfc_types.specs.Scopes.{Names, Level, scope_at, here}
 use Rattle.pfc_types.specs.Blocks.{State, open_scope}
-use Rattle.pfc_types.specs.Visits.{AreCounted, part_visits, parts_visits, sub_visits, module_visits, process_visits, visits, part_views, parts_views, sub_views, module_views, process_views, views}
+use Rattle.pfc_types.specs.Visits.{AreCounted, part_visits, parts_visits, sub_visits, module_visits, process_visits, visits}
+use Rattle.pfc_types.specs.Stops.{views, stops, body_views}
+use Rattle.pfc_types.proofs.PartViews.{part_views, parts_views, sub_views, module_views, process_views}
 use Rattle.pfc_types.specs.rules.Declarations.{Owner, in_program, elsewhere, sub_headed, process_headed, entries_state, module_owner, cells_rule, part_state, parts_state, sub_state, module_state, process_state}
-use Rattle.pfc_types.specs.rules.Bodies.{passed_part, part_scopes}
-use Rattle.pfc_types.specs.rules.Whole.{begun, declared_all, scopes_of, main_cells}
+use Rattle.pfc_types.specs.rules.Bodies.{part_scopes, parts_scopes, passed_part}
+use Rattle.pfc_types.specs.rules.Whole.{begun, declared_all, declared_parts, finished, main_cells, scopes_of}
 use Rattle.pfc_types.proofs.Prefixes.{begins_same}
 use Rattle.pfc_types.proofs.Walking.{held, Walked, note_kept}
 use Rattle.pfc_types.proofs.WalkParts.{part_walked, parts_walked}
 use Rattle.pfc_types.proofs.Views.{AllWithin, within_grown, walked_grown, Finished, finished_later, finished_walked, counted_none, counted_both, counted_as}
+use Rattle.pfc_types.proofs.Stops.{bodies_seen}
 use Rattle.pfc_types.proofs.ViewsBlocks.{PartsCounted, sub_block, module_block, process_block, block_finished, block_counted}
 
 -- ## One part and the parts behind it
@@ -82,9 +85,17 @@ finished_same b scopes fin e =
     }
 
 -- The two walks over a tree have the same names in view at each body.
-pub program_counted : (t : ProgramTree) → AreCounted (scopes_of t).scopes (visits t) (views (scopes_of t).scopes t)
-program_counted t =
-    let fin = (scopes_of t).scopes in
-    let f = finished_same 0 fin (held (declared_all t)) (note_kept (declared_all t) (cells_rule (main_cells (declared_all t)) t.name.1)).scopes in
-    let f_declared = block_finished in_program begun 0 0 [] t.parts (Some t.body) fin f in
-    block_counted in_program begun 0 0 [] t.parts (Some t.body) fin (omega arith) (omega arith) tt f (parts_counted in_program begun 0 [] t.parts fin (omega arith) tt (finished_later f_declared (omega arith)))
+pub program_counted : (t : ProgramTree) → AreCounted (scopes_of t).scopes (visits t) (views (stops (finished t) t))
+program_counted t = counted_as {vs = visits t} counted (bodies_seen (finished t) t)
+  where
+    fin : List Names
+    fin = (scopes_of t).scopes
+
+    f : Finished 0 (held (declared_all t)) fin
+    f = finished_same 0 fin (held (declared_all t)) (note_kept (declared_all t) (cells_rule (main_cells (declared_all t)) t.name.1)).scopes
+
+    f_declared : Finished 0 (held (declared_parts t)) fin
+    f_declared = block_finished in_program begun 0 0 [] t.parts (Some t.body) fin f
+
+    counted : AreCounted fin (visits t) (parts_views fin 0 0 [] 1 t.parts ++ body_views fin (here fin 0 []) (1 + parts_scopes t.parts) t.body)
+    counted = block_counted in_program begun 0 0 [] t.parts (Some t.body) fin (omega arith) (omega arith) tt f (parts_counted in_program begun 0 [] t.parts fin (omega arith) tt (finished_later f_declared (omega arith)))

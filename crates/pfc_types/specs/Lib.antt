@@ -5,6 +5,7 @@ pub mod Faulty
 pub mod Fields
 pub mod Growing
 pub mod Scopes
+pub mod Stops
 pub mod Table
 pub mod Types
 pub mod Views

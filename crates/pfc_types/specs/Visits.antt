@@ -1,21 +1,18 @@
--- The names in view at each body, as the two walks over a tree have them, in the order of the text.
+-- The names in view at each body, as the walk over the declarations has them, in the order of the text.
 --
--- The walk over the declarations comes to a body, to a guard or to the statement of an accept with the scopes as they have grown so
--- far, and has all in view that they hold. The walk over the bodies has the finished scopes, and counts which of their names were
--- declared before that place. Each walk is followed here with the same steps as in the rules.
-use Rattle.std.specs.Prelude.{◌≡◌, ℕ, ◌+◌, Bool, true, false, List, [], ◌∷◌, ◌++◌, length, map, All, Option, Some, None}
+-- The walk comes to a body, to a guard or to the statement of an accept with the scopes as they have grown so far, and has all in view
+-- that they hold. It is followed here with the same steps as in the rules.
+use Rattle.std.specs.Prelude.{◌≡◌, ℕ, Bool, true, false, List, [], ◌∷◌, ◌++◌, length, map, All, Option, Some, None}
 use Rattle.pfc_tree.specs.Symbols.{Text}
 use Rattle.pfc_tree.specs.trees.Types.{GroupTree}
 use Rattle.pfc_tree.specs.trees.Stmts.{StmtTree, StmtTrees, BodyTree, ArmTree, ArmTrees, AcceptTree, AltTree, AltTrees, CommTree, empty, null, block, if_then, if_then_else, case_of, while_do, repeat_until, repeat_forever, for_do, cobegin, accepting, requeue, select, select_else, assign, send, receive, call, no_stmts, more_stmts, body, arm, no_arms, more_arms, accept, accept_do, alt, no_alts, more_alts, comm_accept, comm_send, comm_receive, timeout, terminate}
 use Rattle.pfc_tree.specs.trees.Parts.{KindTree, PartTree, PartTrees, SubTree, ModuleTree, ProcessTree, ProgramTree, procedure, function, guarded, consts, types, vars, sub_part, monitor, resource, process_part, no_parts, more_parts, sub, the_module, process}
-use Rattle.pfc_types.specs.Scopes.{Names, Level, scope_at, here, found_in}
+use Rattle.pfc_types.specs.Scopes.{Names, Level, here, found_in}
 use Rattle.pfc_types.specs.Blocks.{State, open_scope}
 use Rattle.pfc_types.specs.rules.Declarations.{Owner, in_program, elsewhere, Labels, heading, accepted, labels_noted, stmt_state, comm_state, alts_state, alt_state, arm_state, part_state, parts_state, sub_headed, process_headed, entries_state, module_owner}
-use Rattle.pfc_types.specs.rules.Statements.{scopes_in, arm_scopes, alts_scopes, alt_scopes, comm_scopes}
-use Rattle.pfc_types.specs.rules.Bodies.{passed, passed_part, passed_groups, passed_entries, part_scopes, parts_scopes, level}
 use Rattle.pfc_types.specs.rules.Whole.{begun, declared_parts}
 
--- ## The walk over the declarations
+-- ## Statements
 
 -- the scopes that there are so far, and what is in view of them
 pub record Visit : Type 0 where
@@ -150,114 +147,7 @@ visits t =
     let s = declared_parts t in
     parts_visits in_program begun 0 [] t.parts ++ body_visits s (here s.blocks.scopes 0 []) t.body
 
--- ## The walk over the bodies, with the finished scopes
-
-abbrev mutual
-  pub stmt_views : List Names → List Level → ℕ → StmtTree → List (List Level)
-  stmt_views scopes view next empty = []
-  stmt_views scopes view next (null p) = []
-  stmt_views scopes view next (block b p) = inner_views scopes view next b
-  stmt_views scopes view next (if_then e t p) = stmt_views scopes view next t
-  stmt_views scopes view next (if_then_else e t u p) = stmt_views scopes view next t ++ stmt_views scopes view (next + scopes_in t) u
-  stmt_views scopes view next (case_of e arms last p) = arms_views scopes view next arms
-  stmt_views scopes view next (while_do e t p) = stmt_views scopes view next t
-  stmt_views scopes view next (repeat_until ts e p) = stmts_views scopes view next ts
-  stmt_views scopes view next (repeat_forever ts p) = stmts_views scopes view next ts
-  stmt_views scopes view next (for_do x from down to t p q) = stmt_views scopes view next t
-  stmt_views scopes view next (cobegin ts last p) = stmts_views scopes view next ts
-  stmt_views scopes view next (accepting a p) = accept_views scopes view next a
-  stmt_views scopes view next (requeue x args p) = []
-  stmt_views scopes view next (select pri alts p q) = alts_views scopes view next alts
-  stmt_views scopes view next (select_else pri alts ts p q r) = alts_views scopes view next alts ++ stmts_views scopes view (next + alts_scopes alts) ts
-  stmt_views scopes view next (assign d e p q) = []
-  stmt_views scopes view next (send d e p q) = []
-  stmt_views scopes view next (receive d v p q) = []
-  stmt_views scopes view next (call d args p) = []
-
-  pub stmts_views : List Names → List Level → ℕ → StmtTrees → List (List Level)
-  stmts_views scopes view next no_stmts = []
-  stmts_views scopes view next (more_stmts t ts) = stmt_views scopes view next t ++ stmts_views scopes view (next + scopes_in t) ts
-
-  pub inner_views : List Names → List Level → ℕ → BodyTree → List (List Level)
-  inner_views scopes view next (body ts first last) = stmts_views scopes view next ts
-
-  pub arms_views : List Names → List Level → ℕ → ArmTrees → List (List Level)
-  arms_views scopes view next no_arms = []
-  arms_views scopes view next (more_arms a arms) = arm_views scopes view next a ++ arms_views scopes view (next + arm_scopes a) arms
-
-  pub arm_views : List Names → List Level → ℕ → ArmTree → List (List Level)
-  arm_views scopes view next (arm cs t) = stmt_views scopes view next t
-
-  pub accept_views : List Names → List Level → ℕ → AcceptTree → List (List Level)
-  accept_views scopes view next (accept x gs p) = []
-  accept_views scopes view next (accept_do x gs t p) =
-      let inner = here scopes next view in inner ∷ stmt_views scopes inner (next + 1) t
-
-  pub alts_views : List Names → List Level → ℕ → AltTrees → List (List Level)
-  alts_views scopes view next no_alts = []
-  alts_views scopes view next (more_alts a alts) = alt_views scopes view next a ++ alts_views scopes view (next + alt_scopes a) alts
-
-  pub alt_views : List Names → List Level → ℕ → AltTree → List (List Level)
-  alt_views scopes view next (alt guard c ts) = comm_views scopes view next c ++ stmts_views scopes view (next + comm_scopes c) ts
-
-  pub comm_views : List Names → List Level → ℕ → CommTree → List (List Level)
-  comm_views scopes view next (comm_accept a p) = accept_views scopes view next a
-  comm_views scopes view next (comm_send d e p) = []
-  comm_views scopes view next (comm_receive d v p) = []
-  comm_views scopes view next (timeout e p) = []
-  comm_views scopes view next (terminate p) = []
-
-abbrev pub body_views : List Names → List Level → ℕ → BodyTree → List (List Level)
-body_views scopes view next b = view ∷ inner_views scopes view next b
-
-abbrev pub init_views : List Names → List Level → ℕ → Option BodyTree → List (List Level)
-init_views scopes view next None = []
-init_views scopes view next (Some b) = body_views scopes view next b
-
-abbrev pub guard_views : KindTree → List Level → List (List Level)
-guard_views procedure view = []
-guard_views (function x p) view = []
-guard_views (guarded e p) view = view ∷ []
-
-abbrev mutual
-  pub part_views : List Names → ℕ → ℕ → List Level → ℕ → PartTree → List (List Level)
-  part_views scopes i n outer next (consts items) = []
-  part_views scopes i n outer next (types items) = []
-  part_views scopes i n outer next (vars vs) = []
-  part_views scopes i n outer next (sub_part b) = sub_views scopes i n outer next b
-  part_views scopes i n outer next (monitor m) = module_views scopes i n outer next m
-  part_views scopes i n outer next (resource m) = module_views scopes i n outer next m
-  part_views scopes i n outer next (process_part q) = process_views scopes i n outer next q
-
-  pub parts_views : List Names → ℕ → ℕ → List Level → ℕ → PartTrees → List (List Level)
-  parts_views scopes i n outer next no_parts = []
-  parts_views scopes i n outer next (more_parts q qs) =
-      part_views scopes i n outer next q ++ parts_views scopes i (passed_part (scope_at scopes i) n q) outer (next + part_scopes q) qs
-
-  pub sub_views : List Names → ℕ → ℕ → List Level → ℕ → SubTree → List (List Level)
-  sub_views scopes i n outer next (sub x gs kind ps b p) =
-      let own = scope_at scopes next in
-      let count = passed_groups own 0 gs in
-      let around = level i (passed (scope_at scopes i) n x) ∷ outer in
-      guard_views kind (level next count ∷ level i n ∷ outer)
-      ++ (parts_views scopes next count around (next + 1) ps ++ body_views scopes (here scopes next around) (next + 1 + parts_scopes ps) b)
-
-  pub module_views : List Names → ℕ → ℕ → List Level → ℕ → ModuleTree → List (List Level)
-  module_views scopes i n outer next (the_module x exports ps b last p) =
-      let around = level i n ∷ outer in
-      parts_views scopes next 0 around (next + 1) ps ++ init_views scopes (here scopes next around) (next + 1 + parts_scopes ps) b
-
-  pub process_views : List Names → ℕ → ℕ → List Level → ℕ → ProcessTree → List (List Level)
-  process_views scopes i n outer next (process many x gs es ps b p) =
-      let own = scope_at scopes next in
-      let count = passed_entries own (passed_groups own 0 gs) es in
-      let around = level i (passed (scope_at scopes i) n x) ∷ outer in
-      parts_views scopes next count around (next + 1) ps ++ body_views scopes (here scopes next around) (next + 1 + parts_scopes ps) b
-
-abbrev pub views : List Names → ProgramTree → List (List Level)
-views scopes t = parts_views scopes 0 0 [] 1 t.parts ++ body_views scopes (here scopes 0 []) (1 + parts_scopes t.parts) t.body
-
--- ## What the two have in common
+-- ## Beside the walk over the bodies
 
 -- each name is found alike in the finished scopes and in those that there were
 abbrev pub FindsAlike : List Names → Visit → Type 0

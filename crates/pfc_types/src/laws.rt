@@ -4,15 +4,16 @@ ghost use Rattle.pfc_tree.specs.Symbols.{Text};
 ghost use Rattle.pfc_tree.specs.views.Parts.{tree_view};
 ghost use Rattle.pfc_tree.specs.trees.Parts.{ProgramTree};
 ghost use Rattle.pfc_types.specs.Blocks.{State};
-ghost use Rattle.pfc_types.specs.Faults.{IsFirstOf};
+ghost use Rattle.pfc_types.specs.Faults.{IsFirstOf, listed};
 ghost use Rattle.pfc_types.specs.Faulty.{BeginsPredeclared, AreFaultyExactly, HoldSimpleConstants, AreWrittenExactly};
 ghost use Rattle.pfc_types.specs.Scopes.{Level, found_in, look};
-ghost use Rattle.pfc_types.specs.Visits.{AreCounted, visits, views};
+ghost use Rattle.pfc_types.specs.Visits.{AreCounted, visits};
+ghost use Rattle.pfc_types.specs.Stops.{views, stops, broken_stops};
 ghost use Rattle.pfc_types.specs.rules.Bodies.{parts_scopes};
 ghost use Rattle.pfc_types.specs.rules.Expressions.{Env};
 ghost use Rattle.pfc_types.specs.rules.FaultyNames.{is_faulty_found, stands_faulty};
 ghost use Rattle.pfc_types.specs.rules.Statements.{body_scopes};
-ghost use Rattle.pfc_types.specs.rules.Whole.{broken, first_fault, first_concurrency_fault, types_of, scopes_of};
+ghost use Rattle.pfc_types.specs.rules.Whole.{broken, first_fault, first_concurrency_fault, types_of, scopes_of, finished, broken_bodies};
 
 use pfc_tree::Tree;
 
@@ -47,9 +48,11 @@ pub fn a_type_is_faulty_exactly()
 
 /// The names in view at a body, counted over the finished scopes, are those that the scopes held when the declarations
 /// before it had been made: at each body, guard and statement of an accept the two walks over a tree have the same view,
-/// and each name is found alike over the finished scopes and over those that there were. One scope is opened for the
-/// program, for each block in it and for each accept.
+/// and each name is found alike over the finished scopes and over those that there were. The rules that the second walk
+/// finds broken are those at its stops, the bodies and the guards. One scope is opened for the program, for each block in
+/// it and for each accept.
 pub fn names_in_view_are_counted()
-    ensures views { (t : ProgramTree) → AreCounted (scopes_of t).scopes (visits t) (views (scopes_of t).scopes t) }
+    ensures views { (t : ProgramTree) → AreCounted (scopes_of t).scopes (visits t) (views (stops (finished t) t)) }
+    ensures stops { (s : State) (t : ProgramTree) → listed (broken_bodies s t) ≡ broken_stops (stops s t) }
     ensures count { (t : ProgramTree) → length (scopes_of t).scopes ≡ 1 + parts_scopes t.parts + body_scopes t.body }
 {}

@@ -1,0 +1,4 @@
+pub mod Firsts
+pub mod Giving
+pub mod Homes
+pub mod Parsing

@@ -1,5 +1,5 @@
 //! What a name of a program stands for, and the names of one block.
-ghost use Rattle.std.specs.Prelude.{◌≡◌, ◌++◌, List, [], ◌∷◌, ◌<◌, ℕ, IsSome, IfOk, IfErr, OnOk, OnErr, length, option_map, option_copied};
+ghost use Rattle.std.specs.Prelude.{◌≡◌, ◌++◌, List, [], ◌∷◌, ◌<◌, ℕ, IsSome, IfOk, IfErr, OnOk, OnErr, length, option_map, option_copied, get_or};
 
 use crate::TypeId;
 use indexmap::IndexMap;
@@ -69,6 +69,7 @@ impl Model for Scope {
 
 impl Scope {
     ghost use Rattle.pfc_types.specs.Scopes.{meaning_in, position_in};
+    ghost use Rattle.pfc_types.specs.declared.scope.Meaning.{Meaning};
     ghost use Rattle.pfc_types.specs.declared.scope.ScopeFault.{ScopeFault};
     ghost use Rattle.pfc_types.specs.declared.scope.ScopeFault.TheVariants.{Repeated};
 
@@ -125,5 +126,17 @@ impl Scope {
         ensures { result ≡ length self.now }
     {
         self.names.len() as u32
+    }
+
+    /// What the name at a place of the layout stands for, from 0.
+    #[tactic(auto, using(crate::proofs::Names::reads))]
+    pub fn meaning_at(&self, i: u32) -> Meaning
+        requires { i < length self.now }
+        ensures { (d : List ℕ × Meaning) → result ≡ (get_or self.now i d).1 }
+    {
+        match self.names.get_index(i as usize) {
+            Some((_, meaning)) => *meaning,
+            None => unreachable!(),
+        }
     }
 }

@@ -1,0 +1,4 @@
+pub mod Counts
+pub mod Fields
+pub mod Nodes
+pub mod Single

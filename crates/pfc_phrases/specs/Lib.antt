@@ -1,0 +1,4 @@
+pub mod Fields
+pub mod Found
+pub mod Single
+pub mod Views

@@ -1,0 +1,20 @@
+//! The static rules of statements and bodies.
+//!
+//! It promises the first broken rule of a tree whose declarations are finished, among all rules or among those of
+//! concurrency, exactly where there is one. It takes no memory. It makes no declaration: the table of types and the scopes are
+//! given, with the rules that were found broken in the declarations.
+#![tactic(auto)]
+
+mod assignments;
+mod bodies;
+mod communication;
+mod first;
+mod heads;
+mod passing;
+mod selects;
+mod statements;
+
+pub use first::{concurrency_fault, first_broken};
+
+#[cfg(test)]
+mod tests;

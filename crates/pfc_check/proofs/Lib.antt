@@ -1,0 +1,4 @@
+mod Arrays
+mod Endings
+mod Labels
+mod Lengths

@@ -1,5 +1,5 @@
 -- The refusals of a text: their codes, their words, and their line.
-use Rattle.std.specs.Prelude.{ℕ, ◌==◌, IsSome, Option, unwrap_or, List, [], ◌∷◌, ◌++◌, codes}
+use Rattle.std.specs.Prelude.{ℕ, ◌==◌, Option, unwrap_or, List, [], ◌∷◌, ◌++◌, codes}
 use Rattle.std.specs.Map.{lookup}
 use Rattle.std.specs.Fmt.{decimal}
 use Rattle.pfc_base.specs.declared.faults.Refusal.{Refusal}
@@ -68,10 +68,6 @@ refusal_table =
 -- the words of a code, where there is such a code
 abbrev pub words_of_code : ℕ → Option (List ℕ)
 words_of_code code = lookup (λ known. code == known) refusal_table
-
--- the code stands in the table
-abbrev pub IsRefusalCode : ℕ → Type 0
-IsRefusalCode code = IsSome (words_of_code code)
 
 -- the line of a refused text: the code, the place of the broken rule, and the words
 abbrev pub refusal_line_text : Refusal → List ℕ

@@ -1,18 +1,17 @@
 //! Refusals: of a text, and of the words of the command line.
 ghost use Rattle.std.specs.Prelude.{◌≡◌, IfOk, MatchOption, Some, None};
-ghost use Rattle.pfc_report.specs.Refusals.{IsRefusalCode, refusal_line_text, words_of_code, words_refused_text};
+ghost use Rattle.pfc_report.specs.Refusals.{refusal_line_text, words_of_code, words_refused_text};
 
 use pfc_base::{Memory, Refusal};
 use pfc_code::Page;
 use std::alloc::Global;
 
-/// The line of a refused text: the code of the broken rule, its place and its words. Its only refusal is want
-/// of memory.
+/// The line of a refused text: the code of the broken rule, its place and its words, which are none for a code that is
+/// not in the table. Its only refusal is want of memory.
 pub fn refusal_line(alloc: Global, refusal: &Refusal) -> Result<Vec<u8>, Memory>
-    requires { IsRefusalCode refusal.now.code }
     ensures { IfOk result (λ text. text.items ≡ refusal_line_text refusal.now) }
 {
-    let words = refusal_text(refusal.code).unwrap();
+    let words = refusal_text(refusal.code).unwrap_or("");
     let mut page = Page::new(alloc);
     page.text(b"-- refused ")?;
     page.number(refusal.code as u64)?;

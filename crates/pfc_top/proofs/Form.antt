@@ -1,12 +1,10 @@
 -- The reader of the first form reads what is written, and nothing else.
-use Rattle.std.proofs.Common.{◌≡◌, ℕ, pos, List, [], ◌∷◌, ◌++◌, Some, None, refl, ap, ◌∙◌, sym, subst, rules, codes, append_assoc}
+use Rattle.std.proofs.Common.{◌≡◌, ℕ, pos, List, [], ◌∷◌, ◌++◌, Some, None, refl, ap, ◌∙◌, sym, subst, codes, append_assoc}
 use Rattle.pfc_base.specs.declared.tokens.Kind.{Kind}
 use Rattle.pfc_base.specs.declared.tokens.Kind.TheVariants.{Word, Sign, Name, Number}
 use Rattle.pfc_base.specs.declared.tokens.Token.{Token}
 use Rattle.pfc_base.specs.declared.word.TheConstants.{BEGIN, END, PROGRAM}
 use Rattle.pfc_base.specs.declared.sign.TheConstants.{PLUS, OPEN_PAREN, CLOSE_PAREN, DOT, SEMICOLON}
-use Rattle.pfc_scan.specs.Scanning.{IsScanCode, bad_byte, open_comment, open_literal, large_number, real_number, long_name}
-use Rattle.pfc_report.specs.Refusals.{IsRefusalCode}
 use Rattle.pfc_top.specs.declared.items.Item.{Item}
 use Rattle.pfc_top.specs.declared.items.Printing.{Printing}
 use Rattle.pfc_top.specs.declared.items.Printing.TheVariants.{Write, WriteLine, NewLine}
@@ -16,18 +14,6 @@ use Rattle.pfc_top.specs.declared.reader.State.{State}
 use Rattle.pfc_top.specs.declared.reader.State.TheVariants.{Heading, Named, Headed, Between, Writing, WritingLine, Adding, Added, Listed, Ended, Whole}
 use Rattle.pfc_top.specs.Form.{Written, plain, more_written, sum_written, called, printing_written, semicolon_written, items_written, program_written, HasNumbers, AllHaveNumbers, HasItems, IsKept, AreTokens, HasForm}
 use Rattle.pfc_top.specs.Reader.{Stage, start, next, step, read_from, program_in, whole}
-
-known : (c d : ℕ) → c ≡ d → IsRefusalCode d → IsRefusalCode c
-known c d e h = subst IsRefusalCode (sym e) h
-
--- each code of the scanner stands in the table of refusals
-pub scan_code_known : (c : ℕ) → IsScanCode c → IsRefusalCode c
-scan_code_known c (bad_byte e) = known c 101 e (search rules)
-scan_code_known c (open_comment e) = known c 102 e (search rules)
-scan_code_known c (open_literal e) = known c 103 e (search rules)
-scan_code_known c (large_number e) = known c 104 e (search rules)
-scan_code_known c (real_number e) = known c 105 e (search rules)
-scan_code_known c (long_name e) = known c 106 e (search rules)
 
 -- ---- what is written is read
 

@@ -1,3 +1,4 @@
+pub mod Joining
 pub mod Form
 pub mod Last
 pub mod Simulation

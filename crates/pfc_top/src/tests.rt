@@ -1,5 +1,11 @@
 //! Texts, words, files and sinks from outside, each with the status and the bytes that are owed.
 
+mod deep_and_long;
+mod refusals;
+mod static_faults;
+mod syntax_faults;
+mod unbuilt;
+
 use crate::pfc;
 use pfc_base::Memory;
 use pfc_io::{MemoryShelf, MemorySink};
@@ -72,16 +78,29 @@ fn texts_are_answered(rt: HostRuntime) -> Result<(), Fail> {
             1,
             "-- refused 101 at line 1, column 18: bad byte\n",
         ),
-        ("", 1, NOT_BUILT),
         ("program a; begin end.", 1, NOT_BUILT),
-        ("program a; begin writeln(1) end", 1, NOT_BUILT),
-        ("program a; begin writeln(1) end..", 1, NOT_BUILT),
-        ("program a; begin writeln() end.", 1, NOT_BUILT),
-        ("program a; begin writeln(1+) end.", 1, NOT_BUILT),
-        ("program a; begin write end.", 1, NOT_BUILT),
         ("program a; begin writeln(1); end.", 1, NOT_BUILT),
         ("program a; begin writeln(1:2) end.", 1, NOT_BUILT),
-        ("program a; begin writeln(1) end. a", 1, NOT_BUILT),
+        (
+            "program a; begin write end.",
+            1,
+            "-- refused 316 at line 1, column 18: wrong number of arguments\n",
+        ),
+        (
+            "program a; begin x := 1; write('a) end.",
+            1,
+            "-- refused 103 at line 1, column 32: open literal\n",
+        ),
+        (
+            "program a; begin x := 1; write(1 end.",
+            1,
+            "-- refused 201 at line 1, column 34: syntax\n",
+        ),
+        (
+            "program a;\nbegin\n  x := 1;\n  y := 2\nend.",
+            1,
+            "-- refused 301 at line 3, column 3: unknown name\n",
+        ),
     ] {
         let (given, written) = answer(rt.alloc(), text.as_bytes())?;
         assert_eq!(rt; given, status, "in {text:?}");

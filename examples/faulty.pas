@@ -1,0 +1,5 @@
+program faulty;
+var count: integer; ready: boolean;
+begin
+  count := ready
+end.

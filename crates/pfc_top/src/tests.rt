@@ -74,6 +74,16 @@ fn texts_are_answered(rt: HostRuntime) -> Result<(), Fail> {
             "-- refused 104 at line 1, column 26: number too large\n",
         ),
         (
+            "program a; begin writeln(99999999999.5) end.",
+            1,
+            "-- refused 105 at line 1, column 26: real number\n",
+        ),
+        (
+            "program a; begin write('a'') end.",
+            1,
+            "-- refused 103 at line 1, column 27: open literal\n",
+        ),
+        (
             "program a; begin $ end.",
             1,
             "-- refused 101 at line 1, column 18: bad byte\n",

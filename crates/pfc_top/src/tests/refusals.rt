@@ -1,7 +1,7 @@
 //! Each refused text has the line of its first fault.
 
 use super::answer;
-use super::static_faults::{CONCURRENT, SEQUENTIAL};
+use super::static_faults::{CONCURRENT, NEIGHBOURS, SEQUENTIAL};
 use super::syntax_faults::SYNTAX;
 use pfc_base::Memory;
 use std::alloc::Global;
@@ -41,6 +41,17 @@ fn texts_that_break_a_sequential_rule(rt: HostRuntime) -> Result<(), Fail> {
 #[test]
 fn texts_that_break_a_rule_of_concurrency(rt: HostRuntime) -> Result<(), Fail> {
     for (text, fault) in &CONCURRENT {
+        assert!(rt;
+            is_refused_with(rt.alloc(), text.as_bytes(), fault)?,
+            "in {text:?}"
+        );
+    }
+    Ok(())
+}
+
+#[test]
+fn texts_that_break_neighbouring_rules(rt: HostRuntime) -> Result<(), Fail> {
+    for (text, fault) in &NEIGHBOURS {
         assert!(rt;
             is_refused_with(rt.alloc(), text.as_bytes(), fault)?,
             "in {text:?}"

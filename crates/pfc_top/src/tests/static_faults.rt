@@ -463,3 +463,111 @@ pub(super) static CONCURRENT: [(&str, &str); 40] = [
         "424 at line 1, column 73: too many processes",
     ),
 ];
+
+/// Texts in which the faulty part of one rule is asked for by another, and names at places where few may stand.
+pub(super) static NEIGHBOURS: [(&str, &str); 26] = [
+    (
+        "program a; procedure p(n: integer); begin end; begin p(m) end.",
+        "301 at line 1, column 56: unknown name",
+    ),
+    (
+        "program a; process p; entry e(n: integer); begin accept e(n: integer) do null; writeln(n) end; begin end.",
+        "301 at line 1, column 88: unknown name",
+    ),
+    (
+        "program a; function f(n: integer; n: char): integer; begin f := 1 end; begin end.",
+        "302 at line 1, column 35: repeated name",
+    ),
+    (
+        "program a; procedure p(n: integer; k: n); begin end; begin end.",
+        "310 at line 1, column 39: wrong kind of name",
+    ),
+    (
+        "program a; const any1 = any; begin end.",
+        "310 at line 1, column 25: wrong kind of name",
+    ),
+    (
+        "program a; begin any := 1 end.",
+        "310 at line 1, column 18: wrong kind of name",
+    ),
+    (
+        "program a; begin for any := 1 to 2 do null end.",
+        "310 at line 1, column 22: wrong kind of name",
+    ),
+    (
+        "program a; resource r; var v: integer; guarded procedure p when true; begin requeue v end; end; begin end.",
+        "310 at line 1, column 85: wrong kind of name",
+    ),
+    (
+        "program a; const c = 1; begin c.e end.",
+        "310 at line 1, column 31: wrong kind of name",
+    ),
+    (
+        "program a; var b: boolean; function f(n: boolean): boolean; begin f := n end; begin b := f(1 + true) end.",
+        "311 at line 1, column 94: wrong operand",
+    ),
+    (
+        "program a; var b: boolean; begin b := true + x end.",
+        "311 at line 1, column 44: wrong operand",
+    ),
+    (
+        "program a; var i: integer; s: semaphore; begin i := s end.",
+        "312 at line 1, column 50: types differ",
+    ),
+    (
+        "program a; var c: channel of synchronous; begin c ! 1 end.",
+        "312 at line 1, column 51: types differ",
+    ),
+    (
+        "program a; var r: record x: integer end; begin r.e := 1 end.",
+        "315 at line 1, column 50: no such field",
+    ),
+    (
+        "program a; resource r; guarded procedure p when true; begin end; procedure q; begin p(1) end; end; begin end.",
+        "316 at line 1, column 85: wrong number of arguments",
+    ),
+    (
+        "program a; var c: channel of integer; begin select c ! 1; or timeout 'a' end end.",
+        "317 at line 1, column 70: wrong argument",
+    ),
+    (
+        "program a; procedure p(var n: integer); begin end; begin p('a') end.",
+        "317 at line 1, column 60: wrong argument",
+    ),
+    (
+        "program a; procedure p(var n: integer); begin end; begin p(any) end.",
+        "318 at line 1, column 60: variable expected",
+    ),
+    (
+        "program a; begin read(any) end.",
+        "318 at line 1, column 23: variable expected",
+    ),
+    (
+        "program a; var i: integer; begin for i := true to x do null end.",
+        "321 at line 1, column 38: bad for",
+    ),
+    (
+        "program a; var i: integer; begin i := 'ab' + x end.",
+        "325 at line 1, column 39: string not allowed",
+    ),
+    (
+        "program a; procedure p; var r: record s: semaphore; c: condition end; begin end; begin end.",
+        "404 at line 1, column 32: not in the program's variables",
+    ),
+    (
+        "program a; var c: channel of synchronous; begin c ! (any) end.",
+        "412 at line 1, column 51: any not allowed",
+    ),
+    (
+        "program a; process type w; begin end; var t: array[1..2] of w; begin t[1].e end.",
+        "413 at line 1, column 75: no such entry",
+    ),
+    (
+        "program a; var n: integer; resource r; guarded procedure p when n; begin end; end; begin end.",
+        "420 at line 1, column 65: bad guard",
+    ),
+    (
+        "program a; resource r; guarded procedure p(n: integer) when true; begin end; procedure q; begin p(1) end; end; begin end.",
+        "423 at line 1, column 97: guarded procedure called",
+    ),
+];

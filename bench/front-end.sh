@@ -1,7 +1,8 @@
 #!/bin/bash
 # Counts the instructions that the program `pfc` takes for each byte of ordinary program text, at four lengths: up to a
 # refusal by the scanner at the end of the text, up to one by the parser there, and for a text without a fault, which the
-# checker sees whole. Each count is less that of the same refusal of a short text. It needs rt and valgrind.
+# checker sees whole. Then it counts those of scanner and parser for each token of a text of calls, with as many tokens
+# as bytes. Each count is less that of the same refusal of a short text. It needs rt and valgrind.
 set -e
 here="$(cd "$(dirname "$0")" && pwd)"
 program="$here/../crates/pfc/out/pfc"
@@ -35,4 +36,18 @@ for size in 32 64 128 256; do
         line="$line $(((all - none) / bytes)) instructions a byte $step,"
     done
     echo "$line $("$program" "$text.checked" | head -c 60)"
+done
+
+# a text with so many tokens, a call and a `;` in turn, without its final `.`
+calls() {
+    printf 'program a; begin '
+    head -c "$1" /dev/zero | sed 's/\x00\x00/a;/g'
+    printf ' end'
+}
+
+none="$(instructions "$work/short.pas.parsed")"
+for tokens in 10000 65000 130000 260000; do
+    calls $tokens > "$work/calls.pas"
+    all="$(instructions "$work/calls.pas")"
+    echo "$tokens tokens: $(((all - none) / tokens)) instructions a token scanned and parsed"
 done

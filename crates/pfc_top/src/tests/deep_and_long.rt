@@ -1,7 +1,7 @@
 //! Texts that nest as deep, or go on as long, as a text can.
 
 use super::answer;
-use pfc_base::Memory;
+use pfc_base::{Memory, decimal};
 use std::alloc::Global;
 use std::test::Fail;
 
@@ -120,8 +120,9 @@ fn nested_procedures(rt: HostRuntime) -> Result<(), Fail> {
 fn many_declarations(rt: HostRuntime) -> Result<(), Fail> {
     let mut text = Vec::from_slice(rt.alloc(), b"program a;\n")?;
     for n in 0..10_000 {
-        let item = format!(in rt.alloc(); "var v{n}: integer;\n")?;
-        text.extend_from_slice(item.as_bytes())?;
+        text.extend_from_slice(b"var v")?;
+        text.extend_from_slice(decimal(rt.alloc(), n)?.bytes())?;
+        text.extend_from_slice(b": integer;\n")?;
     }
     let mut repeating = Vec::from_slice(rt.alloc(), &text)?;
     text.extend_from_slice(b"begin v9999 := v0 end.")?;

@@ -60,24 +60,50 @@ fn texts_that_break_neighbouring_rules(rt: HostRuntime) -> Result<(), Fail> {
     Ok(())
 }
 
-/// Each beginning of a program is refused where a token is missing or is no token yet.
+/// The bytes of a program, each with the fault of the text before it: where a token is missing or is no token yet.
+static BEGINNINGS: [(u8, &str); 34] = [
+    (b'p', "201 at line 1, column 1: syntax"),
+    (b'r', "201 at line 1, column 1: syntax"),
+    (b'o', "201 at line 1, column 1: syntax"),
+    (b'g', "201 at line 1, column 1: syntax"),
+    (b'r', "201 at line 1, column 1: syntax"),
+    (b'a', "201 at line 1, column 1: syntax"),
+    (b'm', "201 at line 1, column 1: syntax"),
+    (b' ', "201 at line 1, column 8: syntax"),
+    (b'a', "201 at line 1, column 9: syntax"),
+    (b';', "201 at line 1, column 10: syntax"),
+    (b' ', "201 at line 1, column 11: syntax"),
+    (b'b', "201 at line 1, column 12: syntax"),
+    (b'e', "201 at line 1, column 12: syntax"),
+    (b'g', "201 at line 1, column 12: syntax"),
+    (b'i', "201 at line 1, column 12: syntax"),
+    (b'n', "201 at line 1, column 12: syntax"),
+    (b' ', "201 at line 1, column 17: syntax"),
+    (b'w', "201 at line 1, column 18: syntax"),
+    (b'r', "201 at line 1, column 19: syntax"),
+    (b'i', "201 at line 1, column 20: syntax"),
+    (b't', "201 at line 1, column 21: syntax"),
+    (b'e', "201 at line 1, column 22: syntax"),
+    (b'l', "201 at line 1, column 23: syntax"),
+    (b'n', "201 at line 1, column 24: syntax"),
+    (b'(', "201 at line 1, column 25: syntax"),
+    (b'1', "201 at line 1, column 26: syntax"),
+    (b'+', "201 at line 1, column 27: syntax"),
+    (b'2', "201 at line 1, column 28: syntax"),
+    (b')', "201 at line 1, column 29: syntax"),
+    (b' ', "201 at line 1, column 30: syntax"),
+    (b'e', "201 at line 1, column 31: syntax"),
+    (b'n', "201 at line 1, column 31: syntax"),
+    (b'd', "201 at line 1, column 31: syntax"),
+    (b'.', "201 at line 1, column 34: syntax"),
+];
+
 #[test]
 fn beginnings_of_a_program(rt: HostRuntime) -> Result<(), Fail> {
-    let text = b"program a; begin writeln(1+2) end.";
-    for length in 0..34 {
-        let (status, written) = answer(rt.alloc(), &text[..length])?;
-        let column = match length {
-            1..7 => 1,
-            12..16 => 12,
-            31..33 => 31,
-            _ => length + 1,
-        };
-        let line = format!(in rt.alloc(); "-- refused 201 at line 1, column {column}: syntax\n")?;
-        assert_eq!(rt; status, 1);
-        assert!(rt;
-            written.as_slice() == line.as_bytes(),
-            "behind {length} bytes"
-        );
+    let mut text = Vec::new(rt.alloc());
+    for (byte, fault) in &BEGINNINGS {
+        assert!(rt; is_refused_with(rt.alloc(), &text, fault)?, "before {byte}");
+        text.push(*byte)?;
     }
     Ok(())
 }

@@ -36,7 +36,7 @@ impl Draws {
 
     /// A number from 0 to `n`: the next word modulo `n + 1`. It is the fault of a negative argument, without a word
     /// drawn, where `n` is negative.
-    pub fn draw(&mut self, n: i32) -> Result<i32, RunFault>
+    pub fn draw(&mut self, n: i64) -> Result<i64, RunFault>
         ensures answer { result ≡ drawn self.old n }
         ensures words { self.new ≡ after_draw self.old n }
     {
@@ -44,6 +44,6 @@ impl Draws {
             return Err(RunFault::Below);
         }
         let word = next_word(&mut self.words);
-        Ok((word % (n.unsigned_abs() + 1)) as i32)
+        Ok((u64::from(word) % (n.unsigned_abs() + 1)) as i64)
     }
 }

@@ -1,0 +1,10 @@
+pub mod Expressions
+pub mod Frames
+pub mod Operators
+pub mod Remainders
+pub mod Statements
+pub mod Store
+pub mod Unbuilt
+pub mod Values
+pub mod Configurations
+pub mod Runs

@@ -1,0 +1,8 @@
+pub mod Answers
+pub mod Fits
+pub mod Operands
+pub mod Refs
+pub mod Rows
+pub mod Samples
+pub mod Stacks
+pub mod Starts

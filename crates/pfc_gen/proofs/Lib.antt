@@ -1,0 +1,11 @@
+pub mod Fields
+pub mod Layouts
+pub mod Nodes
+pub mod Wholes
+pub mod Items
+pub mod Patching
+pub mod Targets
+pub mod Cases
+pub mod Large
+pub mod Fitting
+pub mod Lists

@@ -1,0 +1,12 @@
+pub mod Arms
+pub mod Cells
+pub mod Images
+pub mod Items
+pub mod Layouts
+pub mod Making
+pub mod Phrases
+pub mod Routines
+pub mod Sites
+pub mod Statements
+pub mod Uses
+pub mod Wholes

@@ -1,0 +1,10 @@
+pub mod Arrivals
+pub mod Beginnings
+pub mod Lines
+pub mod Memory
+pub mod Onward
+pub mod Outputs
+pub mod Placing
+pub mod Quiet
+pub mod Stepping
+pub mod Turns

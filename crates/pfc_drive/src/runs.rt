@@ -1,0 +1,148 @@
+//! Runs: actions one after the other, until an ending.
+ghost use Rattle.std.specs.Prelude.{◌≡◌, ℕ, ◌+◌, ◌<◌, ◌≤◌, ◌^◌, Option, Some, None, length, IfSome};
+ghost use Rattle.pfc_code.specs.Images.{plain_image};
+ghost use Rattle.pfc_drive.specs.Courses.{run_left, IsCourse, IsActed, IsTurn, IsOfMain};
+ghost use Rattle.pfc_drive.specs.Programs.{IsProgram};
+ghost use Rattle.pfc_drive.specs.Standing.{Stands};
+ghost use Rattle.pfc_drive.specs.Steps.{IsReady};
+ghost use Rattle.pfc_io.specs.Counts.{Rose};
+ghost use Rattle.pfc_meaning.specs.Configurations.{Config, step};
+ghost use Rattle.pfc_meaning.specs.Runs.{is_done, run_from};
+ghost use Rattle.pfc_relation.specs.Standing.{Program, IsChecked};
+ghost use Rattle.pfc_sched.specs.Picks.{Picking, item_of};
+ghost use Rattle.pfc_world.specs.Tables.{at};
+
+use crate::{Done, Session};
+use pfc_code::Image;
+use pfc_io::{Sink, write_all};
+use pfc_sched::{Pick, Picker};
+use pfc_values::Output;
+use pfc_world::{Ending, ScriptWhy, State};
+use std::alloc::Global;
+
+impl Session {
+    /// Performs actions until an ending, each of the process that is picked. What an action prints is written to the sink
+    /// behind it. The ending is that of the run from here on, of which `limit` actions may have been done at its end;
+    /// or the sink took no more bytes, or memory was refused.
+    pub fn run<O: Sink>(
+        &mut self,
+        alloc: Global,
+        image: &Image,
+        picker: &mut Picker,
+        limit: u64,
+        sink: &mut O,
+    ) -> Ending
+        requires before { (g : Program) × (c : Config) × IsProgram g (plain_image image.now) × IsChecked g × Stands g self.old c × (c.fault ≡ None) }
+        requires few { self.old.table.done ≤ limit }
+        requires most { limit ≤ 10 ^ 18 }
+        ensures run { (g : Program) (c : Config) → IsProgram g (plain_image image.now) → IsChecked g → Stands g self.old c → c.fault ≡ None → IsCourse g (run_left g limit picker.old c) c self.new result (O.written sink.old) (O.written sink.new) }
+        ensures faults { O.faults sink.old ≤ O.faults sink.new }
+        ensures failed { result ≡ Ending.SinkFailed → Rose (O.faults sink.old) (O.faults sink.new) }
+        ensures main { IsOfMain result }
+    {
+        let mut out = Output::new(alloc);
+        loop {
+            if let Some(ending) = self.turn(image, picker, limit, &mut out, sink) {
+                return ending;
+            }
+        }
+    }
+
+    /// One turn of a run: its ending, or the action of the process that is picked. It answers the ending, or None where
+    /// the run goes on.
+    fn turn<O: Sink>(
+        &mut self,
+        image: &Image,
+        picker: &mut Picker,
+        limit: u64,
+        out: &mut Output,
+        sink: &mut O,
+    ) -> Option<Ending>
+        requires before { (g : Program) × (c : Config) × IsProgram g (plain_image image.now) × IsChecked g × Stands g self.old c × (c.fault ≡ None) }
+        requires few { self.old.table.done ≤ limit }
+        requires most { limit ≤ 10 ^ 18 }
+        ensures turn { (g : Program) (c : Config) → IsProgram g (plain_image image.now) → IsChecked g → Stands g self.old c → c.fault ≡ None → IsTurn g limit picker.old picker.new c self.new result (O.written sink.old) (O.written sink.new) }
+        ensures up { result ≡ None → self.new.table.done ≡ self.old.table.done + 1 }
+        ensures faults { O.faults sink.old ≤ O.faults sink.new }
+        ensures failed { result ≡ Some Ending.SinkFailed → Rose (O.faults sink.old) (O.faults sink.new) }
+        ensures main { IfSome result IsOfMain }
+    {
+        self.settle();
+        if self.is_over() {
+            return Some(Ending::Finished);
+        }
+        if self.world.done() >= limit {
+            return Some(Ending::Limit(limit));
+        }
+        match picker.pick(&self.world) {
+            Pick::Process(p) => self.act_out(image, p, out, sink),
+            Pick::Nobody => Some(Ending::Deadlock),
+            Pick::NotReady(p) => Some(script(picker, ScriptWhy::NotReady(p))),
+            Pick::NoProcess(p) => Some(script(picker, ScriptWhy::NoProcess(p))),
+            Pick::ScriptEnd => Some(script(picker, ScriptWhy::Ended)),
+        }
+    }
+
+    /// Whoever is due is ready. Nobody waits for a moment, so nothing changes.
+    fn settle(&mut self)
+        requires { (g : Program) × (c : Config) × Stands g self.old c }
+        ensures { self.new ≡ self.old }
+    {
+        self.world.settle();
+    }
+
+    /// Main has finished.
+    fn is_over(&self) -> bool
+        requires { 0 < length self.now.table.rows }
+        ensures { result ≡ is_done (at self.now.table.rows 0) }
+    {
+        matches!(self.world.state(0), State::Done)
+    }
+
+    /// One action of a process, and its bytes to the sink. It answers the ending that this is, or None where the run goes
+    /// on.
+    fn act_out<O: Sink>(
+        &mut self,
+        image: &Image,
+        p: u32,
+        out: &mut Output,
+        sink: &mut O,
+    ) -> Option<Ending>
+        requires ready { (g : Program) × (c : Config) × IsReady g (plain_image image.now) self.old c p }
+        requires few { self.old.table.done < 10 ^ 18 }
+        ensures up { result ≡ None → self.new.table.done ≡ self.old.table.done + 1 }
+        ensures acted { (g : Program) (c : Config) → IsReady g (plain_image image.now) self.old c p → (limit left : ℕ) (picking : Picking) → IsActed g c (step g.env c p) self.new result (run_from g.env limit left picking (step g.env c p)) (O.written sink.old) (O.written sink.new) }
+        ensures faults { O.faults sink.old ≤ O.faults sink.new }
+        ensures failed { result ≡ Some Ending.SinkFailed → Rose (O.faults sink.old) (O.faults sink.new) }
+        ensures main { IfSome result IsOfMain }
+    {
+        out.clear();
+        let Ok(done) = self.act(image, p, out) else {
+            return Some(Ending::Memory);
+        };
+        let Ok(()) = write_all(sink, out.bytes()) else {
+            return Some(Ending::SinkFailed);
+        };
+        match done {
+            Done::Stepped => None,
+            Done::Faulted { line, fault } => {
+                self.settle();
+                Some(Ending::Fault {
+                    process: p,
+                    line,
+                    fault,
+                })
+            }
+        }
+    }
+}
+
+/// The script gave no ready process.
+fn script(picker: &Picker, why: ScriptWhy) -> Ending
+    ensures { result ≡ Ending.Script (item_of picker.now) why }
+{
+    Ending::Script {
+        item: picker.item(),
+        why,
+    }
+}

@@ -104,7 +104,7 @@ impl Session {
         ensures { (old bytes : List ℕ) → length old ≡ before → out.now ≡ old ++ bytes → self.new ≡ record self.old { in_line = open_behind self.old.in_line bytes } }
     {
         if before < out.bytes().len() {
-            self.open = out.ends_inside_line();
+            self.in_line = out.ends_inside_line();
         }
     }
 

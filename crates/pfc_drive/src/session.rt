@@ -34,7 +34,7 @@ pub struct Session {
     pub(crate) input: Input,
     pub(crate) draws: Draws,
     /// The output is not empty and has no line end at its end.
-    pub(crate) open: bool,
+    pub(crate) in_line: bool,
 }
 
 impl Model for Session {
@@ -42,7 +42,7 @@ impl Model for Session {
 
     ghost Value = { State };
 
-    ghost view = { λ s. record { stacks = s.store; table = s.world; lines = s.lines.items; input = s.input; words = s.draws; in_line = s.open } };
+    ghost view = { λ s. record { stacks = s.store; table = s.world; lines = s.lines.items; input = s.input; words = s.draws; in_line = s.in_line } };
 }
 
 impl Session {
@@ -71,7 +71,7 @@ impl Session {
             lines,
             input: Input::new(alloc, input)?,
             draws: Draws::new(seed),
-            open: false,
+            in_line: false,
         })
     }
 
@@ -95,7 +95,7 @@ impl Session {
     pub fn open_line(&self) -> bool
         ensures { result ≡ self.now.in_line }
     {
-        self.open
+        self.in_line
     }
 }
 

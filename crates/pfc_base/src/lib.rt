@@ -9,8 +9,6 @@ mod memory_error;
 mod names;
 mod places;
 pub mod sign;
-#[cfg(test)]
-mod tests;
 mod texts;
 mod tokens;
 pub mod word;

@@ -14,8 +14,6 @@ mod ordinals;
 mod output;
 mod pieces;
 mod simple;
-#[cfg(test)]
-mod tests;
 mod truths;
 
 pub use input::Input;

@@ -13,6 +13,3 @@ pub use images::{Block, Image, Object, ProcessInfo};
 pub use instructions::Instr;
 pub use pages::Page;
 pub use printing::print_code;
-
-#[cfg(test)]
-mod tests;

@@ -8,6 +8,3 @@ mod addresses;
 mod emitter;
 
 pub use emitter::{EmitFault, Emitter};
-
-#[cfg(test)]
-mod tests;

@@ -3,6 +3,5 @@ pub mod Fits
 pub mod Operands
 pub mod Refs
 pub mod Rows
-pub mod Samples
 pub mod Stacks
 pub mod Starts

@@ -15,6 +15,3 @@ mod store;
 pub use instructed::Instructed;
 pub use refs::Ref;
 pub use store::Store;
-
-#[cfg(test)]
-mod tests;

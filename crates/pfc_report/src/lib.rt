@@ -11,6 +11,3 @@ mod reports;
 pub use listings::listing;
 pub use refusals::{refusal_line, refusal_text, words_refused};
 pub use reports::report;
-
-#[cfg(test)]
-mod tests;

@@ -1,13 +1,14 @@
+//! The code text of each instruction with the widest arguments, and of a small program.
 ghost use Rattle.std.specs.Prelude.{◌≡◌, IfOk, length};
 
-use crate::{Image, Instr, print_code};
 use pfc_base::Memory;
+use pfc_code::{Image, Instr, print_code};
 use std::alloc::Global;
 use std::test::Fail;
 
 const MAX: u32 = u32::MAX;
 
-const EACH: [Instr; 78] = [
+static EACH: [Instr; 78] = [
     Instr::LIT(i32::MIN),
     Instr::ADDR(MAX, MAX),
     Instr::REF(MAX, MAX),
@@ -168,7 +169,7 @@ const EACH_TEXT: &str = "     0 4294967295 LIT -2147483648
     77 4294967295 EOLN
 ";
 
-const SUM: [Instr; 6] = [
+static SUM: [Instr; 6] = [
     Instr::LIT(1),
     Instr::LIT(2),
     Instr::ADD,
@@ -206,17 +207,17 @@ fn image_of(alloc: Global, code: &[Instr], line: u32) -> Result<Image, Memory>
     })
 }
 
+/// Whether this code, each instruction at this line, has this text.
+fn is_printed(alloc: Global, code: &[Instr], line: u32, text: &str) -> Result<bool, Memory> {
+    let image = image_of(alloc, code, line)?;
+    let printed = print_code(alloc, &image)?;
+    Ok(printed.as_slice() == text.as_bytes())
+}
+
 #[test]
 fn each_instruction_and_the_sum(rt: HostRuntime) -> Result<(), Fail> {
-    let cases = [
-        (&EACH[..], MAX, EACH_TEXT),
-        (&SUM[..], 1, SUM_TEXT),
-        (&[][..], 1, ""),
-    ];
-    for (code, line, text) in cases {
-        let image = image_of(rt.alloc(), code, line)?;
-        let printed = print_code(rt.alloc(), &image)?;
-        assert_eq!(rt; printed.as_slice(), text.as_bytes());
-    }
+    assert!(rt; is_printed(rt.alloc(), &EACH, MAX, EACH_TEXT)?);
+    assert!(rt; is_printed(rt.alloc(), &SUM, 1, SUM_TEXT)?);
+    assert!(rt; is_printed(rt.alloc(), &[], 1, "")?);
     Ok(())
 }

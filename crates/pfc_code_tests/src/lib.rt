@@ -1,0 +1,16 @@
+//! Tests of the floor of code: instructions and their text, the growing code, the stacks and instructions of sequential
+//! programs, and the texts that a user reads.
+//!
+//! Each is a table of calls with the answers that are owed. The crate has nothing else.
+#![tactic(auto)]
+
+#[cfg(test)]
+mod code_texts;
+#[cfg(test)]
+mod growing_code;
+#[cfg(test)]
+mod instructions;
+#[cfg(test)]
+mod reports;
+#[cfg(test)]
+mod stacks;

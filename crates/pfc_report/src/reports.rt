@@ -187,7 +187,7 @@ fn wait_words(why: Why) -> &'static str
         Why::Accept(_) => "waiting to accept",
         Why::Select { .. } => "waiting in a select",
         Why::Enter(_) => "waiting to enter a monitor",
-        Why::Condition(_) => "waiting on a condition",
+        Why::Condition { .. } => "waiting on a condition",
         Why::Resumer(_) => "waiting after resume",
         Why::Entrant(_) => "waiting to enter a resource",
         Why::Barred { .. } => "waiting at a guard",

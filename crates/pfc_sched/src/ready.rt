@@ -8,7 +8,7 @@ use pfc_world::{State, World};
 use std::marker::Model;
 
 /// The most processes of a table.
-const MOST: usize = 64;
+const MOST: usize = 1024;
 
 /// The numbers of the ready processes, in order. A contract sees the list of them.
 #[derive(Drop)]
@@ -24,7 +24,7 @@ impl Model for ReadyNumbers {
 
     ghost view = { λ r. take r.count r.numbers };
 
-    ghost invariant = { λ r. r.count ≤ 64 };
+    ghost invariant = { λ r. r.count ≤ 1024 };
 }
 
 /// The numbers of the processes that are ready in the table.

@@ -1,7 +1,7 @@
 -- What one process stands at.
-use Rattle.std.specs.Prelude.{ℕ, Bool, true, false, ◌&&◌, ◌==◌, nat_lt, nat_le, Option, None, Some, List, [], if◌then◌else◌}
+use Rattle.std.specs.Prelude.{ℕ, ℤ, Bool, true, false, ◌&&◌, ◌==◌, nat_lt, nat_le, Option, None, Some, List, [], if◌then◌else◌}
 use Rattle.pfc_state.specs.declared.waits.Why.{Why}
-use Rattle.pfc_state.specs.declared.waits.Why.TheVariants.{Coend, Select, Barred}
+use Rattle.pfc_state.specs.declared.waits.Why.TheVariants.{Coend, Select, Condition, Barred}
 use Rattle.pfc_state.specs.declared.waits.Arm.{Arm}
 use Rattle.pfc_state.specs.declared.standings.State.{State}
 use Rattle.pfc_state.specs.declared.standings.State.TheVariants.{Idle, Created, Ready, Waiting, Done}
@@ -82,6 +82,16 @@ woken moment stand = if is_due moment (due_of stand) then Is_ready else stand
 abbrev pub ticket_at : Why → Stand → Option ℕ
 ticket_at why (Waits cause ticket arms) = if same_why cause why then Some ticket else None
 ticket_at why _ = None
+
+-- the ticket of a process that waits on this condition, with any rank
+abbrev pub ticket_on : ℕ → Stand → Option ℕ
+ticket_on condition (Waits (Condition number rank) ticket arms) = if number == condition then Some ticket else None
+ticket_on condition _ = None
+
+-- the rank with which a process waits on this condition
+abbrev pub rank_on : ℕ → Stand → Option ℤ
+rank_on condition (Waits (Condition number rank) ticket arms) = if number == condition then Some rank else None
+rank_on condition _ = None
 
 -- the ticket of a process that waits in a select with this alternative
 abbrev pub ticket_offering : Arm → Stand → Option ℕ

@@ -1,6 +1,7 @@
 -- Causes of waits, and the alternatives that a select offers.
 use Rattle.std.specs.Prelude.{ℕ, Bool, true, false, ◌&&◌, ◌==◌, Option, None, Some, List, position}
 use Rattle.std.specs.List.{list_any}
+use Rattle.std.specs.Ordering.{int_eq}
 use Rattle.pfc_state.specs.declared.waits.Why.{Why}
 use Rattle.pfc_state.specs.declared.waits.Why.TheVariants.{Coend, Semaphore, Send, Receive, Call, Meeting, Accept, Select, Enter, Condition, Resumer, Entrant, Barred, Sleep}
 use Rattle.pfc_state.specs.declared.waits.Arm.{Arm}
@@ -28,7 +29,7 @@ same_why (Meeting p) (Meeting q) = p == q
 same_why (Accept e) (Accept f) = e == f
 same_why (Select t a) (Select u b) = same_moment t u && same_truth a b
 same_why (Enter m) (Enter n) = m == n
-same_why (Condition c) (Condition d) = c == d
+same_why (Condition c r) (Condition d s) = (c == d) && int_eq r s
 same_why (Resumer m) (Resumer n) = m == n
 same_why (Entrant g) (Entrant h) = g == h
 same_why (Barred g p) (Barred h q) = (g == h) && (p == q)

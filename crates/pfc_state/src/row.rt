@@ -1,7 +1,7 @@
 //! The place of one process in the table.
 ghost use Rattle.std.specs.Prelude.{◌≡◌, ◌≤◌, false, length, IfOk, []};
 ghost use Rattle.pfc_state.specs.Seats.{seated, vacated};
-ghost use Rattle.pfc_state.specs.Stands.{Is_idle, Is_created, Is_ready, Waits, Is_done, IsWaiting, state_of, ticket_of, arms_of, due_of, is_ready, is_created, is_unfinished, is_at_coend, started, woken, is_above, ticket_at, ticket_offering, ticket_barred};
+ghost use Rattle.pfc_state.specs.Stands.{Is_idle, Is_created, Is_ready, Waits, Is_done, IsWaiting, state_of, ticket_of, arms_of, due_of, is_ready, is_created, is_unfinished, is_at_coend, started, woken, is_above, ticket_at, rank_on, ticket_offering, ticket_barred};
 ghost use Rattle.pfc_state.specs.Waits.{is_select, has_arm, place_of_arm};
 
 use crate::offers::Offers;
@@ -227,6 +227,19 @@ impl Row {
     {
         match &self.slot {
             Slot::Waiting(waiting) if waiting.why().is_same(why) => Some(waiting.ticket()),
+            _ => None,
+        }
+    }
+
+    /// The rank of the process, where it waits on this condition.
+    pub fn rank_on(&self, condition: u32) -> Option<i32>
+        ensures { result ≡ rank_on condition self.now.stand }
+    {
+        match &self.slot {
+            Slot::Waiting(waiting) => match waiting.why() {
+                Why::Condition { number, rank } if number == condition => Some(rank),
+                _ => None,
+            },
             _ => None,
         }
     }

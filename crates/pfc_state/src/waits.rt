@@ -25,8 +25,8 @@ pub enum Why {
     Select { due: Option<u64>, terminate: bool },
     /// entering a monitor that is held
     Enter(u32),
-    /// a condition of a monitor, by `delay`
-    Condition(u32),
+    /// a condition of a monitor, by `delay`, with a rank: who waits there with the least rank goes on first
+    Condition { number: u32, rank: i32 },
     /// a monitor that this process gave up by `resume`
     Resumer(u32),
     /// entering a resource that is held

@@ -5,4 +5,5 @@ pub mod FirstIs
 pub mod Kept
 pub mod Maps
 pub mod Offering
+pub mod Ranks
 pub mod Starts

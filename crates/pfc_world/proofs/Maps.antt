@@ -77,7 +77,7 @@ maps seats a d m room change w kind now =
     record {
       tied = record {
         some = subst (λ n. 0 < n) (sym (length-map seats (seat_by change))) tied.some;
-        few = subst (λ n. n ≤ 64) (sym (length-map seats (seat_by change))) tied.few;
+        few = subst (λ n. n ≤ 1024) (sym (length-map seats (seat_by change))) tied.few;
         counted = tied.counted;
         within = λ p h. subst (λ n. p < n) (sym (length-map seats (seat_by change))) (tied.within p h);
         acts = λ p h. ap (λ v. at v p) (stands-map change seats) ∙ at-changed change (stands seats) p kind ∙ ap change (tied.acts p h) ∙ kind.ready;

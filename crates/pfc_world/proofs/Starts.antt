@@ -48,11 +48,11 @@ idle_table n room = record { rows = replicate n Is_idle; acting = None; done = 0
 abbrev seen : List Stand → ℕ → Table
 seen rows room = record { rows = rows; acting = None; done = 0; moment = 0; room = room }
 
-idles : (seats : List Seat) (n room : ℕ) → 0 < n → n ≤ 64 → AreIdle seats n room → Now seats None 0 0 room (idle_table n room)
+idles : (seats : List Seat) (n room : ℕ) → 0 < n → n ≤ 1024 → AreIdle seats n room → Now seats None 0 0 room (idle_table n room)
 idles seats n room some few idle = record {
   tied = record {
     some = subst (λ v. 0 < v) (sym idle.count) some;
-    few = subst (λ v. v ≤ 64) (sym idle.count) few;
+    few = subst (λ v. v ≤ 1024) (sym idle.count) few;
     counted = zero-le;
     within = λ p h. let no : None ≡ Some p = h in cc;
     acts = λ p h. let no : None ≡ Some p = h in cc;
@@ -71,7 +71,7 @@ first-set zero h = absurd (omega arith)
 first-set (suc n) h = let e : n ≡ suc n - 1 = omega arith in ap (λ v. Is_ready ∷ replicate v Is_idle) e
 
 -- main is ready
-pub starts : (seats : List Seat) (n room : ℕ) (x y : Seat) → 0 < n → n ≤ 64 → AreIdle seats n room → x ≡ get_or seats 0 x → y ≡ record x { stand = Is_ready }
+pub starts : (seats : List Seat) (n room : ℕ) (x y : Seat) → 0 < n → n ≤ 1024 → AreIdle seats n room → x ≡ get_or seats 0 x → y ≡ record x { stand = Is_ready }
     → Now (set seats 0 y) None 0 0 room (start_table n room)
 starts seats n room x y some few idle got e =
     let made : Now (set seats 0 y) None 0 0 room (seen (set (replicate n Is_idle) 0 Is_ready) room) =

@@ -1,7 +1,9 @@
 -- Who is first, and who is last, among the processes that a key gives a ticket.
-use Rattle.std.specs.Prelude.{ℕ, ◌≤◌, ◌≡◌, Bool, false, ◌==◌, min, max, suc, if◌then◌else◌, Option, None, Some, option_map, List, [], ◌∷◌}
+use Rattle.std.specs.Prelude.{ℕ, ◌≤◌, ◌≡◌, ℤ, ◌≤ℤ◌, Bool, false, ◌==◌, min, max, suc, if◌then◌else◌, Option, None, Some, option_map, List, [], ◌∷◌}
+use Rattle.std.specs.Int.{int_min}
 use Rattle.pfc_state.specs.declared.waits.Arm.{Arm}
-use Rattle.pfc_state.specs.Stands.{Stand, ticket_of, arms_of, ticket_offering}
+use Rattle.pfc_state.specs.declared.waits.Why.TheVariants.{Condition}
+use Rattle.pfc_state.specs.Stands.{Stand, ticket_of, arms_of, ticket_at, rank_on, ticket_offering}
 use Rattle.pfc_state.specs.Waits.{place_of_arm}
 use Rattle.pfc_world.specs.Tables.{at}
 use Rattle.pfc_world.specs.declared.answers.Offer.{Offer}
@@ -17,6 +19,12 @@ pub record IsLast (key : Stand → Option ℕ) (rows : List Stand) (p : ℕ) : T
   pub ticket : ℕ
   pub own : key (at rows p) ≡ Some ticket
   pub greatest : (q t : ℕ) → key (at rows q) ≡ Some t → t ≤ ticket
+
+-- nobody waits on the condition with a lesser rank than the process, and with its rank nobody has a lesser ticket
+pub record IsFirstRanked (condition : ℕ) (rows : List Stand) (p : ℕ) : Type 0 where
+  pub rank : ℤ
+  pub least : (q : ℕ) (r : ℤ) → rank_on condition (at rows q) ≡ Some r → rank ≤ℤ r
+  pub first : IsFirst (ticket_at (Condition condition rank)) rows p
 
 -- nobody has a ticket by this key
 abbrev pub IsNobody : (Stand → Option ℕ) → List Stand → Type 0
@@ -67,6 +75,26 @@ first key rows = holder_of key (least key rows) rows
 -- the process of the greatest ticket
 abbrev pub last : (Stand → Option ℕ) → List Stand → Option ℕ
 last key rows = holder_of key (greatest key rows) rows
+
+-- the lesser of two ranks, where there are two
+abbrev pub lesser_rank : Option ℤ → Option ℤ → Option ℤ
+lesser_rank None s = s
+lesser_rank (Some r) None = Some r
+lesser_rank (Some r) (Some s) = Some (int_min r s)
+
+-- the least rank with which somebody waits on the condition
+abbrev pub least_rank : ℕ → List Stand → Option ℤ
+least_rank condition [] = None
+least_rank condition (stand ∷ rest) = lesser_rank (rank_on condition stand) (least_rank condition rest)
+
+-- the process of the least ticket among those that wait on the condition with this rank
+abbrev pub first_with_rank : ℕ → Option ℤ → List Stand → Option ℕ
+first_with_rank condition (Some rank) rows = first (ticket_at (Condition condition rank)) rows
+first_with_rank condition None rows = None
+
+-- the process that waits on the condition with the least rank, and at that rank the one of the least ticket
+abbrev pub first_ranked : ℕ → List Stand → Option ℕ
+first_ranked condition rows = first_with_rank condition (least_rank condition rows) rows
 
 -- the process, and a place at it
 abbrev pub offer_at : ℕ → Option ℕ → Option Offer

@@ -1,12 +1,12 @@
 -- Who is first at the waits of semaphores, channels, monitors, rendezvous, selects and resources.
 use Rattle.std.specs.Prelude.{ℕ, Bool, is_some, Option, None, Some, List, filter}
 use Rattle.pfc_state.specs.declared.waits.Why.{Why}
-use Rattle.pfc_state.specs.declared.waits.Why.TheVariants.{Semaphore, Send, Receive, Call, Accept, Enter, Condition, Resumer, Entrant}
+use Rattle.pfc_state.specs.declared.waits.Why.TheVariants.{Semaphore, Send, Receive, Call, Accept, Enter, Resumer, Entrant}
 use Rattle.pfc_state.specs.declared.waits.Arm.{Arm}
 use Rattle.pfc_state.specs.declared.waits.Arm.TheVariants.{Send as To, Receive as From, Accept as Entry}
 use Rattle.pfc_state.specs.Stands.{Stand, ticket_at, ticket_offering, ticket_barred}
 use Rattle.pfc_world.specs.Tables.{at}
-use Rattle.pfc_world.specs.Firsts.{first, last}
+use Rattle.pfc_world.specs.Firsts.{first, last, first_ranked}
 
 abbrev pub or_else : Option ℕ → Option ℕ → Option ℕ
 or_else (Some p) q = Some p
@@ -55,7 +55,7 @@ abbrev pub next_holder : List Stand → ℕ → Option ℕ
 next_holder rows m = or_else (last (ticket_at (Resumer m)) rows) (first (ticket_at (Enter m)) rows)
 
 abbrev pub condition_waiter : List Stand → ℕ → Option ℕ
-condition_waiter rows c = first (ticket_at (Condition c)) rows
+condition_waiter rows c = first_ranked c rows
 
 -- resources: to whom one is handed over, and whose guard a scan past a ticket tries
 abbrev pub next_entrant : List Stand → ℕ → Option ℕ

@@ -33,7 +33,7 @@ seat_at k acting room stand = record { number = k; away = is_acting acting k; st
 -- Each row is that of its process, and away exactly where it acts; who acts shows as ready.
 pub record AreTied (seats : List Seat) (acting : Option ℕ) (done room : ℕ) : Type 0 where
   pub some : 0 < length seats
-  pub few : length seats ≤ 64
+  pub few : length seats ≤ 1024
   pub counted : done ≤ 10 ^ 18
   pub within : (p : ℕ) → acting ≡ Some p → p < length seats
   pub acts : (p : ℕ) → acting ≡ Some p → at (stands seats) p ≡ Is_ready

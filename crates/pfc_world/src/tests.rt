@@ -215,7 +215,7 @@ fn who_is_due_is_woken_without_a_move_of_the_clock(rt: HostRuntime) -> Result<()
 fn nobody_may_be_left(rt: HostRuntime) -> Result<(), Fail> {
     let mut world = World::with_processes(rt.alloc(), 4, 0)?;
     let main = world.begin(0);
-    world.block(main, Why::Condition(2));
+    world.block(main, Why::Condition { number: 2, rank: 0 });
     assert_eq!(rt; (world.settle(), world.now()), (Settled::NobodyReady, 0));
     Ok(())
 }

@@ -2,7 +2,7 @@
 ghost use Rattle.std.specs.Prelude.{◌≡◌, ◌<◌, ◌≤◌, length, map, not, IfSome, MatchOption};
 ghost use Rattle.std.specs.List.{list_any, list_all};
 ghost use Rattle.pfc_state.specs.Stands.{IsWaiting, is_ready, is_created, is_unfinished, started, woken};
-ghost use Rattle.pfc_world.specs.Firsts.{first, last, lesser, IsFirst, IsLast, IsNobody};
+ghost use Rattle.pfc_world.specs.Firsts.{first, last, lesser, lesser_rank, least_rank, IsFirst, IsLast, IsNobody};
 ghost use Rattle.pfc_world.specs.Rows.{stands, seat_by};
 ghost use Rattle.pfc_world.specs.Settling.{earliest};
 ghost use Rattle.pfc_world.specs.Sought.{key_of};
@@ -87,9 +87,30 @@ fn sooner_due(soonest: Option<u64>, due: Option<u64>) -> Option<u64>
     }
 }
 
+/// The least rank of those who wait on the condition.
+pub(crate) fn least_rank_of(rows: &[Row], condition: u32) -> Option<i32>
+    ensures { result ≡ least_rank condition (stands rows.now) }
+{
+    let mut least = None;
+    for row in rows {
+        least = lesser_rank(least, row.rank_on(condition));
+    }
+    least
+}
+
+fn lesser_rank(least: Option<i32>, rank: Option<i32>) -> Option<i32>
+    ensures { result ≡ lesser_rank least rank }
+{
+    match (least, rank) {
+        (None, _) => rank,
+        (_, None) => least,
+        (Some(least), Some(rank)) => Some(least.min(rank)),
+    }
+}
+
 /// The process of least ticket among those that are sought.
 pub(crate) fn first_of(rows: &[Row], sought: Sought) -> Option<u32>
-    requires few { length rows.now ≤ 64 }
+    requires few { length rows.now ≤ 1024 }
     requires apart { AreApart (stands rows.now) }
     ensures first { result ≡ first (key_of sought) (stands rows.now) }
     ensures found { MatchOption result (IsNobody (key_of sought) (stands rows.now)) (IsFirst (key_of sought) (stands rows.now)) }
@@ -105,7 +126,7 @@ pub(crate) fn first_of(rows: &[Row], sought: Sought) -> Option<u32>
 
 /// The process of greatest ticket among those that are sought.
 pub(crate) fn last_of(rows: &[Row], sought: Sought) -> Option<u32>
-    requires few { length rows.now ≤ 64 }
+    requires few { length rows.now ≤ 1024 }
     requires apart { AreApart (stands rows.now) }
     ensures last { result ≡ last (key_of sought) (stands rows.now) }
     ensures found { MatchOption result (IsNobody (key_of sought) (stands rows.now)) (IsLast (key_of sought) (stands rows.now)) }

@@ -1,17 +1,18 @@
 //! The table of processes.
 ghost use Rattle.std.specs.Prelude.{◌≡◌, ℕ, ◌+◌, ◌*◌, ◌^◌, ◌<◌, ◌≤◌, true, false, None, Some, Option, [], length, map, IfOk, IfSome, MatchOption};
 ghost use Rattle.pfc_state.specs.declared.waits.Why.{Why};
-ghost use Rattle.pfc_state.specs.Stands.{Is_ready, Waits, Is_done, IsWaiting, state_of, ticket_of, arms_of, may_end, ticket_at, ticket_offering, ticket_barred};
+ghost use Rattle.pfc_state.specs.Stands.{Is_ready, Waits, Is_done, IsWaiting, state_of, ticket_of, arms_of, may_end, ticket_at, ticket_on, ticket_offering, ticket_barred};
 ghost use Rattle.pfc_state.specs.Waits.{is_select, place_of_arm};
 ghost use Rattle.pfc_world.specs.Coend.{IsAtCoend};
-ghost use Rattle.pfc_world.specs.Firsts.{first, last, offer_at, first_offer, IsFirst, IsLast, IsNobody};
+ghost use Rattle.pfc_world.specs.Firsts.{first, last, offer_at, first_offer, first_ranked, least_rank, IsFirst, IsFirstRanked, IsLast, IsNobody};
 ghost use Rattle.pfc_world.specs.Settling.{earliest, woken_now, moved_to, settled, IsLeftBy};
 ghost use Rattle.pfc_world.specs.Tables.{at, start_table, some_ready, some_created};
 ghost use Rattle.pfc_world.specs.Tickets.{AreTickets, IsNew};
 ghost use Rattle.pfc_world.specs.Transitions.{begun, rested, placed, blocked, is_released, released, ended, finished, all_started, ticked, IsCreation};
 
 use crate::walks::{
-    Sought, all_over, any_created, any_ready, earliest_of, first_of, last_of, start_all, wake_all,
+    Sought, all_over, any_created, any_ready, earliest_of, first_of, last_of, least_rank_of,
+    start_all, wake_all,
 };
 use crate::{After, Arm, Offer, Running, Settled, State, Why};
 use pfc_base::{Memory, RunFault};
@@ -47,7 +48,7 @@ impl World {
     /// idle, and the clock is at 0. Its only refusal is want of memory; no other call takes memory.
     pub fn with_processes(alloc: Global, n: u32, arms: u32) -> Result<World, Memory>
         requires some { 0 < n }
-        requires few { n ≤ 64 }
+        requires few { n ≤ 1024 }
         ensures world { IfOk result (λ world. world ≡ start_table n arms) }
         ensures fresh { IfOk result (λ world. IsNew world.rows world.done) }
     {
@@ -67,11 +68,11 @@ impl World {
         })
     }
 
-    /// The number of processes, main included: from 1 to 64.
+    /// The number of processes, main included: from 1 to 1,024.
     pub fn processes(&self) -> u32
         ensures count { result ≡ length self.now.rows }
         ensures some { 0 < result }
-        ensures few { result ≤ 64 }
+        ensures few { result ≤ 1024 }
         ensures acting { (p : ℕ) → self.now.acting ≡ Some p → at self.now.rows p ≡ Is_ready }
     {
         self.rows.len() as u32
@@ -291,6 +292,23 @@ impl World {
         last_of(&self.rows, Sought::At(why))
     }
 
+    /// The process of least rank among those that wait on the condition, and at that rank the one of least
+    /// ticket.
+    pub fn first_ranked(&self, condition: u32) -> Option<u32>
+        ensures first { result ≡ first_ranked condition self.now.rows }
+        ensures found { MatchOption result (IsNobody (ticket_on condition) self.now.rows) (IsFirstRanked condition self.now.rows) }
+        ensures waits { IfSome result (λ p. IsWaiting (at self.now.rows p)) }
+        ensures within { IfSome result (λ p. p < length self.now.rows) }
+    {
+        match self.least_rank(condition) {
+            Some(rank) => self.first_at(Why::Condition {
+                number: condition,
+                rank,
+            }),
+            None => None,
+        }
+    }
+
     /// The process of least ticket among those that wait in a select with this alternative, and its first
     /// place there.
     pub fn first_offer(&self, arm: Arm) -> Option<Offer>
@@ -330,6 +348,12 @@ impl World {
             }),
             None => None,
         }
+    }
+
+    fn least_rank(&self, condition: u32) -> Option<i32>
+        ensures { result ≡ least_rank condition self.now.rows }
+    {
+        least_rank_of(&self.rows, condition)
     }
 
     fn some_ready(&self) -> bool

@@ -1,6 +1,7 @@
 -- Settling: due moments, and the clock.
-use Rattle.std.specs.Prelude.{ℕ, ◌≡◌, true, false, if◌then◌else◌, Option, None, Some, List, map}
-use Rattle.pfc_state.specs.Stands.{Stand, due_of, woken}
+use Rattle.std.specs.Prelude.{ℕ, ◌≡◌, true, false, Bool, not, ◌&&◌, ◌||◌, is_none, if◌then◌else◌, Option, None, Some, List, map, drop}
+use Rattle.std.specs.List.{list_any, list_all}
+use Rattle.pfc_state.specs.Stands.{Stand, due_of, woken, is_unfinished, may_end}
 use Rattle.pfc_world.specs.declared.answers.Settled.{Settled}
 use Rattle.pfc_world.specs.declared.answers.Settled.TheVariants.{SomeReady, NobodyReady}
 use Rattle.pfc_world.specs.Tables.{Table, some_ready}
@@ -22,6 +23,14 @@ moved_to (Some moment) w = woken_now (record w { moment = moment })
 -- Whoever is due is ready. Where nobody is ready then, the clock goes to the earliest due moment.
 abbrev pub settled : Table → Table
 settled w = if some_ready (woken_now w).rows then woken_now w else moved_to (earliest (woken_now w).rows) (woken_now w)
+
+-- some child is unfinished, and every unfinished child waits in a select with an open `terminate`
+abbrev pub children_may_end : List Stand → Bool
+children_may_end rows = list_any is_unfinished (drop 1 rows) && list_all (λ stand. not (is_unfinished stand) || may_end stand) (drop 1 rows)
+
+-- nobody can act any more but by the end of all unfinished children, which may end, at least one existing
+abbrev pub may_all_end : List Stand → Bool
+may_all_end rows = not (some_ready rows) && is_none (earliest rows) && children_may_end rows
 
 -- nobody is ready, and no due moment is pending
 pub record IsAtRest (rows : List Stand) : Type 0 where

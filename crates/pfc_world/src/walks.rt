@@ -1,7 +1,7 @@
 //! Walks over the rows of the table.
-ghost use Rattle.std.specs.Prelude.{◌≡◌, ◌<◌, ◌≤◌, length, map, not, IfSome, MatchOption};
+ghost use Rattle.std.specs.Prelude.{◌≡◌, ◌<◌, ◌≤◌, length, map, not, ◌||◌, IfSome, MatchOption};
 ghost use Rattle.std.specs.List.{list_any, list_all};
-ghost use Rattle.pfc_state.specs.Stands.{IsWaiting, is_ready, is_created, is_unfinished, started, woken};
+ghost use Rattle.pfc_state.specs.Stands.{IsWaiting, is_ready, is_created, is_unfinished, may_end, started, woken};
 ghost use Rattle.pfc_world.specs.Firsts.{first, last, lesser, lesser_rank, least_rank, IsFirst, IsLast, IsNobody};
 ghost use Rattle.pfc_world.specs.Rows.{stands, seat_by};
 ghost use Rattle.pfc_world.specs.Settling.{earliest};
@@ -46,6 +46,19 @@ pub(crate) fn all_over(rows: &[Row]) -> bool
     ensures { result ≡ list_all (λ seat. not (is_unfinished seat.stand)) rows.now }
 {
     rows.iter().all(|row| !row.is_unfinished())
+}
+
+pub(crate) fn any_unfinished(rows: &[Row]) -> bool
+    ensures { result ≡ list_any (λ seat. is_unfinished seat.stand) rows.now }
+{
+    rows.iter().any(|row| row.is_unfinished())
+}
+
+/// Whether each process is over, or waits in a select with an open `terminate`.
+pub(crate) fn all_may_end(rows: &[Row]) -> bool
+    ensures { result ≡ list_all (λ seat. not (is_unfinished seat.stand) || may_end seat.stand) rows.now }
+{
+    rows.iter().all(|row| !row.is_unfinished() || row.may_end())
 }
 
 /// Who is created is ready.

@@ -5,14 +5,14 @@ ghost use Rattle.pfc_state.specs.Stands.{Is_ready, Waits, Is_done, IsWaiting, st
 ghost use Rattle.pfc_state.specs.Waits.{is_select, place_of_arm};
 ghost use Rattle.pfc_world.specs.Coend.{IsAtCoend};
 ghost use Rattle.pfc_world.specs.Firsts.{first, last, offer_at, first_offer, first_ranked, least_rank, IsFirst, IsFirstRanked, IsLast, IsNobody};
-ghost use Rattle.pfc_world.specs.Settling.{earliest, woken_now, moved_to, settled, IsLeftBy};
+ghost use Rattle.pfc_world.specs.Settling.{earliest, woken_now, moved_to, settled, children_may_end, may_all_end, IsLeftBy};
 ghost use Rattle.pfc_world.specs.Tables.{at, start_table, some_ready, some_created};
 ghost use Rattle.pfc_world.specs.Tickets.{AreTickets, IsNew};
 ghost use Rattle.pfc_world.specs.Transitions.{begun, rested, placed, blocked, is_released, released, ended, finished, all_started, ticked, IsCreation};
 
 use crate::walks::{
-    Sought, all_over, any_created, any_ready, earliest_of, first_of, last_of, least_rank_of,
-    start_all, wake_all,
+    Sought, all_may_end, all_over, any_created, any_ready, any_unfinished, earliest_of, first_of,
+    last_of, least_rank_of, start_all, wake_all,
 };
 use crate::{After, Arm, Offer, Running, Settled, State, Why};
 use pfc_base::{Memory, RunFault};
@@ -272,6 +272,14 @@ impl World {
         }
     }
 
+    /// Whether nobody is ready, no due moment is pending, and every unfinished child waits in a select with
+    /// an open `terminate`, at least one child being unfinished.
+    pub fn may_all_end(&self) -> bool
+        ensures { result ≡ may_all_end self.now.rows }
+    {
+        !self.some_ready() && self.earliest().is_none() && self.children_may_end()
+    }
+
     /// The process of least ticket whose wait is exactly this one.
     pub fn first_at(&self, why: Why) -> Option<u32>
         ensures first { result ≡ first (ticket_at why) self.now.rows }
@@ -374,6 +382,12 @@ impl World {
     {
         let main = &self.rows[0];
         main.is_at_coend() && all_over(&self.rows[1..])
+    }
+
+    fn children_may_end(&self) -> bool
+        ensures { result ≡ children_may_end self.now.rows }
+    {
+        any_unfinished(&self.rows[1..]) && all_may_end(&self.rows[1..])
     }
 
     fn release(&mut self)

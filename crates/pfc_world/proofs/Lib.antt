@@ -5,5 +5,6 @@ pub mod FirstIs
 pub mod Kept
 pub mod Maps
 pub mod Offering
+pub mod Open
 pub mod Ranks
 pub mod Starts

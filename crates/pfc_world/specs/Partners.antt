@@ -1,10 +1,11 @@
 -- Who is first at the waits of semaphores, channels, monitors, rendezvous, selects and resources.
-use Rattle.std.specs.Prelude.{ℕ, Bool, is_some, Option, None, Some, List, filter}
+use Rattle.std.specs.Prelude.{ℕ, Bool, not, is_some, Option, None, Some, List}
 use Rattle.pfc_state.specs.declared.waits.Why.{Why}
-use Rattle.pfc_state.specs.declared.waits.Why.TheVariants.{Semaphore, Send, Receive, Call, Accept, Enter, Resumer, Entrant}
+use Rattle.pfc_state.specs.declared.waits.Why.TheVariants.{Semaphore, Send, Receive, Call, Accept, Select, Enter, Resumer, Entrant}
 use Rattle.pfc_state.specs.declared.waits.Arm.{Arm}
 use Rattle.pfc_state.specs.declared.waits.Arm.TheVariants.{Send as To, Receive as From, Accept as Entry}
-use Rattle.pfc_state.specs.Stands.{Stand, ticket_at, ticket_offering, ticket_barred}
+use Rattle.pfc_state.specs.Stands.{Stand, Waits, ticket_at, ticket_offering, ticket_barred}
+use Rattle.pfc_state.specs.Waits.{place_of_arm}
 use Rattle.pfc_world.specs.Tables.{at}
 use Rattle.pfc_world.specs.Firsts.{first, last, first_ranked}
 
@@ -26,6 +27,11 @@ plain_wait (Entry e) = Accept e
 abbrev pub ticket_open_to : Arm → Stand → Option ℕ
 ticket_open_to arm stand = or_else (ticket_at (plain_wait arm) stand) (ticket_offering arm stand)
 
+-- the place, from 0, of the first alternative of a waiting select at which it is met; None in a plain statement
+abbrev pub alternative_met : Arm → Stand → Option ℕ
+alternative_met arm (Waits (Select due terminate) ticket arms) = place_of_arm arm arms
+alternative_met arm _ = None
+
 -- channels: whom a sender meets, and whom a receiver meets
 abbrev pub receiver : List Stand → ℕ → Option ℕ
 receiver rows c = first (ticket_open_to (From c)) rows
@@ -40,22 +46,23 @@ is_accepting rows owner entry = is_some (ticket_open_to (Entry entry) (at rows o
 abbrev pub caller : List Stand → ℕ → ℕ → Option ℕ
 caller rows owner entry = first (ticket_at (Call owner entry)) rows
 
--- selects: whom an open alternative of the process meets, and the alternatives that are matched
+-- selects: whom an open alternative of the process meets
 abbrev pub partner : List Stand → ℕ → Arm → Option ℕ
 partner rows p (To c) = receiver rows c
 partner rows p (From c) = sender rows c
 partner rows p (Entry e) = caller rows p e
 
-abbrev pub matched : List Stand → ℕ → List Arm → List Arm
-matched rows p arms = filter (λ arm. is_some (partner rows p arm)) arms
-
 -- monitors: to whom one is handed over, the latest resumer and else the first entrant; who goes on at
--- a `resume`
+-- a `resume`, the waiter of least rank and at that rank of least ticket; and whether nobody waits, with
+-- any rank
 abbrev pub next_holder : List Stand → ℕ → Option ℕ
 next_holder rows m = or_else (last (ticket_at (Resumer m)) rows) (first (ticket_at (Enter m)) rows)
 
 abbrev pub condition_waiter : List Stand → ℕ → Option ℕ
 condition_waiter rows c = first_ranked c rows
+
+abbrev pub is_empty_condition : List Stand → ℕ → Bool
+is_empty_condition rows c = not (is_some (condition_waiter rows c))
 
 -- resources: to whom one is handed over, and whose guard a scan past a ticket tries
 abbrev pub next_entrant : List Stand → ℕ → Option ℕ

@@ -8,6 +8,7 @@
 
 mod answers;
 mod laws;
+mod partners;
 #[cfg(test)]
 mod tests;
 mod walks;
@@ -15,6 +16,7 @@ mod world;
 
 pub use answers::{After, Offer, Settled};
 pub use laws::{first_is_the_least, settling_is_done_once, waits_are_kept};
+pub use partners::Partner;
 pub use pfc_state::{
     Arm, Created, Done, Ending, Idle, Ready, Running, ScriptWhy, Standing, State, Waiting, Why,
 };

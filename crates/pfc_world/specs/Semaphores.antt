@@ -1,5 +1,5 @@
 -- Semaphores. An action on one is a function of the table of processes and the counts.
-use Rattle.std.specs.Prelude.{ℕ, ◌+◌, ◌-◌, ◌==◌, ◌&&◌, Bool, not, is_some, if◌then◌else◌, Option, None, Some, List, [], slice_index_or, slice_set}
+use Rattle.std.specs.Prelude.{ℕ, ℤ, pos, negsuc, ◌+◌, ◌-◌, ◌==◌, ◌&&◌, Bool, true, false, not, is_some, if◌then◌else◌, Option, None, Some, List, [], slice_index_or, slice_set}
 use Rattle.pfc_state.specs.declared.waits.Why.TheVariants.{Semaphore}
 use Rattle.pfc_state.specs.Stands.{Is_ready}
 use Rattle.pfc_world.specs.Partners.{semaphore_waiter}
@@ -20,6 +20,15 @@ count_of c s = slice_index_or c.counts s 0
 -- the semaphore has this count
 abbrev pub counting : Counted → ℕ → ℕ → Counted
 counting c s n = record { table = c.table; counts = slice_set c.counts s n }
+
+-- `initial(s, n)` sets the count. It is a fault where n is below 0.
+abbrev pub is_below_zero : ℤ → Bool
+is_below_zero (pos n) = false
+is_below_zero (negsuc n) = true
+
+abbrev pub initialised : List ℕ → ℕ → ℤ → List ℕ
+initialised counts s (pos n) = slice_set counts s n
+initialised counts s (negsuc n) = counts
 
 -- `wait(s)` by the process that acts: a positive count falls by 1, and at 0 the process waits.
 abbrev pub waited : Counted → ℕ → ℕ → Counted

@@ -19,10 +19,10 @@ entered h p m = entered_where (holder_in h.holders m) h p m
 abbrev pub handed_over : Held → ℕ → Held
 handed_over h m = given_to (next_holder h.table.rows m) h m
 
--- `delay(c, rank)` by the holder: it waits on the condition with this rank, and hands the monitor over.
+-- `delay(c, rank)` by the holder: it hands the monitor over, and waits on the condition with this rank.
 -- (In a monitor's initialising body main holds nothing, so there it only waits.)
 abbrev pub delayed : Held → ℕ → ℕ → ℕ → ℤ → Held
-delayed h p m c rank = handed_over (standing h (blocked h.table p (Condition c rank) [])) m
+delayed h p m c rank = standing (handed_over h m) (blocked (handed_over h m).table p (Condition c rank) [])
 
 abbrev pub resumed_with : Option ℕ → Held → ℕ → ℕ → Held
 resumed_with None h p m = h

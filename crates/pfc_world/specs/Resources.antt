@@ -18,9 +18,9 @@ resource_entered h p g = resource_entered_where (holder_in h.holders g) h p g
 abbrev pub given_up : Held → ℕ → Held
 given_up h g = given_to (next_entrant h.table.rows g) h g
 
--- The guard of the holder's procedure is false: it waits there, barred, and the resource is given up.
+-- The guard of the holder's procedure is false: the resource is given up, and it waits there, barred.
 abbrev pub barred : Held → ℕ → ℕ → ℕ → Held
-barred h p g procedure = given_up (standing h (blocked h.table p (Barred g procedure) [])) g
+barred h p g procedure = standing (given_up h g) (blocked (given_up h g).table p (Barred g procedure) [])
 
 -- The guard of a barred process is true: it has the resource and is ready at its body, and the process
 -- that tried the guard goes on.

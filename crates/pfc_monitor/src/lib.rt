@@ -1,0 +1,13 @@
+//! Monitors and their conditions.
+//!
+//! It promises that each call does to the standings and the holders what the language says of the action: that a monitor
+//! has at most one holder, that it goes to the latest resumer before the first entrant, and that a condition lets on the
+//! waiter of least rank, and at one rank the one that has waited longest. No call but `Monitors::new` takes memory. It
+//! walks over no processes, and knows no activation.
+#![tactic(auto)]
+
+mod conditions;
+mod monitors;
+
+pub use conditions::{delay, is_empty, resume};
+pub use monitors::{Monitors, enter, leave};

@@ -6,15 +6,13 @@
 #![tactic(auto)]
 
 mod laws;
-#[cfg(test)]
-mod tests;
 mod tree;
 mod writer;
 
 pub use laws::{each_token_has_a_depth, each_token_is_passed, syntax_fault_is_determined};
 pub use tree::{
     Accept, Actual, AddOp, Alt, Body, CaseArm, Comm, ConstItem, Constant, Desig, Entry, Expr,
-    Factor, Group, Module, MulOp, Part, Process, Range, Relation, Selector, Sign, Simple, Stmt,
-    Sub, SubKind, Term, Tree, TypeItem, TypeNode, VarItem,
+    Factor, Group, Module, MulOp, Part, Process, Range, Relation, Selector, Sign, Simple, Spread,
+    Stmt, Sub, SubKind, Term, Tree, TypeItem, TypeNode, VarItem,
 };
 pub use writer::write_tokens;

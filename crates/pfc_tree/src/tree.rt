@@ -236,10 +236,21 @@ pub struct Accept {
     pub place: Place,
 }
 
-/// `when b => c ? x; y := 1`, an alternative of a `select`.
+/// `for k := 1 to 3 replicate`, before an alternative that stands once for each value of `k`. Its place is the name's.
+#[derive(Drop)]
+pub struct Spread {
+    pub name: Name,
+    pub low: Constant,
+    pub high: Constant,
+    pub place: Place,
+}
+
+/// `for k := 1 to 3 replicate when b => c[k] ? x; y := 1`, an alternative of a `select`. A `timeout` or a `terminate` has
+/// no spread.
 #[derive(Drop)]
 #[cycle(stmts)]
 pub struct Alt {
+    pub spread: Option<Spread>,
     pub guard: Option<Expr>,
     pub comm: Comm,
     pub rest: Vec<Stmt>,

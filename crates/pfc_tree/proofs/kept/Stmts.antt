@@ -4,17 +4,22 @@ use Rattle.pfc_base.specs.declared.places.Place.{Place}
 use Rattle.pfc_tree.specs.kept.Exprs.{passed}
 use Rattle.pfc_tree.proofs.kept.Passing.{passing}
 use Rattle.pfc_tree.specs.trees.Stmts.{StmtTree, StmtTrees, BodyTree, ArmTree, ArmTrees, AcceptTree, AltTree, AltTrees, CommTree, empty, null, block, if_then, if_then_else, case_of, while_do, repeat_until, repeat_forever, for_do, cobegin, accepting, requeue, select, select_else, assign, send, receive, call, no_stmts, more_stmts, body, arm, no_arms, more_arms, accept, accept_do, alt, no_alts, more_alts, comm_accept, comm_send, comm_receive, timeout, terminate}
-use Rattle.pfc_tree.specs.forget.Stmts.{forget_stmt, forget_stmts, forget_body, forget_arm, forget_arms, forget_accept, forget_alt, forget_alts, forget_comm}
-use Rattle.pfc_tree.specs.tokens.Stmts.{stmt_tokens, stmts_tokens, semicolon_stmts_tokens, body_tokens, arm_tokens, arms_tokens, semicolon_arms_tokens, accept_tokens, alt_tokens, alts_tokens, or_alts_tokens, comm_tokens, pri_tokens, guard_tokens}
-use Rattle.pfc_tree.specs.kept.Stmts.{stmt_trace, stmts_trace, semicolon_stmts_trace, body_trace, arm_trace, arms_trace, semicolon_arms_trace, accept_trace, alt_trace, alts_trace, or_alts_trace, comm_trace, pri_trace, guard_trace}
+use Rattle.pfc_tree.specs.forget.Stmts.{forget_spread, forget_stmt, forget_stmts, forget_body, forget_arm, forget_arms, forget_accept, forget_alt, forget_alts, forget_comm}
+use Rattle.pfc_tree.specs.tokens.Stmts.{stmt_tokens, stmts_tokens, semicolon_stmts_tokens, body_tokens, arm_tokens, arms_tokens, semicolon_arms_tokens, accept_tokens, alt_tokens, alts_tokens, or_alts_tokens, comm_tokens, pri_tokens, replication_tokens, guard_tokens}
+use Rattle.pfc_tree.specs.kept.Stmts.{stmt_trace, stmts_trace, semicolon_stmts_trace, body_trace, arm_trace, arms_trace, semicolon_arms_trace, accept_trace, alt_trace, alts_trace, or_alts_trace, comm_trace, pri_trace, replication_trace, guard_trace}
+use Rattle.pfc_tree.specs.declared.tree.Spread.{Spread}
 use Rattle.pfc_tree.specs.trees.Exprs.{ExprTree}
 use Rattle.pfc_tree.specs.forget.Exprs.{forget_expr}
 use Rattle.pfc_tree.proofs.kept.Exprs.{expr_passed, desig_passed, actuals_passed}
-use Rattle.pfc_tree.proofs.kept.Types.{constants_passed, last_passed, formals_passed}
+use Rattle.pfc_tree.proofs.kept.Types.{constant_passed, constants_passed, last_passed, formals_passed}
 
 pri_passed : (b : Bool) (p : Place) → passed (pri_trace b p) ≡ length (pri_tokens b)
 pri_passed false p = refl
 pri_passed true p = refl
+
+replication_passed : (r : Option Spread) → passed (replication_trace r) ≡ length (replication_tokens (option_map forget_spread r))
+replication_passed None = refl
+replication_passed (Some r) = search (passing, constant_passed r.low, constant_passed r.high) depth 14
 
 guard_passed : (g : Option ExprTree) → passed (guard_trace g) ≡ length (guard_tokens (option_map forget_expr g))
 guard_passed None = refl
@@ -69,7 +74,7 @@ mutual
   accept_passed (accept_do x gs s p) = search (passing, formals_passed gs, stmt_passed s) depth 14
 
   pub alt_passed : (x : AltTree) → passed (alt_trace x) ≡ length (alt_tokens (forget_alt x))
-  alt_passed (alt e c ss) = search (passing, guard_passed e, comm_passed c, semicolon_stmts_passed ss) depth 14
+  alt_passed (alt r e c ss) = search (passing, replication_passed r, guard_passed e, comm_passed c, semicolon_stmts_passed ss) depth 14
 
   pub alts_passed : (xs : AltTrees) → passed (alts_trace xs) ≡ length (alts_tokens (forget_alts xs))
   alts_passed no_alts = refl

@@ -1,11 +1,11 @@
 -- The depth of each token of a statement, beside the depth of what stands around it: a statement adds one. The statements
 -- of a body are none by themselves, so the tokens of a body that stands for no statement stay at the body's depth. What
--- an alternative waits for, its guard and its `;` stand in the statement of their `select`.
+-- an alternative waits for, its spread, its guard and its `;` stand in the statement of their `select`.
 use Rattle.std.specs.Prelude.{ℕ, Option, Some, None, List, [], ◌∷◌, ◌++◌}
 use Rattle.pfc_tree.specs.shapes.Exprs.{ExprShape}
 use Rattle.pfc_tree.specs.shapes.Stmts.{StmtShape, StmtShapes, BodyShape, ArmShape, ArmShapes, AcceptShape, AltShape, AltShapes, CommShape, empty, null, block, if_then, if_then_else, case_of, while_do, repeat_until, repeat_forever, for_do, cobegin, accepting, requeue, select, select_else, assign, send, receive, call, no_stmts, more_stmts, body, arm, no_arms, more_arms, accept, accept_do, alt, no_alts, more_alts, comm_accept, comm_send, comm_receive, timeout, terminate}
 use Rattle.pfc_tree.specs.tokens.Types.{constants_tokens, last_tokens, formals_tokens}
-use Rattle.pfc_tree.specs.tokens.Stmts.{pri_tokens}
+use Rattle.pfc_tree.specs.tokens.Stmts.{pri_tokens, replication_tokens}
 use Rattle.pfc_tree.specs.depths.Exprs.{deeper, level, expr_depths, desig_depths, actuals_depths}
 
 abbrev pub guard_depths : Option ExprShape → List ℕ
@@ -61,7 +61,7 @@ abbrev mutual
   accept_depths (accept_do x gs s) = 0 ∷ level (formals_tokens gs) ++ 0 ∷ stmt_depths s
 
   pub alt_depths : AltShape → List ℕ
-  alt_depths (alt guard c ss) = guard_depths guard ++ comm_depths c ++ semicolon_stmts_depths ss
+  alt_depths (alt spread guard c ss) = level (replication_tokens spread) ++ guard_depths guard ++ comm_depths c ++ semicolon_stmts_depths ss
 
   pub comm_depths : CommShape → List ℕ
   comm_depths (comm_accept a) = 0 ∷ accept_depths a

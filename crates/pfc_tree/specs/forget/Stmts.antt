@@ -1,10 +1,14 @@
 -- Forgetting the places of statements.
 use Rattle.std.specs.Prelude.{map, option_map}
+use Rattle.pfc_tree.specs.declared.tree.Spread.{Spread}
 use Rattle.pfc_tree.specs.trees.Stmts.{StmtTree, StmtTrees, BodyTree, ArmTree, ArmTrees, AcceptTree, AltTree, AltTrees, CommTree, empty, null, block, if_then, if_then_else, case_of, while_do, repeat_until, repeat_forever, for_do, cobegin, accepting, requeue, select, select_else, assign, send, receive, call, no_stmts, more_stmts, body, arm, no_arms, more_arms, accept, accept_do, alt, no_alts, more_alts, comm_accept, comm_send, comm_receive, timeout, terminate}
-use Rattle.pfc_tree.specs.shapes.Stmts.{StmtShape, StmtShapes, BodyShape, ArmShape, ArmShapes, AcceptShape, AltShape, AltShapes, CommShape}
+use Rattle.pfc_tree.specs.shapes.Stmts.{SpreadShape, StmtShape, StmtShapes, BodyShape, ArmShape, ArmShapes, AcceptShape, AltShape, AltShapes, CommShape}
 use Rattle.pfc_tree.specs.shapes.Stmts as shape
 use Rattle.pfc_tree.specs.forget.Exprs.{forget_expr, forget_desig, forget_actuals}
 use Rattle.pfc_tree.specs.forget.Types.{forget_constant, forget_group}
+
+abbrev pub forget_spread : Spread → SpreadShape
+forget_spread r = record { name = r.name; low = forget_constant r.low; high = forget_constant r.high }
 
 abbrev mutual
   pub forget_stmt : StmtTree → StmtShape
@@ -47,7 +51,7 @@ abbrev mutual
   forget_accept (accept_do x gs s p) = shape.accept_do x (map forget_group gs) (forget_stmt s)
 
   pub forget_alt : AltTree → AltShape
-  forget_alt (alt e c ss) = shape.alt (option_map forget_expr e) (forget_comm c) (forget_stmts ss)
+  forget_alt (alt r e c ss) = shape.alt (option_map forget_spread r) (option_map forget_expr e) (forget_comm c) (forget_stmts ss)
 
   pub forget_alts : AltTrees → AltShapes
   forget_alts no_alts = shape.no_alts

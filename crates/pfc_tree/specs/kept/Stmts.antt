@@ -1,10 +1,18 @@
 -- The traces of statements.
 use Rattle.std.specs.Prelude.{Bool, true, false, Option, Some, None, List, [], ◌∷◌, ◌++◌}
 use Rattle.pfc_base.specs.declared.places.Place.{Place}
+use Rattle.pfc_tree.specs.declared.tree.Spread.{Spread}
 use Rattle.pfc_tree.specs.trees.Exprs.{ExprTree}
 use Rattle.pfc_tree.specs.trees.Stmts.{StmtTree, StmtTrees, BodyTree, ArmTree, ArmTrees, AcceptTree, AltTree, AltTrees, CommTree, empty, null, block, if_then, if_then_else, case_of, while_do, repeat_until, repeat_forever, for_do, cobegin, accepting, requeue, select, select_else, assign, send, receive, call, no_stmts, more_stmts, body, arm, no_arms, more_arms, accept, accept_do, alt, no_alts, more_alts, comm_accept, comm_send, comm_receive, timeout, terminate}
 use Rattle.pfc_tree.specs.kept.Exprs.{Step, here, next, at, expr_trace, desig_trace, actuals_trace}
-use Rattle.pfc_tree.specs.kept.Types.{constants_trace, flag_trace, formals_trace}
+use Rattle.pfc_tree.specs.kept.Types.{constant_trace, constants_trace, flag_trace, formals_trace}
+
+abbrev pub spread_trace : Spread → List Step
+spread_trace r = next ∷ at r.place ++ next ∷ constant_trace r.low ++ next ∷ constant_trace r.high ++ next ∷ []
+
+abbrev pub replication_trace : Option Spread → List Step
+replication_trace None = []
+replication_trace (Some r) = spread_trace r
 
 abbrev pub guard_trace : Option ExprTree → List Step
 guard_trace None = []
@@ -64,7 +72,7 @@ abbrev mutual
   accept_trace (accept_do x gs s p) = at p ++ formals_trace gs ++ next ∷ stmt_trace s
 
   pub alt_trace : AltTree → List Step
-  alt_trace (alt guard c ss) = guard_trace guard ++ comm_trace c ++ semicolon_stmts_trace ss
+  alt_trace (alt spread guard c ss) = replication_trace spread ++ guard_trace guard ++ comm_trace c ++ semicolon_stmts_trace ss
 
   pub comm_trace : CommTree → List Step
   comm_trace (comm_accept a p) = at p ++ accept_trace a

@@ -1,11 +1,11 @@
--- When a statement is lawful. Beside the lengths of its lists there are two conditions: a statement that ends in an `if`
--- without `else` is not directly followed by `else`, and an alternative that is followed by `or` does not end in an
--- expression.
+-- When a statement is lawful. Beside the lengths of its lists there are three conditions: a statement that ends in an `if`
+-- without `else` is not directly followed by `else`, an alternative that is followed by `or` does not end in an
+-- expression, and no `timeout` and no `terminate` is replicated.
 use Rattle.std.specs.Prelude.{◌≡◌, Bool, true, false, Option, Some, None}
 use Rattle.pfc_tree.specs.shapes.Exprs.{ExprShape}
-use Rattle.pfc_tree.specs.shapes.Stmts.{StmtShape, StmtShapes, BodyShape, ArmShape, ArmShapes, AcceptShape, AltShape, AltShapes, CommShape, empty, null, block, if_then, if_then_else, case_of, while_do, repeat_until, repeat_forever, for_do, cobegin, accepting, requeue, select, select_else, assign, send, receive, call, no_stmts, more_stmts, body, arm, no_arms, more_arms, accept, accept_do, alt, no_alts, more_alts, comm_accept, comm_send, comm_receive, timeout, terminate}
+use Rattle.pfc_tree.specs.shapes.Stmts.{SpreadShape, StmtShape, StmtShapes, BodyShape, ArmShape, ArmShapes, AcceptShape, AltShape, AltShapes, CommShape, empty, null, block, if_then, if_then_else, case_of, while_do, repeat_until, repeat_forever, for_do, cobegin, accepting, requeue, select, select_else, assign, send, receive, call, no_stmts, more_stmts, body, arm, no_arms, more_arms, accept, accept_do, alt, no_alts, more_alts, comm_accept, comm_send, comm_receive, timeout, terminate}
 use Rattle.pfc_tree.specs.lawful.Exprs.{IsLawfulExpr, IsLawfulDesig, AreLawfulActuals}
-use Rattle.pfc_tree.specs.lawful.Types.{IsFilled, AreLawfulConstants, AreLawfulFormals}
+use Rattle.pfc_tree.specs.lawful.Types.{IsFilled, IsLawfulConstant, AreLawfulConstants, AreLawfulFormals}
 
 abbrev mutual
   -- whether a statement ends in an `if` without `else`: it is one, or the last statement in it does
@@ -87,10 +87,10 @@ last_ends_in_expr before (more_stmts s ss) = last_ends_in_expr (ends_in_expr s) 
 
 -- the same of an alternative, which ends as its last statement does, or else as what it waits for
 abbrev pub alt_ends_in_if : AltShape → Bool
-alt_ends_in_if (alt guard c ss) = last_ends_in_if (comm_ends_in_if c) ss
+alt_ends_in_if (alt spread guard c ss) = last_ends_in_if (comm_ends_in_if c) ss
 
 abbrev pub alt_ends_in_expr : AltShape → Bool
-alt_ends_in_expr (alt guard c ss) = last_ends_in_expr (comm_ends_in_expr c) ss
+alt_ends_in_expr (alt spread guard c ss) = last_ends_in_expr (comm_ends_in_expr c) ss
 
 -- the last alternative ends in an `if` without `else`
 abbrev pub alts_end_in_if : AltShapes → Bool
@@ -106,6 +106,23 @@ OrMayFollow a (more_alts b alts) = alt_ends_in_expr a ≡ false
 abbrev pub IsLawfulGuard : Option ExprShape → Type 0
 IsLawfulGuard None = Unit {0}
 IsLawfulGuard (Some e) = IsLawfulExpr e
+
+abbrev pub IsLawfulSpread : Option SpreadShape → Type 0
+IsLawfulSpread None = Unit {0}
+IsLawfulSpread (Some r) = IsLawfulConstant r.low × IsLawfulConstant r.high
+
+-- what an alternative waits for may be replicated
+abbrev pub IsReplicable : CommShape → Type 0
+IsReplicable (comm_accept a) = Unit {0}
+IsReplicable (comm_send d e) = Unit {0}
+IsReplicable (comm_receive d v) = Unit {0}
+IsReplicable (timeout e) = ⊥
+IsReplicable terminate = ⊥
+
+-- where there is a spread, what is waited for may be replicated
+abbrev pub MayStandBehind : Option SpreadShape → CommShape → Type 0
+MayStandBehind None c = Unit {0}
+MayStandBehind (Some r) c = IsReplicable c
 
 abbrev mutual
   pub IsLawfulStmt : StmtShape → Type 0
@@ -158,7 +175,7 @@ abbrev mutual
 
   -- the statements behind what an alternative waits for may be none
   pub IsLawfulAlt : AltShape → Type 0
-  IsLawfulAlt (alt guard c ss) = IsLawfulGuard guard × IsLawfulComm c × AreLawfulStmts ss
+  IsLawfulAlt (alt spread guard c ss) = IsLawfulSpread spread × IsLawfulGuard guard × MayStandBehind spread c × IsLawfulComm c × AreLawfulStmts ss
 
   pub IsLawfulComm : CommShape → Type 0
   IsLawfulComm (comm_accept a) = IsLawfulAccept a

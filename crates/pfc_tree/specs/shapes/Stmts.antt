@@ -4,6 +4,12 @@ use Rattle.pfc_tree.specs.Symbols.{Text}
 use Rattle.pfc_tree.specs.shapes.Exprs.{ExprShape, DesigShape, ActualShapes}
 use Rattle.pfc_tree.specs.shapes.Types.{GroupShape, ConstantShape}
 
+-- for k := 1 to 3 replicate
+pub record SpreadShape : Type 0 where
+  pub name : Text
+  pub low : ConstantShape
+  pub high : ConstantShape
+
 mutual
   -- a statement
   pub data StmtShape : Type 0 where
@@ -74,8 +80,8 @@ mutual
 
   -- an alternative
   pub data AltShape : Type 0 where
-    -- when b => c ? x; y := 1
-    alt : Option ExprShape → CommShape → StmtShapes → AltShape
+    -- for k := 1 to 3 replicate when b => c[k] ? x; y := 1
+    alt : Option SpreadShape → Option ExprShape → CommShape → StmtShapes → AltShape
 
   -- alternatives
   pub data AltShapes : Type 0 where

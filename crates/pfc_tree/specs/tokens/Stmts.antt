@@ -1,13 +1,13 @@
 -- What statements write. Each clause is one line of the grammar, which stands above it.
 use Rattle.std.specs.Prelude.{Bool, true, false, Option, Some, None, List, [], ◌∷◌, ◌++◌}
 use Rattle.pfc_base.specs.declared.tokens.Kind.TheVariants.{Word, Sign, Name}
-use Rattle.pfc_base.specs.declared.word.TheConstants.{ACCEPT, BEGIN, CASE, COBEGIN, COEND, DO, DOWNTO, ELSE, END, FOR, FOREVER, IF, NULL, OF, OR, PRI, REPEAT, REQUEUE, SELECT, TERMINATE, THEN, TIMEOUT, TO, UNTIL, WHEN, WHILE}
+use Rattle.pfc_base.specs.declared.word.TheConstants.{ACCEPT, BEGIN, CASE, COBEGIN, COEND, DO, DOWNTO, ELSE, END, FOR, FOREVER, IF, NULL, OF, OR, PRI, REPEAT, REPLICATE, REQUEUE, SELECT, TERMINATE, THEN, TIMEOUT, TO, UNTIL, WHEN, WHILE}
 use Rattle.pfc_base.specs.declared.sign.TheConstants.{BECOMES, SEMICOLON, COLON, SEND, RECEIVE, ARROW}
 use Rattle.pfc_tree.specs.Symbols.{Symbol}
 use Rattle.pfc_tree.specs.shapes.Exprs.{ExprShape}
-use Rattle.pfc_tree.specs.shapes.Stmts.{StmtShape, StmtShapes, BodyShape, ArmShape, ArmShapes, AcceptShape, AltShape, AltShapes, CommShape, empty, null, block, if_then, if_then_else, case_of, while_do, repeat_until, repeat_forever, for_do, cobegin, accepting, requeue, select, select_else, assign, send, receive, call, no_stmts, more_stmts, body, arm, no_arms, more_arms, accept, accept_do, alt, no_alts, more_alts, comm_accept, comm_send, comm_receive, timeout, terminate}
+use Rattle.pfc_tree.specs.shapes.Stmts.{SpreadShape, StmtShape, StmtShapes, BodyShape, ArmShape, ArmShapes, AcceptShape, AltShape, AltShapes, CommShape, empty, null, block, if_then, if_then_else, case_of, while_do, repeat_until, repeat_forever, for_do, cobegin, accepting, requeue, select, select_else, assign, send, receive, call, no_stmts, more_stmts, body, arm, no_arms, more_arms, accept, accept_do, alt, no_alts, more_alts, comm_accept, comm_send, comm_receive, timeout, terminate}
 use Rattle.pfc_tree.specs.tokens.Exprs.{expr_tokens, desig_tokens, actuals_tokens}
-use Rattle.pfc_tree.specs.tokens.Types.{constants_tokens, last_tokens, formals_tokens}
+use Rattle.pfc_tree.specs.tokens.Types.{constant_tokens, constants_tokens, last_tokens, formals_tokens}
 
 -- "to" | "downto"
 abbrev pub direction_symbol : Bool → Symbol
@@ -18,6 +18,15 @@ direction_symbol true = Word DOWNTO
 abbrev pub pri_tokens : Bool → List Symbol
 pri_tokens false = []
 pri_tokens true = Word PRI ∷ []
+
+-- spread = "for" name ":=" constant "to" constant "replicate"
+abbrev pub spread_tokens : SpreadShape → List Symbol
+spread_tokens r = Word FOR ∷ Name r.name ∷ Sign BECOMES ∷ constant_tokens r.low ++ Word TO ∷ constant_tokens r.high ++ Word REPLICATE ∷ []
+
+-- [spread]
+abbrev pub replication_tokens : Option SpreadShape → List Symbol
+replication_tokens None = []
+replication_tokens (Some r) = spread_tokens r
 
 -- ["when" expr "=>"]
 abbrev pub guard_tokens : Option ExprShape → List Symbol
@@ -84,10 +93,10 @@ abbrev mutual
   accept_tokens (accept x gs) = Name x ∷ formals_tokens gs
   accept_tokens (accept_do x gs s) = Name x ∷ formals_tokens gs ++ Word DO ∷ stmt_tokens s
 
-  -- alt = ["when" expr "=>"] (accept | desig "!" expr | desig "?" desig
-  --       | "timeout" expr | "terminate") {";" stmt}
+  -- alt = [spread] ["when" expr "=>"] (accept | desig "!" expr | desig "?" desig) {";" stmt}
+  --     | ["when" expr "=>"] ("timeout" expr | "terminate") {";" stmt}
   pub alt_tokens : AltShape → List Symbol
-  alt_tokens (alt guard c ss) = guard_tokens guard ++ comm_tokens c ++ semicolon_stmts_tokens ss
+  alt_tokens (alt spread guard c ss) = replication_tokens spread ++ guard_tokens guard ++ comm_tokens c ++ semicolon_stmts_tokens ss
 
   pub comm_tokens : CommShape → List Symbol
   comm_tokens (comm_accept a) = Word ACCEPT ∷ accept_tokens a

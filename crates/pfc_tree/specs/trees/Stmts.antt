@@ -1,8 +1,9 @@
--- Statements with their places, as plain values.
+-- Statements with their places, as plain values. A spread holds no list and no box, and is plain already.
 use Rattle.std.specs.Prelude.{Bool, Option, List}
 use Rattle.pfc_base.specs.declared.places.Place.{Place}
 use Rattle.pfc_tree.specs.Symbols.{Text}
 use Rattle.pfc_tree.specs.declared.tree.Constant.{Constant}
+use Rattle.pfc_tree.specs.declared.tree.Spread.{Spread}
 use Rattle.pfc_tree.specs.trees.Exprs.{ExprTree, DesigTree, ActualTrees}
 use Rattle.pfc_tree.specs.trees.Types.{GroupTree}
 
@@ -76,8 +77,8 @@ mutual
 
   -- an alternative
   pub data AltTree : Type 0 where
-    -- when b => c ? x; y := 1
-    alt : Option ExprTree → CommTree → StmtTrees → AltTree
+    -- for k := 1 to 3 replicate when b => c[k] ? x; y := 1
+    alt : Option Spread → Option ExprTree → CommTree → StmtTrees → AltTree
 
   -- alternatives
   pub data AltTrees : Type 0 where

@@ -77,7 +77,7 @@ abbrev pub accept_step : Accept-F CommTree StmtTree AcceptTree AltTree BodyTree 
 accept_step a = accept_of a.name (map group_view a.formals.items) a.stmt a.place
 
 abbrev pub alt_step : Alt-F CommTree StmtTree AcceptTree AltTree BodyTree ArmTree → AltTree
-alt_step a = alt (option_map expr_view a.guard) a.comm (stmts_of a.rest.items)
+alt_step a = alt a.spread (option_map expr_view a.guard) a.comm (stmts_of a.rest.items)
 
 abbrev pub body_step : Body-F CommTree StmtTree AcceptTree AltTree BodyTree ArmTree → BodyTree
 body_step b = body (stmts_of b.stmts.items) b.first b.last

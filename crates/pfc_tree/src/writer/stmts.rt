@@ -4,11 +4,12 @@ ghost use Rattle.pfc_base.specs.declared.tokens.Kind.TheVariants as token;
 ghost use Rattle.pfc_base.specs.declared.word.TheConstants as words;
 ghost use Rattle.pfc_base.specs.declared.sign.TheConstants as signs;
 ghost use Rattle.pfc_tree.specs.Symbols.{Adds};
+ghost use Rattle.pfc_tree.specs.forget.Stmts.{forget_spread};
 ghost use Rattle.pfc_tree.specs.tokens.Exprs.{expr_tokens, desig_tokens, actuals_tokens};
-ghost use Rattle.pfc_tree.specs.tokens.Stmts.{direction_symbol, pri_tokens, stmt_tokens, stmts_tokens, body_tokens, arm_tokens, arms_tokens, accept_tokens, alt_tokens, comm_tokens, alts_tokens};
+ghost use Rattle.pfc_tree.specs.tokens.Stmts.{direction_symbol, pri_tokens, spread_tokens, stmt_tokens, stmts_tokens, body_tokens, arm_tokens, arms_tokens, accept_tokens, alt_tokens, comm_tokens, alts_tokens};
 ghost use Rattle.pfc_tree.specs.Readings.{expr_shape, desig_shape, actuals_shape, stmt_shape, stmts_shape, body_shape, arm_shape, arms_shape, accept_shape, alt_shape, comm_shape, alts_shape};
 
-use crate::tree::{Accept, Actual, Alt, Body, CaseArm, Comm, Desig, Expr, Stmt};
+use crate::tree::{Accept, Actual, Alt, Body, CaseArm, Comm, Desig, Expr, Spread, Stmt};
 use crate::writer::Writer;
 use pfc_base::{Memory, Name, sign, word};
 
@@ -33,6 +34,19 @@ impl Writer {
         self.word(if down { word::DOWNTO } else { word::TO })?;
         self.expr(to)?;
         self.word(word::DO)
+    }
+
+    /// `for k := 1 to 3 replicate`
+    fn spread(&mut self, s: &Spread) -> Result<(), Memory>
+        ensures { OnOk result (Adds self.old.kinds.items self.new.kinds.items (spread_tokens (forget_spread s.now))) }
+    {
+        self.word(word::FOR)?;
+        self.name(&s.name)?;
+        self.sign(sign::BECOMES)?;
+        self.constant(&s.low)?;
+        self.word(word::TO)?;
+        self.constant(&s.high)?;
+        self.word(word::REPLICATE)
     }
 
     /// A designator, a sign and an expression, as in `x := 1`.
@@ -208,6 +222,9 @@ impl Writer {
     fn alt(&mut self, a: &Alt) -> Result<(), Memory>
         ensures { OnOk result (Adds self.old.kinds.items self.new.kinds.items (alt_tokens (alt_shape a.now))) }
     {
+        if let Some(spread) = &a.spread {
+            self.spread(spread)?;
+        }
         if let Some(e) = &a.guard {
             self.word(word::WHEN)?;
             self.expr(e)?;

@@ -31,7 +31,7 @@ impl Writer {
         self.comma_names(rest)
     }
 
-    fn constant(&mut self, c: &Constant) -> Result<(), Memory>
+    pub(crate) fn constant(&mut self, c: &Constant) -> Result<(), Memory>
         ensures { OnOk result (Adds self.old.kinds.items self.new.kinds.items (constant_tokens (forget_constant c.now))) }
     {
         match c {

@@ -1,24 +1,24 @@
 -- What lawful statements write is read back.
-use Rattle.std.proofs.Common.{◌≡◌, ℕ, zero, suc, List, [], ◌∷◌, ◌++◌, length, Bool, true, false, ◌||◌, ◌&&◌, Option, Some, None, refl, sym, ap, subst, ◌∙◌, append_assoc, append-nil}
+use Rattle.std.proofs.Common.{◌≡◌, ℕ, zero, suc, List, [], ◌∷◌, ◌++◌, length, Bool, true, false, ◌||◌, ◌&&◌, Option, Some, None, is_some, refl, sym, ap, subst, ◌∙◌, append_assoc, append-nil}
 use Rattle.pfc_base.specs.declared.tokens.Kind.TheVariants.{Word, Sign, Name}
-use Rattle.pfc_base.specs.declared.word.TheConstants.{COEND, DO, ELSE, END, FOREVER, OF, OR, THEN, UNTIL, WHEN}
+use Rattle.pfc_base.specs.declared.word.TheConstants.{COEND, DO, ELSE, END, FOR, FOREVER, OF, OR, REPLICATE, THEN, TO, UNTIL, WHEN}
 use Rattle.pfc_tree.specs.declared.tree.Sign.TheVariants.{Plus, Minus}
 use Rattle.pfc_base.specs.declared.sign.TheConstants.{OPEN_PAREN, BECOMES, SEMICOLON, COLON, SEND, RECEIVE}
 use Rattle.pfc_tree.specs.Symbols.{Symbol, Text}
 use Rattle.pfc_tree.specs.shapes.Exprs.{ExprShape, DesigShape, SelectorShapes, ActualShapes, desig, no_actuals, more_actuals}
 use Rattle.pfc_tree.specs.shapes.Types as type_shape
 use Rattle.pfc_tree.specs.shapes.Types.{ConstantShape, GroupShape}
-use Rattle.pfc_tree.specs.shapes.Stmts.{StmtShape, StmtShapes, BodyShape, ArmShape, ArmShapes, AcceptShape, AltShape, AltShapes, CommShape, empty, null, block, if_then, if_then_else, case_of, while_do, repeat_until, repeat_forever, for_do, cobegin, accepting, requeue, select, select_else, assign, send, receive, call, no_stmts, more_stmts, body, arm, no_arms, more_arms, accept, accept_do, alt, no_alts, more_alts, comm_accept, comm_send, comm_receive, timeout, terminate}
+use Rattle.pfc_tree.specs.shapes.Stmts.{SpreadShape, StmtShape, StmtShapes, BodyShape, ArmShape, ArmShapes, AcceptShape, AltShape, AltShapes, CommShape, empty, null, block, if_then, if_then_else, case_of, while_do, repeat_until, repeat_forever, for_do, cobegin, accepting, requeue, select, select_else, assign, send, receive, call, no_stmts, more_stmts, body, arm, no_arms, more_arms, accept, accept_do, alt, no_alts, more_alts, comm_accept, comm_send, comm_receive, timeout, terminate}
 use Rattle.pfc_tree.specs.tokens.Exprs.{expr_tokens, desig_tokens, selectors_tokens, actuals_tokens}
 use Rattle.pfc_tree.specs.tokens.Types.{constant_tokens, comma_constants_tokens, constants_tokens, last_tokens, formals_tokens}
-use Rattle.pfc_tree.specs.tokens.Stmts.{direction_symbol, pri_tokens, guard_tokens, stmt_tokens, stmts_tokens, semicolon_stmts_tokens, body_tokens, arm_tokens, arms_tokens, semicolon_arms_tokens, accept_tokens, alt_tokens, comm_tokens, alts_tokens, or_alts_tokens}
+use Rattle.pfc_tree.specs.tokens.Stmts.{direction_symbol, pri_tokens, spread_tokens, replication_tokens, guard_tokens, stmt_tokens, stmts_tokens, semicolon_stmts_tokens, body_tokens, arm_tokens, arms_tokens, semicolon_arms_tokens, accept_tokens, alt_tokens, comm_tokens, alts_tokens, or_alts_tokens}
 use Rattle.pfc_tree.specs.lawful.Exprs.{IsLawfulExpr, IsLawfulDesig, AreLawfulSelectors, AreLawfulActuals}
-use Rattle.pfc_tree.specs.lawful.Types.{IsFilled, AreLawfulConstants, AreLawfulFormals}
-use Rattle.pfc_tree.specs.lawful.Stmts.{ends_in_if, accept_ends_in_if, ends_in_expr, accept_ends_in_expr, comm_ends_in_if, comm_ends_in_expr, last_ends_in_if, last_ends_in_expr, alt_ends_in_if, alt_ends_in_expr, alts_end_in_if, OrMayFollow, IsLawfulGuard, IsLawfulStmt, HasLawfulStmts, AreLawfulStmts, IsLawfulBody, IsLawfulArm, HasLawfulArms, AreLawfulArms, IsLawfulAccept, IsLawfulAlt, IsLawfulComm, HasLawfulAlts, AreLawfulAlts}
+use Rattle.pfc_tree.specs.lawful.Types.{IsFilled, IsLawfulConstant, AreLawfulConstants, AreLawfulFormals}
+use Rattle.pfc_tree.specs.lawful.Stmts.{ends_in_if, accept_ends_in_if, ends_in_expr, accept_ends_in_expr, comm_ends_in_if, comm_ends_in_expr, last_ends_in_if, last_ends_in_expr, alt_ends_in_if, alt_ends_in_expr, alts_end_in_if, OrMayFollow, IsLawfulSpread, MayStandBehind, IsLawfulGuard, IsLawfulStmt, HasLawfulStmts, AreLawfulStmts, IsLawfulBody, IsLawfulArm, HasLawfulArms, AreLawfulArms, IsLawfulAccept, IsLawfulAlt, IsLawfulComm, HasLawfulAlts, AreLawfulAlts}
 use Rattle.pfc_grammar.specs.Reading.{Reader, pure, stop_deep, branch, choose}
 use Rattle.pfc_grammar.specs.Heads.{as_word, as_sign, as_direction, takes, is_word, begins_stmt}
 use Rattle.pfc_grammar.specs.grammar.Exprs.{expr_at}
-use Rattle.pfc_grammar.specs.grammar.Stmts.{stmts_of, arms_of, alts_of, test_before, for_head, accept_head, labels, guard, requeue_behind, action_behind, comm_behind, stmts_with, body_behind, body_with, if_behind, arm_with, case_behind, while_behind, repeat_behind, for_behind, cobegin_behind, accept_behind, comm_with, alt_with, select_behind, stmt_second, stmt_with, stmt_at}
+use Rattle.pfc_grammar.specs.grammar.Stmts.{stmts_of, arms_of, alts_of, test_before, for_head, accept_head, labels, spread_behind, replication, guard, alt_head, requeue_behind, action_behind, comm_behind, message, message_or_wait, comm_plain, stmts_with, body_behind, body_with, if_behind, arm_with, case_behind, while_behind, repeat_behind, for_behind, cobegin_behind, accept_behind, comm_with, alt_with, select_behind, stmt_second, stmt_with, stmt_at}
 use Rattle.pfc_tree.specs.depths.Exprs.{deeper, level, expr_depths, desig_depths, selectors_depths, actuals_depths}
 use Rattle.pfc_tree.specs.depths.Stmts.{guard_depths, stmt_depths, stmts_depths, semicolon_stmts_depths, body_depths, arm_depths, arms_depths, semicolon_arms_depths, accept_depths, alt_depths, comm_depths, alts_depths, or_alts_depths}
 use Rattle.pfc_tree.proofs.depths.Stmts.{stmt_even}
@@ -26,9 +26,9 @@ use Rattle.pfc_grammar.proofs.Lists.{or-left, or-right, or-both, shift}
 use Rattle.pfc_grammar.proofs.Complete.{Complete, Skips, Lacks, Any, complete_pure, complete_less, complete_bind, complete_last, complete_take, complete_skip, complete_pass, complete_next, complete_up, complete_same, complete_value, lacks_less, skips}
 use Rattle.pfc_grammar.proofs.CompleteLoops.{Run, run_end, run_item, EndRun, end_none, end_last, end_item, complete_many, complete_list, complete_list_end}
 use Rattle.pfc_grammar.proofs.sound_rules.Stmts.{behind, stmt_behind, alt_tail}
-use Rattle.pfc_grammar.proofs.complete_rules.Levels.{AtWord, at_word}
+use Rattle.pfc_grammar.proofs.complete_rules.Levels.{flat_bind, AtWord, at_word}
 use Rattle.pfc_grammar.proofs.complete_rules.Exprs.{after_desig, after_expr, ReadsExprs, complete_desig_behind, complete_desig, complete_actuals, complete_expr_at, Starts, starts, complete_none}
-use Rattle.pfc_grammar.proofs.complete_rules.Types.{complete_constants, complete_formals, at_end, heads_end}
+use Rattle.pfc_grammar.proofs.complete_rules.Types.{complete_constant, complete_constants, complete_formals, at_end, heads_end}
 
 abbrev stmts_list : StmtShapes → List StmtShape
 stmts_list no_stmts = []
@@ -214,6 +214,30 @@ module _ (n : ℕ) (e : Reader ExprShape) (he : ReadsExprs n e) where
   complete_guard None l = complete_skip _ _ (λ rest c. c) complete_pure
   complete_guard (Some x) l = complete_take _ _ _ tt refl (complete_bind _ (he x l) (λ rest c. refl) (complete_next _ _ tt refl complete_pure))
 
+  abbrev spread_rest : SpreadShape → List Symbol
+  spread_rest r = Name r.name ∷ Sign BECOMES ∷ (constant_tokens r.low ++ (Word TO ∷ (constant_tokens r.high ++ (Word REPLICATE ∷ []))))
+
+  spread_written : (r : SpreadShape) → Word FOR ∷ spread_rest r ≡ spread_tokens r
+  spread_written r = ap (λ z. Word FOR ∷ Name r.name ∷ Sign BECOMES ∷ z) (sym (append_assoc (constant_tokens r.low) (Word TO ∷ constant_tokens r.high) (Word REPLICATE ∷ [])))
+
+  complete_spread : (r : SpreadShape) → IsLawfulConstant r.low → IsLawfulConstant r.high → Complete n spread_behind (spread_rest r) (level (spread_rest r)) r Any
+  unfolding spread_behind
+  complete_spread r l m = complete_next _ _ r.name refl (complete_next _ _ tt refl (flat_bind _ (complete_constant n r.low l) (λ rest c. tt) (complete_next _ _ tt refl (flat_bind _ (complete_constant n r.high m) (λ rest c. tt) (complete_next _ _ tt refl complete_pure)))))
+
+  complete_replication : (r : Option SpreadShape) → IsLawfulSpread r → Complete n replication (replication_tokens r) (level (replication_tokens r)) r (λ rest. Skips (as_word FOR) rest)
+  unfolding replication
+  complete_replication None l = complete_skip _ _ (λ rest c. c) complete_pure
+  complete_replication (Some r) l = complete_same (spread_written r) (ap level (spread_written r)) refl (complete_take _ _ _ tt refl (complete_last (λ z. Some z) (complete_spread r l.0 l.1) (λ rest c. tt)))
+
+  guard_skips_for : (g : Option ExprShape) (rest : List Symbol) → Skips (as_word FOR) rest → Skips (as_word FOR) (guard_tokens g ++ rest)
+  guard_skips_for None rest c = c
+  guard_skips_for (Some x) rest c = refl
+
+  complete_alt_head : (r : Option SpreadShape) (g : Option ExprShape) → IsLawfulSpread r → IsLawfulGuard g →
+      Complete n (alt_head e) (replication_tokens r ++ guard_tokens g) (level (replication_tokens r) ++ guard_depths g) (r, g) (λ rest. Skips (as_word FOR) rest × Skips (as_word WHEN) rest)
+  unfolding alt_head
+  complete_alt_head r g l m = complete_bind _ (complete_replication r l) (λ rest c. guard_skips_for g rest c.0) (complete_last (λ z. (r, z)) (complete_guard g m) (λ rest c. c.1))
+
   complete_requeue : (x : Text) (args : ActualShapes) → AreLawfulActuals args → Complete n (requeue_behind e) (Name x ∷ actuals_tokens args) (0 ∷ actuals_depths args) (requeue x args) Closer
   unfolding requeue_behind
   complete_requeue x args l = complete_next _ _ x refl (complete_last (λ z. requeue x z) (complete_actuals n e he args l) paren_ends)
@@ -387,13 +411,17 @@ module _ (n : ℕ) (e : Reader ExprShape) (he : ReadsExprs n e) where
         (complete_bind _ (complete_accept_head x gs l) (λ rest k. paren_ends rest k.0) (complete_skip _ _ (λ rest k. no_do rest k.0) complete_pure))
     complete_accept (accept_do x gs y) l = complete_bind _ (complete_accept_head x gs l.0) (λ rest k. refl) (complete_take _ _ _ tt refl (complete_last (λ z. accept_do x gs z) (hs y l.1) (λ rest k. k)))
 
-    complete_comm : (c : CommShape) → IsLawfulComm c → Complete n (comm_with e s) (comm_tokens c) (comm_depths c) c (Ends (comm_ends_in_if c) (comm_ends_in_expr c))
-    unfolding comm_with
-    complete_comm (comm_accept a) l = complete_take _ _ _ tt refl (complete_last (λ z. comm_accept z) (complete_accept a l) (λ rest k. k))
-    complete_comm (comm_send (desig x ss) v) l = complete_skip _ _ (λ rest c. refl) (complete_skip _ _ (λ rest c. refl) (complete_skip _ _ (λ rest c. refl) (complete_take _ _ _ x refl (complete_comm_send x ss v l.0 l.1))))
-    complete_comm (comm_receive (desig x ss) v) l = complete_skip _ _ (λ rest c. refl) (complete_skip _ _ (λ rest c. refl) (complete_skip _ _ (λ rest c. refl) (complete_take _ _ _ x refl (complete_less (λ rest k. k.0) (complete_comm_receive x ss v l.0 l.1)))))
-    complete_comm (timeout v) l = complete_skip _ _ (λ rest c. refl) (complete_take _ _ _ tt refl (complete_last (λ z. timeout z) (he v l) (λ rest k. expr_ends false rest k.0 k.1)))
-    complete_comm terminate l = complete_skip _ _ (λ rest c. refl) (complete_skip _ _ (λ rest c. refl) (complete_take _ _ _ tt refl complete_pure))
+    complete_comm : (r : Option SpreadShape) (c : CommShape) → MayStandBehind r c → IsLawfulComm c → Complete n (comm_with e s (is_some r)) (comm_tokens c) (comm_depths c) c (Ends (comm_ends_in_if c) (comm_ends_in_expr c))
+    unfolding comm_with comm_plain message_or_wait message
+    complete_comm r (comm_accept a) h l = complete_take _ _ _ tt refl (complete_last (λ z. comm_accept z) (complete_accept a l) (λ rest k. k))
+    complete_comm None (comm_send (desig x ss) v) h l = complete_skip _ _ (λ rest c. refl) (complete_skip _ _ (λ rest c. refl) (complete_skip _ _ (λ rest c. refl) (complete_take _ _ _ x refl (complete_comm_send x ss v l.0 l.1))))
+    complete_comm (Some r) (comm_send (desig x ss) v) h l = complete_skip _ _ (λ rest c. refl) (complete_take _ _ _ x refl (complete_comm_send x ss v l.0 l.1))
+    complete_comm None (comm_receive (desig x ss) v) h l = complete_skip _ _ (λ rest c. refl) (complete_skip _ _ (λ rest c. refl) (complete_skip _ _ (λ rest c. refl) (complete_take _ _ _ x refl (complete_less (λ rest k. k.0) (complete_comm_receive x ss v l.0 l.1)))))
+    complete_comm (Some r) (comm_receive (desig x ss) v) h l = complete_skip _ _ (λ rest c. refl) (complete_take _ _ _ x refl (complete_less (λ rest k. k.0) (complete_comm_receive x ss v l.0 l.1)))
+    complete_comm None (timeout v) h l = complete_skip _ _ (λ rest c. refl) (complete_take _ _ _ tt refl (complete_last (λ z. timeout z) (he v l) (λ rest k. expr_ends false rest k.0 k.1)))
+    complete_comm (Some r) (timeout v) h l = absurd h
+    complete_comm None terminate h l = complete_skip _ _ (λ rest c. refl) (complete_skip _ _ (λ rest c. refl) (complete_take _ _ _ tt refl complete_pure))
+    complete_comm (Some r) terminate h l = absurd h
 
     -- what may follow the statements behind what an alternative waits for
     abbrev RestEnds : Bool → Bool → StmtShapes → List Symbol → Type 0
@@ -411,18 +439,22 @@ module _ (n : ℕ) (e : Reader ExprShape) (he : ReadsExprs n e) where
     abbrev AltEnds : AltShape → List Symbol → Type 0
     AltEnds a rest = Closer rest × Lacks (alt_tail a) rest × Skips (as_sign SEMICOLON) rest
 
-    no_when : (c : CommShape) (l : List Symbol) → Skips (as_word WHEN) (comm_tokens c ++ l)
-    no_when (comm_accept a) l = refl
-    no_when (comm_send (desig x ss) v) l = refl
-    no_when (comm_receive (desig x ss) v) l = refl
-    no_when (timeout v) l = refl
-    no_when terminate l = refl
+    -- neither a spread nor a guard begins there
+    abbrev NoHead : List Symbol → Type 0
+    NoHead rest = Skips (as_word FOR) rest × Skips (as_word WHEN) rest
+
+    no_head : (c : CommShape) (l : List Symbol) → NoHead (comm_tokens c ++ l)
+    no_head (comm_accept a) l = (refl, refl)
+    no_head (comm_send (desig x ss) v) l = (refl, refl)
+    no_head (comm_receive (desig x ss) v) l = (refl, refl)
+    no_head (timeout v) l = (refl, refl)
+    no_head terminate l = (refl, refl)
 
     complete_alt : (a : AltShape) → IsLawfulAlt a → Complete n (alt_with e s) (alt_tokens a) (alt_depths a) a (AltEnds a)
     unfolding alt_with
-    complete_alt (alt g c ss) l = complete_same (sym (append_assoc (guard_tokens g) (comm_tokens c) (semicolon_stmts_tokens ss))) (sym (append_assoc (guard_depths g) (comm_depths c) (semicolon_stmts_depths ss))) (ap (λ z. alt g c z) (stmts_same ss))
-        (complete_bind _ (complete_guard g l.0) (λ rest k. subst (Skips (as_word WHEN)) (sym (append_assoc (comm_tokens c) (semicolon_stmts_tokens ss) rest)) (no_when c (semicolon_stmts_tokens ss ++ rest)))
-        (complete_bind _ (complete_comm c l.1) (follow_rest (comm_ends_in_if c) (comm_ends_in_expr c) ss) (complete_last (λ z. alt g c (stmts_of z)) (complete_many (run_rest (comm_ends_in_if c) (comm_ends_in_expr c) ss l.2)) (λ rest k. k))))
+    complete_alt (alt r g c ss) l = complete_same (sym (append_assoc (replication_tokens r ++ guard_tokens g) (comm_tokens c) (semicolon_stmts_tokens ss))) (sym (append_assoc (level (replication_tokens r) ++ guard_depths g) (comm_depths c) (semicolon_stmts_depths ss))) (ap (λ z. alt r g c z) (stmts_same ss))
+        (complete_bind _ (complete_alt_head r g l.0 l.1) (λ rest k. subst NoHead (sym (append_assoc (comm_tokens c) (semicolon_stmts_tokens ss) rest)) (no_head c (semicolon_stmts_tokens ss ++ rest)))
+        (complete_bind _ (complete_comm r c l.2 l.3) (follow_rest (comm_ends_in_if c) (comm_ends_in_expr c) ss) (complete_last (λ z. alt r g c (stmts_of z)) (complete_many (run_rest (comm_ends_in_if c) (comm_ends_in_expr c) ss l.4)) (λ rest k. k))))
 
     -- the set behind the last alternative
     abbrev last_tail : AltShape → AltShapes → Symbol → Bool

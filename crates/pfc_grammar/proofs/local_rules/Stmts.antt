@@ -1,5 +1,5 @@
 -- The readers of statements look no further than at the symbol on which they end.
-use Rattle.std.proofs.Common.{ℕ, zero, suc, Bool}
+use Rattle.std.proofs.Common.{ℕ, zero, suc, Bool, true, false}
 use Rattle.pfc_tree.specs.Symbols.{Text}
 use Rattle.pfc_grammar.proofs.Local.{Local, local_pure, local_stop_deep, local_bind, local_choose, local_take}
 use Rattle.pfc_grammar.proofs.LocalLoops.{local_list, local_list_end}
@@ -10,7 +10,7 @@ use Rattle.pfc_tree.specs.shapes.Exprs.{ExprShape}
 use Rattle.pfc_tree.specs.shapes.Stmts.{StmtShape, empty}
 use Rattle.pfc_grammar.specs.Heads.{as_word, as_sign, is_word, begins_stmt}
 use Rattle.pfc_grammar.specs.grammar.Exprs.{desig_behind, desig_with, actuals_with, expr_at}
-use Rattle.pfc_grammar.specs.grammar.Stmts.{test_before, for_head, accept_head, labels, guard, requeue_behind, action_behind, comm_behind, stmts_with, body_behind, body_with, if_behind, arm_with, case_behind, while_behind, repeat_behind, for_behind, cobegin_behind, accept_behind, comm_with, alt_with, select_behind, stmt_second, stmt_with, stmt_at}
+use Rattle.pfc_grammar.specs.grammar.Stmts.{test_before, for_head, accept_head, labels, spread_behind, replication, guard, alt_head, requeue_behind, action_behind, comm_behind, message, message_or_wait, comm_plain, stmts_with, body_behind, body_with, if_behind, arm_with, case_behind, while_behind, repeat_behind, for_behind, cobegin_behind, accept_behind, comm_with, alt_with, select_behind, stmt_second, stmt_with, stmt_at}
 use Rattle.pfc_grammar.proofs.local_rules.Exprs.{localities, local_desig_behind, local_desig, local_actuals, local_expr_at}
 use Rattle.pfc_grammar.proofs.local_rules.Types.{local_constant, local_formals}
 
@@ -21,6 +21,14 @@ local_accept_head = search (localities, local_formals) depth 12
 local_labels : Local labels
 unfolding labels
 local_labels = search (localities, local_constant) depth 12
+
+local_spread : Local spread_behind
+unfolding spread_behind
+local_spread = search (localities, local_constant) depth 16
+
+local_replication : Local replication
+unfolding replication
+local_replication = search (localities, local_spread) depth 12
 
 module _ (e : Reader ExprShape) (he : Local e) where
   local_test : (w : ℕ) → Local (test_before e w)
@@ -35,6 +43,10 @@ module _ (e : Reader ExprShape) (he : Local e) where
   unfolding guard
   local_guard = search localities depth 12
 
+  local_alt_head : Local (alt_head e)
+  unfolding alt_head
+  local_alt_head = search (localities, local_replication, local_guard) depth 12
+
   local_requeue : Local (requeue_behind e)
   unfolding requeue_behind
   local_requeue = let a : Local (actuals_with e) = local_actuals e he in search localities depth 12
@@ -46,6 +58,19 @@ module _ (e : Reader ExprShape) (he : Local e) where
   local_comm_behind : (x : Text) → Local (comm_behind e x)
   unfolding comm_behind
   local_comm_behind x = let b : (y : Text) → Local (desig_behind e y) = local_desig_behind e he in let d : Local (desig_with e) = local_desig e he in search localities depth 12
+
+  local_message : Local (message e)
+  unfolding message
+  local_message = search (localities, local_comm_behind) depth 12
+
+  local_message_or_wait : Local (message_or_wait e)
+  unfolding message_or_wait
+  local_message_or_wait = search (localities, local_message) depth 12
+
+  local_comm_plain : (replicated : Bool) → Local (comm_plain e replicated)
+  unfolding comm_plain
+  local_comm_plain true = local_message
+  local_comm_plain false = local_message_or_wait
 
   module _ (s : Reader StmtShape) (hs : Local s) where
     local_stmts : Local (stmts_with s)
@@ -92,13 +117,13 @@ module _ (e : Reader ExprShape) (he : Local e) where
     unfolding accept_behind
     local_accept = search (localities, local_accept_head) depth 12
 
-    local_comm : Local (comm_with e s)
+    local_comm : (replicated : Bool) → Local (comm_with e s replicated)
     unfolding comm_with
-    local_comm = search (localities, local_accept, local_comm_behind) depth 14
+    local_comm replicated = search (localities, local_accept, local_comm_plain) depth 14
 
     local_alt : Local (alt_with e s)
     unfolding alt_with
-    local_alt = search (localities, local_guard, local_comm) depth 12
+    local_alt = search (localities, local_alt_head, local_comm) depth 12
 
     local_select : (pri : Bool) → Local (select_behind e s pri)
     unfolding select_behind

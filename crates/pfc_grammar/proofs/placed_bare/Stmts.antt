@@ -1,21 +1,22 @@
 -- The readers of statements from tokens agree with those from kinds but for places.
-use Rattle.std.proofs.Common.{◌≡◌, ℕ, zero, suc, List, [], ◌∷◌, map, Bool, true, false, option_map, refl, ap, ◌∙◌}
+use Rattle.std.proofs.Common.{◌≡◌, ℕ, zero, suc, List, [], ◌∷◌, map, Bool, true, false, Option, Some, None, is_some, option_map, refl, ap, ◌∙◌}
 use Rattle.pfc_base.specs.declared.places.Place.{Place}
 use Rattle.pfc_tree.specs.Symbols.{Text}
 use Rattle.pfc_tree.specs.shapes.Exprs.{ExprShape}
 use Rattle.pfc_tree.specs.shapes.Types.{GroupShape}
-use Rattle.pfc_tree.specs.shapes.Stmts.{StmtShape, case_of, repeat_until, repeat_forever, cobegin, select, select_else, more_stmts, body, more_arms, alt, more_alts}
+use Rattle.pfc_tree.specs.declared.tree.Spread.{Spread}
+use Rattle.pfc_tree.specs.shapes.Stmts.{SpreadShape, StmtShape, case_of, repeat_until, repeat_forever, cobegin, select, select_else, more_stmts, body, more_arms, alt, more_alts}
 use Rattle.pfc_tree.specs.trees.Exprs.{ExprTree}
 use Rattle.pfc_tree.specs.trees.Types.{GroupTree}
 use Rattle.pfc_tree.specs.trees.Stmts.{StmtTree, ArmTree, AltTree}
 use Rattle.pfc_tree.specs.views.Stmts.{stmts_of, arms_of, alts_of}
 use Rattle.pfc_tree.specs.forget.Exprs.{forget_expr}
 use Rattle.pfc_tree.specs.forget.Types.{forget_constant, forget_group}
-use Rattle.pfc_tree.specs.forget.Stmts.{forget_stmt, forget_stmts, forget_body, forget_arm, forget_arms, forget_accept, forget_alt, forget_alts, forget_comm}
+use Rattle.pfc_tree.specs.forget.Stmts.{forget_spread, forget_stmt, forget_stmts, forget_body, forget_arm, forget_arms, forget_accept, forget_alt, forget_alts, forget_comm}
 use Rattle.pfc_grammar.specs.Reading.{Reader as KindReader}
 use Rattle.pfc_grammar.specs.grammar.Stmts as kinds
 use Rattle.pfc_grammar.specs.placed.Reading.{Reader}
-use Rattle.pfc_grammar.specs.placed.Stmts.{test_before, for_head, accept_head, labels, guard, requeue_behind, action_behind, comm_behind, stmts_with, body_behind, body_with, block_behind, if_behind, arm_with, case_behind, while_behind, repeat_behind, for_behind, cobegin_behind, accept_behind, accepting_behind, comm_with, alt_with, select_behind, pri_behind, stmt_second, stmt_with, stmt_at}
+use Rattle.pfc_grammar.specs.placed.Stmts.{test_before, for_head, accept_head, labels, spread_behind, replication, guard, alt_head, requeue_behind, action_behind, comm_behind, message, message_or_wait, comm_plain, stmts_with, body_behind, body_with, block_behind, if_behind, arm_with, case_behind, while_behind, repeat_behind, for_behind, cobegin_behind, accept_behind, accepting_behind, comm_with, alt_with, select_behind, pri_behind, stmt_second, stmt_with, stmt_at}
 use Rattle.pfc_grammar.proofs.placed_bare.Readers.{Bares, bare_pure, bare_stop, bare_stop_deep, bare_bind, bare_branch, bare_choose, bare_take}
 use Rattle.pfc_grammar.proofs.placed_bare.Loops.{bare_many, bare_list, bare_list_end}
 use Rattle.pfc_grammar.proofs.placed_bare.Exprs.{bare_desig_behind, bare_desig, bare_actuals, bare_expr_at}
@@ -49,6 +50,17 @@ bare_labels : Bares (map forget_constant) labels kinds.labels
 unfolding labels kinds.labels
 bare_labels = bare_bind _ (bare_list _ bare_constant) (λ cs. bare_bind _ (bare_take _) (λ t. bare_pure _ refl))
 
+abbrev forget_alt_head : Option Spread × Option ExprTree → Option SpreadShape × Option ExprShape
+forget_alt_head h = (option_map forget_spread h.0, option_map forget_expr h.1)
+
+bare_spread : Bares forget_spread spread_behind kinds.spread_behind
+unfolding spread_behind kinds.spread_behind
+bare_spread = bare_bind _ (bare_take _) (λ x. bare_bind _ (bare_take _) (λ t. bare_bind _ bare_constant (λ low. bare_bind _ (bare_take _) (λ u. bare_bind _ bare_constant (λ high. bare_bind _ (bare_take _) (λ v. bare_pure _ refl))))))
+
+bare_replication : Bares (option_map forget_spread) replication kinds.replication
+unfolding replication kinds.replication
+bare_replication = bare_branch _ _ (λ t. bare_bind _ bare_spread (λ r. bare_pure _ refl)) (bare_pure _ refl)
+
 module _ {e : Reader ExprTree} {q : KindReader ExprShape} (h : Bares forget_expr e q) where
   bare_test : (w : ℕ) → Bares forget_expr (test_before e w) (kinds.test_before q w)
   unfolding test_before kinds.test_before
@@ -61,6 +73,10 @@ module _ {e : Reader ExprTree} {q : KindReader ExprShape} (h : Bares forget_expr
   bare_guard : Bares (option_map forget_expr) (guard e) (kinds.guard q)
   unfolding guard kinds.guard
   bare_guard = bare_branch _ _ (λ t. bare_bind _ h (λ x. bare_bind _ (bare_take _) (λ u. bare_pure _ refl))) (bare_pure _ refl)
+
+  bare_alt_head : Bares forget_alt_head (alt_head e) (kinds.alt_head q)
+  unfolding alt_head kinds.alt_head
+  bare_alt_head = bare_bind _ bare_replication (λ r. bare_bind _ bare_guard (λ g. bare_pure _ refl))
 
   bare_requeue : (p : Place) → Bares forget_stmt (requeue_behind e p) (kinds.requeue_behind q)
   unfolding requeue_behind kinds.requeue_behind
@@ -77,6 +93,19 @@ module _ {e : Reader ExprTree} {q : KindReader ExprShape} (h : Bares forget_expr
   unfolding comm_behind kinds.comm_behind
   bare_comm_behind x = bare_bind _ (bare_desig_behind h x) (λ d.
       bare_branch _ _ (λ t. bare_bind _ h (λ value. bare_pure _ refl)) (bare_bind _ (bare_take _) (λ t. bare_bind _ (bare_desig h) (λ v. bare_pure _ refl))))
+
+  bare_message : Bares forget_comm (message e) (kinds.message q)
+  unfolding message kinds.message
+  bare_message = bare_branch _ _ bare_comm_behind bare_stop
+
+  bare_message_or_wait : Bares forget_comm (message_or_wait e) (kinds.message_or_wait q)
+  unfolding message_or_wait kinds.message_or_wait
+  bare_message_or_wait = bare_branch _ _ (λ t. bare_bind _ h (λ x. bare_pure _ refl)) (bare_branch _ _ (λ t. bare_pure _ refl) bare_message)
+
+  bare_comm_plain : (r : Option Spread) → Bares forget_comm (comm_plain e (is_some r)) (kinds.comm_plain q (is_some (option_map forget_spread r)))
+  unfolding comm_plain kinds.comm_plain
+  bare_comm_plain None = bare_message_or_wait
+  bare_comm_plain (Some r) = bare_message
 
 module _ {s : Reader StmtTree} {o : KindReader StmtShape} (k : Bares forget_stmt s o) where
   bare_stmts : Bares (map forget_stmt) (stmts_with s) (kinds.stmts_with o)
@@ -125,13 +154,14 @@ module _ {e : Reader ExprTree} {q : KindReader ExprShape} (h : Bares forget_expr
   unfolding for_behind kinds.for_behind
   bare_for p = bare_bind _ (bare_for_head h) (λ a. bare_bind _ k (λ x. bare_pure _ refl))
 
-  bare_comm : Bares forget_comm (comm_with e s) (kinds.comm_with q o)
+  bare_comm : (r : Option Spread) → Bares forget_comm (comm_with e s (is_some r)) (kinds.comm_with q o (is_some (option_map forget_spread r)))
   unfolding comm_with kinds.comm_with
-  bare_comm = bare_branch _ _ (λ t. bare_bind _ (bare_accept k) (λ a. bare_pure _ refl)) (bare_branch _ _ (λ t. bare_bind _ h (λ x. bare_pure _ refl)) (bare_branch _ _ (λ t. bare_pure _ refl) (bare_branch _ _ (bare_comm_behind h) bare_stop)))
+  bare_comm r = bare_branch _ _ (λ t. bare_bind _ (bare_accept k) (λ a. bare_pure _ refl)) (bare_comm_plain h r)
 
   bare_alt : Bares forget_alt (alt_with e s) (kinds.alt_with q o)
   unfolding alt_with kinds.alt_with
-  bare_alt = bare_bind _ (bare_guard h) (λ g. bare_bind _ bare_comm (λ c. bare_bind _ (bare_many _ _ (λ t. k)) (λ ss. bare_pure _ (ap (λ z. alt (option_map forget_expr g) (forget_comm c) z) (bare_stmts_of ss)))))
+  bare_alt = bare_bind _ (bare_alt_head h) (λ a. bare_bind _ (bare_comm a.0) (λ c. bare_bind _ (bare_many _ _ (λ t. k)) (λ ss.
+      bare_pure _ (ap (λ z. alt (option_map forget_spread a.0) (option_map forget_expr a.1) (forget_comm c) z) (bare_stmts_of ss)))))
 
   bare_select : (pri : Bool) (first p : Place) → Bares forget_stmt (select_behind e s pri first p) (kinds.select_behind q o pri)
   unfolding select_behind kinds.select_behind

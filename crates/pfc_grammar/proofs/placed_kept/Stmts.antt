@@ -1,15 +1,16 @@
 -- The places that a statement keeps are those of the tokens that it is read from.
-use Rattle.std.proofs.Common.{◌≡◌, ℕ, zero, suc, List, [], ◌∷◌, ◌++◌, Bool, true, false, refl, ap}
+use Rattle.std.proofs.Common.{◌≡◌, ℕ, zero, suc, List, [], ◌∷◌, ◌++◌, Bool, true, false, Option, is_some, refl, ap}
 use Rattle.pfc_base.specs.declared.places.Place.{Place}
 use Rattle.pfc_tree.specs.Symbols.{Text}
+use Rattle.pfc_tree.specs.declared.tree.Spread.{Spread}
 use Rattle.pfc_tree.specs.trees.Exprs.{ExprTree}
 use Rattle.pfc_tree.specs.trees.Stmts.{StmtTree}
 use Rattle.pfc_tree.specs.views.Stmts.{stmts_of, arms_of, alts_of}
 use Rattle.pfc_tree.specs.kept.Exprs.{Step, here, next, expr_trace}
 use Rattle.pfc_tree.specs.kept.Types.{constant_trace, comma_constants_trace, constants_trace, formals_trace}
-use Rattle.pfc_tree.specs.kept.Stmts.{guard_trace, pri_trace, stmt_trace, stmts_trace, semicolon_stmts_trace, body_trace, arm_trace, arms_trace, semicolon_arms_trace, accept_trace, alt_trace, comm_trace, alts_trace, or_alts_trace}
+use Rattle.pfc_tree.specs.kept.Stmts.{replication_trace, guard_trace, pri_trace, stmt_trace, stmts_trace, semicolon_stmts_trace, body_trace, arm_trace, arms_trace, semicolon_arms_trace, accept_trace, alt_trace, comm_trace, alts_trace, or_alts_trace}
 use Rattle.pfc_grammar.specs.placed.Reading.{Reader}
-use Rattle.pfc_grammar.specs.placed.Stmts.{test_before, for_head, accept_head, labels, guard, requeue_behind, action_behind, comm_behind, stmts_with, body_behind, body_with, block_behind, if_behind, arm_with, case_behind, while_behind, repeat_behind, for_behind, cobegin_behind, accept_behind, accepting_behind, comm_with, alt_with, select_behind, pri_behind, stmt_second, stmt_with, stmt_at}
+use Rattle.pfc_grammar.specs.placed.Stmts.{test_before, for_head, accept_head, labels, spread_behind, replication, guard, alt_head, requeue_behind, action_behind, comm_behind, message, message_or_wait, comm_plain, stmts_with, body_behind, body_with, block_behind, if_behind, arm_with, case_behind, while_behind, repeat_behind, for_behind, cobegin_behind, accept_behind, accepting_behind, comm_with, alt_with, select_behind, pri_behind, stmt_second, stmt_with, stmt_at}
 use Rattle.pfc_grammar.proofs.placed_kept.Readers.{same_traces, Traced, Leading, Keeps, Whole, keeps_pure, leads_pure, keeps_stop, keeps_stop_deep, keeps_bind, keeps_then, pass_branch, keep_branch, keep_branch_twice, pass_then, keep_then, keeps_choose, keeps_end}
 use Rattle.pfc_grammar.proofs.placed_kept.Loops.{separate, keeps_many, keeps_list, leads_list_end}
 use Rattle.pfc_grammar.proofs.placed_kept.Exprs.{leads_desig_behind, keeps_desig, keeps_actuals, keeps_expr_at}
@@ -24,6 +25,21 @@ leads_labels : {F : List Step → List Step} → Keeps F (Leading (λ cs steps. 
 unfolding labels
 leads_labels = keeps_then (keeps_list constant_trace comma_constants_trace (record { none = refl; more = λ c cs. refl }) _ keeps_constant constants_trace (λ c cs. refl)) (λ cs. pass_then _ (λ t. leads_pure _ (λ steps. refl)))
 
+leads_spread : {F : List Step → List Step} →
+    Keeps F (Leading (λ r steps. F (here r.place ∷ next ∷ next ∷ (constant_trace r.low ++ (next ∷ (constant_trace r.high ++ (next ∷ steps))))))) spread_behind
+unfolding spread_behind
+leads_spread = keep_then _ (λ x. pass_then _ (λ t. keeps_then keeps_constant (λ low. pass_then _ (λ u. keeps_then keeps_constant (λ high. pass_then _ (λ v. leads_pure _ (λ steps. refl)))))))
+
+spread_whole : (p : Place) (low high : List Step) → next ∷ here p ∷ next ∷ next ∷ (low ++ (next ∷ (high ++ (next ∷ [])))) ≡ next ∷ here p ∷ next ∷ next ∷ ((low ++ (next ∷ high)) ++ (next ∷ []))
+spread_whole p low high = search same_traces
+
+keeps_replication : Whole replication_trace replication
+unfolding replication
+keeps_replication = pass_branch _ (λ t. keeps_bind leads_spread (λ r. keeps_pure _ (spread_whole r.place (constant_trace r.low) (constant_trace r.high)))) (keeps_pure _ refl)
+
+abbrev alt_head_trace : Option Spread × Option ExprTree → List Step
+alt_head_trace h = replication_trace h.0 ++ guard_trace h.1
+
 module _ {e : Reader ExprTree} (h : Whole expr_trace e) where
   leads_test : {F : List Step → List Step} (w : ℕ) → Keeps F (Leading (λ x steps. F (expr_trace x ++ (next ∷ steps)))) (test_before e w)
   unfolding test_before
@@ -36,6 +52,10 @@ module _ {e : Reader ExprTree} (h : Whole expr_trace e) where
   keeps_guard : Whole guard_trace (guard e)
   unfolding guard
   keeps_guard = pass_branch _ (λ t. keeps_then h (λ x. pass_then _ (λ u. keeps_pure _ refl))) (keeps_pure _ refl)
+
+  keeps_alt_head : Whole alt_head_trace (alt_head e)
+  unfolding alt_head
+  keeps_alt_head = keeps_then keeps_replication (λ r. keeps_then keeps_guard (λ g. keeps_pure _ (search same_traces)))
 
   keeps_requeue : (p : Place) → Keeps (λ steps. here p ∷ next ∷ steps) (Traced stmt_trace) (requeue_behind e p)
   unfolding requeue_behind
@@ -52,6 +72,19 @@ module _ {e : Reader ExprTree} (h : Whole expr_trace e) where
   unfolding comm_behind
   keeps_comm_behind x = keeps_bind (leads_desig_behind h (λ steps. steps) x) (λ d.
       keep_branch _ (λ t. keeps_then h (λ value. keeps_pure _ (search same_traces))) (keep_then _ (λ t. keeps_then (keeps_desig h) (λ v. keeps_pure _ (search same_traces)))))
+
+  keeps_message : Whole comm_trace (message e)
+  unfolding message
+  keeps_message = keep_branch _ keeps_comm_behind keeps_stop
+
+  keeps_message_or_wait : Whole comm_trace (message_or_wait e)
+  unfolding message_or_wait
+  keeps_message_or_wait = keep_branch _ (λ t. keeps_then h (λ x. keeps_pure _ (search same_traces))) (keep_branch _ (λ t. keeps_pure _ refl) keeps_message)
+
+  keeps_comm_plain : (replicated : Bool) → Whole comm_trace (comm_plain e replicated)
+  unfolding comm_plain
+  keeps_comm_plain true = keeps_message
+  keeps_comm_plain false = keeps_message_or_wait
 
 module _ {s : Reader StmtTree} (k : Whole stmt_trace s) where
   keeps_stmts : Whole (λ ss. stmts_trace (stmts_of ss)) (stmts_with s)
@@ -112,14 +145,13 @@ module _ {e : Reader ExprTree} (h : Whole expr_trace e) {s : Reader StmtTree} (k
       between : (a b c : List Step) → a ++ (next ∷ (b ++ (next ∷ (c ++ [])))) ≡ (a ++ (next ∷ b)) ++ (next ∷ c)
       between a b c = search same_traces
 
-  keeps_comm : Whole comm_trace (comm_with e s)
+  keeps_comm : (replicated : Bool) → Whole comm_trace (comm_with e s replicated)
   unfolding comm_with
-  keeps_comm = keep_branch _ (λ t. keeps_then (keeps_accept k) (λ a. keeps_pure _ (search same_traces))) (
-      keep_branch _ (λ t. keeps_then h (λ x. keeps_pure _ (search same_traces))) (keep_branch _ (λ t. keeps_pure _ refl) (keep_branch _ (keeps_comm_behind h) keeps_stop)))
+  keeps_comm replicated = keep_branch _ (λ t. keeps_then (keeps_accept k) (λ a. keeps_pure _ (search same_traces))) (keeps_comm_plain h replicated)
 
   keeps_alt : Whole alt_trace (alt_with e s)
   unfolding alt_with
-  keeps_alt = keeps_then (keeps_guard h) (λ g. keeps_then keeps_comm (λ c.
+  keeps_alt = keeps_then (keeps_alt_head h) (λ a. keeps_then (keeps_comm (is_some a.0)) (λ c.
       keeps_then (keeps_many (λ x. next ∷ stmt_trace x) (λ ss. semicolon_stmts_trace (stmts_of ss)) (record { none = refl; more = λ x xs. refl }) _ (separate k)) (λ ss. keeps_pure _ (search same_traces))))
 
   -- behind the `select` at p, in a statement whose first token stands at first

@@ -2,18 +2,29 @@
 use Rattle.std.proofs.Common.{refl, Bool, true, false, Option, Some, None, option_map, [], ◌∷◌}
 use Rattle.pfc_base.specs.declared.places.Place.{Place}
 use Rattle.pfc_tree.specs.shapes.Exprs.{ExprShape}
-use Rattle.pfc_tree.specs.shapes.Stmts.{StmtShape, StmtShapes, BodyShape, ArmShape, ArmShapes, AcceptShape, AltShape, AltShapes, CommShape}
+use Rattle.pfc_tree.specs.shapes.Stmts.{SpreadShape, StmtShape, StmtShapes, BodyShape, ArmShape, ArmShapes, AcceptShape, AltShape, AltShapes, CommShape}
 use Rattle.pfc_tree.specs.shapes.Stmts as shape
+use Rattle.pfc_tree.specs.declared.tree.Spread.{Spread}
 use Rattle.pfc_tree.specs.trees.Exprs.{ExprTree}
 use Rattle.pfc_tree.specs.trees.Stmts.{StmtTree, StmtTrees, BodyTree, ArmTree, ArmTrees, AcceptTree, AltTree, AltTrees, CommTree, empty, null, block, if_then, if_then_else, case_of, while_do, repeat_until, repeat_forever, for_do, cobegin, accepting, requeue, select, select_else, assign, send, receive, call, no_stmts, more_stmts, body, arm, no_arms, more_arms, accept, accept_do, alt, no_alts, more_alts, comm_accept, comm_send, comm_receive, timeout, terminate}
 use Rattle.pfc_tree.specs.forget.Exprs.{forget_expr}
-use Rattle.pfc_tree.specs.forget.Stmts.{forget_stmt, forget_stmts, forget_body, forget_arm, forget_arms, forget_accept, forget_alt, forget_alts, forget_comm}
+use Rattle.pfc_tree.specs.forget.Stmts.{forget_spread, forget_stmt, forget_stmts, forget_body, forget_arm, forget_arms, forget_accept, forget_alt, forget_alts, forget_comm}
 use Rattle.pfc_tree.specs.kept.Exprs.{here, next, expr_trace}
-use Rattle.pfc_tree.specs.kept.Types.{flag_trace}
-use Rattle.pfc_tree.specs.kept.Stmts.{guard_trace, pri_trace, stmt_trace, stmts_trace, semicolon_stmts_trace, body_trace, arm_trace, arms_trace, semicolon_arms_trace, accept_trace, alt_trace, alts_trace, or_alts_trace, comm_trace}
+use Rattle.pfc_tree.specs.kept.Types.{constant_trace, flag_trace}
+use Rattle.pfc_tree.specs.kept.Stmts.{replication_trace, guard_trace, pri_trace, stmt_trace, stmts_trace, semicolon_stmts_trace, body_trace, arm_trace, arms_trace, semicolon_arms_trace, accept_trace, alt_trace, alts_trace, or_alts_trace, comm_trace}
 use Rattle.pfc_grammar.proofs.placed_one.Filling.{Filler, fill_done, fill_here, fill_next, fill_part, fill_last, fill_flag, Fills, fills_done, fills_here, fills_next, fills_part, fills_last, fills_three, fills_four, fills_flag}
 use Rattle.pfc_grammar.proofs.placed_one.Exprs.{fill_expr, fill_desig, fill_actuals, fills_expr, fills_desig, fills_actuals}
-use Rattle.pfc_grammar.proofs.placed_one.Types.{fill_constants, fill_formals, fills_constants, fills_formals}
+use Rattle.pfc_grammar.proofs.placed_one.Types.{fill_constant, fill_constants, fill_formals, fills_constant, fills_constants, fills_formals}
+
+abbrev fill_replication : Option SpreadShape → Filler (Option Spread)
+fill_replication None = fill_done None
+fill_replication (Some r) = fill_next (fill_here (λ p. fill_next (fill_next (fill_part (fill_constant r.low) (λ low. fill_next (fill_part (fill_constant r.high) (λ high.
+    fill_next (fill_done (Some (record { name = r.name; low = low; high = high; place = p }))))))))))
+
+fills_replication : (x : Option Spread) → Fills (replication_trace x) (fill_replication (option_map forget_spread x)) x
+fills_replication None = fills_done _
+fills_replication (Some r) = fills_next (fills_here _ (fills_next (fills_next (fills_three (constant_trace r.low) (next ∷ constant_trace r.high) (next ∷ [])
+    (fills_part _ (fills_constant r.low) (fills_next (fills_part _ (fills_constant r.high) (fills_next (fills_done _)))))))))
 
 abbrev fill_guard : Option ExprShape → Filler (Option ExprTree)
 fill_guard None = fill_done None
@@ -81,7 +92,7 @@ abbrev mutual
   fill_accept (shape.accept_do x gs s) = fill_here (λ p. fill_next (fill_part (fill_formals gs) (λ gs'. fill_next (fill_last (fill_stmt s) (λ s'. accept_do x gs' s' p)))))
 
   fill_alt : AltShape → Filler AltTree
-  fill_alt (shape.alt g c ss) = fill_part (fill_guard g) (λ g'. fill_part (fill_comm c) (λ c'. fill_last (fill_semicolon_stmts ss) (λ ss'. alt g' c' ss')))
+  fill_alt (shape.alt r g c ss) = fill_part (fill_replication r) (λ r'. fill_part (fill_guard g) (λ g'. fill_part (fill_comm c) (λ c'. fill_last (fill_semicolon_stmts ss) (λ ss'. alt r' g' c' ss'))))
 
   fill_alts : AltShapes → Filler AltTrees
   fill_alts shape.no_alts = fill_done no_alts
@@ -147,7 +158,7 @@ mutual
   fills_accept (accept_do x gs s p) = fills_here _ (fills_next (fills_part _ (fills_formals gs) (fills_next (fills_last _ (fills_stmt s) refl))))
 
   fills_alt : (x : AltTree) → Fills (alt_trace x) (fill_alt (forget_alt x)) x
-  fills_alt (alt g c ss) = fills_three (guard_trace g) (comm_trace c) (semicolon_stmts_trace ss) (fills_part _ (fills_guard g) (fills_part _ (fills_comm c) (fills_last _ (fills_semicolon_stmts ss) refl)))
+  fills_alt (alt r g c ss) = fills_four (replication_trace r) (guard_trace g) (comm_trace c) (semicolon_stmts_trace ss) (fills_part _ (fills_replication r) (fills_part _ (fills_guard g) (fills_part _ (fills_comm c) (fills_last _ (fills_semicolon_stmts ss) refl))))
 
   fills_alts : (xs : AltTrees) → Fills (alts_trace xs) (fill_alts (forget_alts xs)) xs
   fills_alts no_alts = fills_done _

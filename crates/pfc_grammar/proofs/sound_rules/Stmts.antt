@@ -1,23 +1,23 @@
 -- The readers of statements read lawful ones.
 use Rattle.std.proofs.Common.{◌≡◌, ℕ, zero, suc, List, [], ◌∷◌, ◌++◌, Bool, true, false, ◌||◌, ◌&&◌, Option, Some, None, is_some, refl, sym, ap, subst, ◌∙◌, append_assoc, append-nil}
 use Rattle.pfc_base.specs.declared.tokens.Kind.TheVariants.{Word, Sign, Name, Literal}
-use Rattle.pfc_base.specs.declared.word.TheConstants.{ACCEPT, BEGIN, CASE, COBEGIN, COEND, DO, ELSE, END, FOR, FOREVER, IF, NULL, OF, OR, PRI, REPEAT, REQUEUE, SELECT, TERMINATE, THEN, TIMEOUT, TO, UNTIL, WHEN, WHILE}
+use Rattle.pfc_base.specs.declared.word.TheConstants.{ACCEPT, BEGIN, CASE, COBEGIN, COEND, DO, ELSE, END, FOR, FOREVER, IF, NULL, OF, OR, PRI, REPEAT, REPLICATE, REQUEUE, SELECT, TERMINATE, THEN, TIMEOUT, TO, UNTIL, WHEN, WHILE}
 use Rattle.pfc_base.specs.declared.sign.TheConstants.{BECOMES, COMMA, SEMICOLON, COLON, SEND, RECEIVE, ARROW}
 use Rattle.pfc_tree.specs.Symbols.{Symbol, Text}
 use Rattle.pfc_tree.specs.shapes.Exprs.{ExprShape, literal, desig, no_selectors, no_actuals}
 use Rattle.pfc_tree.specs.shapes.Types as type_shape
 use Rattle.pfc_tree.specs.shapes.Types.{ConstantShape, GroupShape}
-use Rattle.pfc_tree.specs.shapes.Stmts.{StmtShape, StmtShapes, ArmShape, AcceptShape, AltShape, AltShapes, CommShape, empty, null, block, if_then, if_then_else, case_of, while_do, repeat_until, repeat_forever, for_do, cobegin, accepting, requeue, select, select_else, assign, send, receive, call, no_stmts, more_stmts, body, arm, no_arms, more_arms, accept, accept_do, alt, no_alts, more_alts, comm_accept, comm_send, comm_receive, timeout, terminate}
+use Rattle.pfc_tree.specs.shapes.Stmts.{SpreadShape, StmtShape, StmtShapes, ArmShape, AcceptShape, AltShape, AltShapes, CommShape, empty, null, block, if_then, if_then_else, case_of, while_do, repeat_until, repeat_forever, for_do, cobegin, accepting, requeue, select, select_else, assign, send, receive, call, no_stmts, more_stmts, body, arm, no_arms, more_arms, accept, accept_do, alt, no_alts, more_alts, comm_accept, comm_send, comm_receive, timeout, terminate}
 use Rattle.pfc_tree.specs.tokens.Exprs.{expr_tokens}
-use Rattle.pfc_tree.specs.tokens.Types.{constants_tokens, last_tokens, formals_tokens}
-use Rattle.pfc_tree.specs.tokens.Stmts.{direction_symbol, pri_tokens, guard_tokens, stmt_tokens, stmts_tokens, semicolon_stmts_tokens, body_tokens, arm_tokens, arms_tokens, semicolon_arms_tokens, accept_tokens, alt_tokens, comm_tokens, alts_tokens, or_alts_tokens}
+use Rattle.pfc_tree.specs.tokens.Types.{constant_tokens, constants_tokens, last_tokens, formals_tokens}
+use Rattle.pfc_tree.specs.tokens.Stmts.{direction_symbol, pri_tokens, spread_tokens, replication_tokens, guard_tokens, stmt_tokens, stmts_tokens, semicolon_stmts_tokens, body_tokens, arm_tokens, arms_tokens, semicolon_arms_tokens, accept_tokens, alt_tokens, comm_tokens, alts_tokens, or_alts_tokens}
 use Rattle.pfc_tree.specs.lawful.Exprs.{IsLawfulExpr}
 use Rattle.pfc_tree.specs.lawful.Types.{IsFilled, IsLawfulConstant, AreLawfulConstants, AreLawfulFormals}
-use Rattle.pfc_tree.specs.lawful.Stmts.{ends_in_if, accept_ends_in_if, ends_in_expr, accept_ends_in_expr, comm_ends_in_if, comm_ends_in_expr, last_ends_in_if, last_ends_in_expr, alt_ends_in_if, alt_ends_in_expr, alts_end_in_if, IsLawfulGuard, IsLawfulStmt, HasLawfulStmts, AreLawfulStmts, IsLawfulBody, IsLawfulArm, HasLawfulArms, AreLawfulArms, IsLawfulAccept, IsLawfulAlt, IsLawfulComm, HasLawfulAlts, AreLawfulAlts}
+use Rattle.pfc_tree.specs.lawful.Stmts.{ends_in_if, accept_ends_in_if, ends_in_expr, accept_ends_in_expr, comm_ends_in_if, comm_ends_in_expr, last_ends_in_if, last_ends_in_expr, alt_ends_in_if, alt_ends_in_expr, alts_end_in_if, IsLawfulSpread, IsReplicable, MayStandBehind, IsLawfulGuard, IsLawfulStmt, HasLawfulStmts, AreLawfulStmts, IsLawfulBody, IsLawfulArm, HasLawfulArms, AreLawfulArms, IsLawfulAccept, IsLawfulAlt, IsLawfulComm, HasLawfulAlts, AreLawfulAlts}
 use Rattle.pfc_grammar.specs.Reading.{Reader, many}
 use Rattle.pfc_grammar.specs.Heads.{as_word, as_sign, as_name, takes, is_word, begins_stmt}
 use Rattle.pfc_grammar.specs.grammar.Exprs.{expr_at}
-use Rattle.pfc_grammar.specs.grammar.Stmts.{stmts_of, arms_of, alts_of, test_before, for_head, accept_head, labels, guard, requeue_behind, action_behind, comm_behind, stmts_with, body_behind, body_with, if_behind, arm_with, case_behind, while_behind, repeat_behind, for_behind, cobegin_behind, accept_behind, comm_with, alt_with, select_behind, stmt_second, stmt_with, stmt_at}
+use Rattle.pfc_grammar.specs.grammar.Stmts.{stmts_of, arms_of, alts_of, test_before, for_head, accept_head, labels, spread_behind, replication, guard, alt_head, requeue_behind, action_behind, comm_behind, message, message_or_wait, comm_plain, stmts_with, body_behind, body_with, if_behind, arm_with, case_behind, while_behind, repeat_behind, for_behind, cobegin_behind, accept_behind, comm_with, alt_with, select_behind, stmt_second, stmt_with, stmt_at}
 use Rattle.pfc_grammar.proofs.Lists.{none, or-left, or-right, or-both, or_else, flat, flat-snoc, separated, Each, each-snoc, Chain, behind_last, shift}
 use Rattle.pfc_grammar.proofs.Sound.{Sound, Goes, here, sound_pure, sound_stop, sound_any, sound_less, sound_bind, sound_bind_at, sound_last, sound_level}
 use Rattle.pfc_grammar.proofs.SoundLoops.{sound_behind, sound_bind_behind, sound_many_onto, sound_separated, sound_ended, last_of, Filled}
@@ -158,6 +158,26 @@ unfolding labels
 sound_labels = sound_bind (sound_separated (Sign COMMA) (as_sign COMMA) sound_constant (sign_is COMMA)) (λ cs l. sound_sign COLON (λ u. sound_pure cs (ap (λ z. z ++ (Sign COLON ∷ [])) (constants_written cs))
     (filled IsLawfulConstant cs (chain_filled (Sign COMMA) free IsLawfulConstant cs l), constants_lawful cs (chain_filled (Sign COMMA) free IsLawfulConstant cs l)) (λ s q. refl)))
 
+sound_spread : Sound spread_tokens (λ r. IsLawfulConstant r.low × IsLawfulConstant r.high) free none (λ k. Word FOR ∷ k) spread_behind
+unfolding spread_behind
+sound_spread = sound_name (λ x. sound_sign BECOMES (λ u. sound_bind sound_constant (λ low l. sound_word TO (λ v. sound_bind sound_constant (λ high m. sound_word REPLICATE (λ w. sound_pure (record { name = x; low = low; high = high })
+    (ap (λ z. Word FOR ∷ Name x ∷ Sign BECOMES ∷ z) (append_assoc (constant_tokens low) (Word TO ∷ constant_tokens high) (Word REPLICATE ∷ []))) (l, m) (λ s q. refl)))))))
+
+sound_replication : {t : Symbol → Bool} → Sound replication_tokens IsLawfulSpread free t here replication
+unfolding replication
+sound_replication = sound_on_word FOR (λ u n. sound_bind_behind (Word FOR) here sound_spread (λ r l. sound_pure (Some r) (sym (append-nil (spread_tokens r))) l (λ s q. refl))) (sound_pure None refl tt (λ s q. refl))
+
+abbrev alt_head_tokens : Option SpreadShape × Option ExprShape → List Symbol
+alt_head_tokens h = replication_tokens h.0 ++ guard_tokens h.1
+
+-- what is waited for behind a spread, or without one
+abbrev IsLawfulBehind : Option SpreadShape → CommShape → Type 0
+IsLawfulBehind r c = MayStandBehind r c × IsLawfulComm c
+
+accept_behind_any : (r : Option SpreadShape) (a : AcceptShape) → MayStandBehind r (comm_accept a)
+accept_behind_any None a = tt
+accept_behind_any (Some r) a = tt
+
 -- With a reader of expressions.
 module _ (e : Reader ExprShape) (he : Sound expr_tokens IsLawfulExpr is_or none here e) where
   sound_test : {t : Symbol → Bool} (w : ℕ) → Sound (λ x. expr_tokens x ++ (Word w ∷ [])) IsLawfulExpr free t here (test_before e w)
@@ -173,6 +193,10 @@ module _ (e : Reader ExprShape) (he : Sound expr_tokens IsLawfulExpr is_or none 
   unfolding guard
   sound_guard = sound_on_word WHEN (λ u n. sound_bind he (λ x l. sound_sign ARROW (λ v. sound_pure (Some x) refl l (λ s q. refl)))) (sound_pure None refl tt (λ s q. refl))
 
+  sound_alt_head : {t : Symbol → Bool} → Sound alt_head_tokens (λ h. IsLawfulSpread h.0 × IsLawfulGuard h.1) free t here (alt_head e)
+  unfolding alt_head
+  sound_alt_head = sound_bind sound_replication (λ r l. sound_last (λ g. (r, g)) sound_guard (λ g m. refl) (λ g m. (l, m)) (λ g m s q. refl))
+
   sound_requeue : Sound stmt_tokens IsLawfulStmt stmt_behind none (λ k. Word REQUEUE ∷ k) (requeue_behind e)
   unfolding requeue_behind
   sound_requeue = sound_name (λ x. sound_last (λ args. requeue x args) (sound_actuals e he) (λ args m. refl) (λ args m. m) (λ args m s q. refl))
@@ -184,10 +208,24 @@ module _ (e : Reader ExprShape) (he : Sound expr_tokens IsLawfulExpr is_or none 
       (sound_on_sign RECEIVE (λ u n. sound_last (λ v. receive d v) (sound_desig e he) (λ v m. refl) (λ v m. (l, m)) (λ v m s q. refl))
       (sound_last (λ args. call d args) (sound_actuals e he) (λ args m. refl) (λ args m. (l, m)) (λ args m s q. refl)))))
 
-  sound_comm_behind : (x : Text) → Sound comm_tokens IsLawfulComm comm_tail none (λ k. Name x ∷ k) (comm_behind e x)
+  sound_comm_behind : (x : Text) → Sound comm_tokens (λ c. IsReplicable c × IsLawfulComm c) comm_tail none (λ k. Name x ∷ k) (comm_behind e x)
   unfolding comm_behind
-  sound_comm_behind x = sound_bind_behind (Name x) here (sound_desig_behind e he x) (λ d l. sound_on_sign SEND (λ u n. sound_last (λ v. comm_send d v) he (λ v m. refl) (λ v m. (l, m)) (λ v m s q. q))
-      (sound_sign RECEIVE (λ u. sound_last (λ v. comm_receive d v) (sound_desig e he) (λ v m. refl) (λ v m. (l, m)) (λ v m s q. refl))))
+  sound_comm_behind x = sound_bind_behind (Name x) here (sound_desig_behind e he x) (λ d l. sound_on_sign SEND (λ u n. sound_last (λ v. comm_send d v) he (λ v m. refl) (λ v m. (tt, (l, m))) (λ v m s q. q))
+      (sound_sign RECEIVE (λ u. sound_last (λ v. comm_receive d v) (sound_desig e he) (λ v m. refl) (λ v m. (tt, (l, m))) (λ v m s q. refl))))
+
+  sound_message : {t : Symbol → Bool} → Sound comm_tokens (λ c. IsReplicable c × IsLawfulComm c) comm_tail t here (message e)
+  unfolding message
+  sound_message = sound_on Name name_is (λ x n. sound_comm_behind x) (sound_stop (record { whole = comm_accept (accept [] []); more = Word ACCEPT ∷ Name [] ∷ []; lawful = (tt, tt); writes = refl }))
+
+  sound_message_or_wait : {t : Symbol → Bool} → Sound comm_tokens IsLawfulComm comm_tail t here (message_or_wait e)
+  unfolding message_or_wait
+  sound_message_or_wait = sound_on_word TIMEOUT (λ u n. sound_last (λ x. timeout x) he (λ x m. refl) (λ x m. m) (λ x m v q. q))
+      (sound_on_word TERMINATE (λ u n. sound_pure terminate refl tt (λ v q. refl)) (sound_less (λ c l. l.1) (λ c v q. q) sound_message))
+
+  sound_comm_plain : {t : Symbol → Bool} (r : Option SpreadShape) → Sound comm_tokens (IsLawfulBehind r) comm_tail t here (comm_plain e (is_some r))
+  unfolding comm_plain
+  sound_comm_plain None = sound_less (λ c l. (tt, l)) (λ c v q. q) sound_message_or_wait
+  sound_comm_plain (Some r) = sound_message
 
   -- With a reader of statements too.
   module _ (s : Reader StmtShape) (hs : Sound stmt_tokens IsLawfulStmt stmt_behind none here s) where
@@ -252,12 +290,9 @@ module _ (e : Reader ExprShape) (he : Sound expr_tokens IsLawfulExpr is_or none 
     sound_accept = sound_bind sound_accept_head (λ h l. sound_on_word DO (λ u n. sound_last (λ x. accept_do h.0 h.1 x) hs (λ x m. refl) (λ x m. (l, m)) (λ x m v q. q))
         (sound_pure (accept h.0 h.1) (ap (λ z. Name h.0 ∷ z) (sym (append-nil (formals_tokens h.1)))) l (λ v q. refl)))
 
-    sound_comm : {t : Symbol → Bool} → Sound comm_tokens IsLawfulComm comm_tail t here (comm_with e s)
+    sound_comm : {t : Symbol → Bool} (r : Option SpreadShape) → Sound comm_tokens (IsLawfulBehind r) comm_tail t here (comm_with e s (is_some r))
     unfolding comm_with
-    sound_comm = sound_on_word ACCEPT (λ u n. sound_last (λ a. comm_accept a) sound_accept (λ a m. refl) (λ a m. m) (λ a m v q. q))
-        (sound_on_word TIMEOUT (λ u n. sound_last (λ x. timeout x) he (λ x m. refl) (λ x m. m) (λ x m v q. q))
-        (sound_on_word TERMINATE (λ u n. sound_pure terminate refl tt (λ v q. refl))
-        (sound_on Name name_is (λ x n. sound_comm_behind x) (sound_stop (record { whole = terminate; more = Word TERMINATE ∷ []; lawful = tt; writes = refl })))))
+    sound_comm r = sound_on_word ACCEPT (λ u n. sound_last (λ a. comm_accept a) sound_accept (λ a m. refl) (λ a m. (accept_behind_any r a, m)) (λ a m v q. q)) (sound_comm_plain r)
 
     -- the statements behind what an alternative waits for
     abbrev alt_rest : CommShape → List StmtShape → Symbol → Bool
@@ -273,8 +308,8 @@ module _ (e : Reader ExprShape) (he : Sound expr_tokens IsLawfulExpr is_or none 
 
     sound_alt : Sound alt_tokens IsLawfulAlt alt_tail none here (alt_with e s)
     unfolding alt_with
-    sound_alt = sound_bind sound_guard (λ g l. sound_bind sound_comm (λ c m. sound_bind_at (sound_alt_rest c) (λ ss n. sound_pure (alt g c (stmts_of ss))
-        (append_assoc (guard_tokens g) (comm_tokens c) (semicolon_stmts_tokens (stmts_of ss)) ∙ ap (λ z. guard_tokens g ++ (comm_tokens c ++ z)) (semicolon_stmts_written ss ∙ sym (append-nil (flat (λ x. Sign SEMICOLON ∷ stmt_tokens x) ss)))) (l, m, each_stmt ss n) (λ v q. q))))
+    sound_alt = sound_bind sound_alt_head (λ h l. sound_bind (sound_comm h.0) (λ c m. sound_bind_at (sound_alt_rest c) (λ ss n. sound_pure (alt h.0 h.1 c (stmts_of ss))
+        (append_assoc (alt_head_tokens h) (comm_tokens c) (semicolon_stmts_tokens (stmts_of ss)) ∙ ap (λ z. alt_head_tokens h ++ (comm_tokens c ++ z)) (semicolon_stmts_written ss ∙ sym (append-nil (flat (λ x. Sign SEMICOLON ∷ stmt_tokens x) ss)))) (l.0, l.1, m.0, m.1, each_stmt ss n) (λ v q. q))))
 
     sound_select : (pri : Bool) → Sound stmt_tokens IsLawfulStmt stmt_behind none (λ k. pri_tokens pri ++ (Word SELECT ∷ k)) (select_behind e s pri)
     unfolding select_behind
@@ -316,7 +351,7 @@ abbrev nothing : StmtShapes
 nothing = more_stmts empty no_stmts
 
 abbrev ending : AltShapes
-ending = more_alts (alt None terminate no_stmts) no_alts
+ending = more_alts (alt None None terminate no_stmts) no_alts
 
 begun_stmt : (s : Symbol) → begins_stmt s ≡ true → Begun s
 begun_stmt s = or_else _ _ (or_else _ _ (or_else _ _ (or_else _ _ (or_else _ _ (or_else _ _ (or_else _ _ (or_else _ _ (or_else _ _ (or_else _ _ (or_else _ _ (or_else _ _
@@ -331,8 +366,8 @@ begun_stmt s = or_else _ _ (or_else _ _ (or_else _ _ (or_else _ _ (or_else _ _ (
     (begun_by COBEGIN s (cobegin nothing) (Word COEND ∷ []) (tt, tt) refl))
     (begun_by ACCEPT s (accepting (accept [] [])) (Name [] ∷ []) tt refl))
     (begun_by REQUEUE s (requeue [] no_actuals) (Name [] ∷ []) tt refl))
-    (begun_by PRI s (select true ending) (Word SELECT ∷ Word TERMINATE ∷ Word END ∷ []) ((tt, tt, tt), tt, tt) refl))
-    (begun_by SELECT s (select false ending) (Word TERMINATE ∷ Word END ∷ []) ((tt, tt, tt), tt, tt) refl)
+    (begun_by PRI s (select true ending) (Word SELECT ∷ Word TERMINATE ∷ Word END ∷ []) ((tt, tt, tt, tt, tt), tt, tt) refl))
+    (begun_by SELECT s (select false ending) (Word TERMINATE ∷ Word END ∷ []) ((tt, tt, tt, tt, tt), tt, tt) refl)
 
 pub sound_stmt_at : (n : ℕ) → Sound stmt_tokens IsLawfulStmt stmt_behind none here (stmt_at n)
 unfolding stmt_at

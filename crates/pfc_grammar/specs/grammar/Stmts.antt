@@ -1,12 +1,12 @@
 -- The readers of statements. Each is a line of the grammar, which stands above it; `e` reads an expression and `s` a
 -- statement one level deeper.
-use Rattle.std.specs.Prelude.{ℕ, zero, suc, List, [], ◌∷◌, Bool, true, false, Option, Some, None}
-use Rattle.pfc_base.specs.declared.word.TheConstants.{ACCEPT, BEGIN, CASE, COBEGIN, COEND, DO, ELSE, END, FOR, FOREVER, IF, NULL, OF, OR, PRI, REPEAT, REQUEUE, SELECT, TERMINATE, THEN, TIMEOUT, UNTIL, WHEN, WHILE}
+use Rattle.std.specs.Prelude.{ℕ, zero, suc, List, [], ◌∷◌, Bool, true, false, Option, Some, None, is_some}
+use Rattle.pfc_base.specs.declared.word.TheConstants.{ACCEPT, BEGIN, CASE, COBEGIN, COEND, DO, ELSE, END, FOR, FOREVER, IF, NULL, OF, OR, PRI, REPEAT, REPLICATE, REQUEUE, SELECT, TERMINATE, THEN, TIMEOUT, TO, UNTIL, WHEN, WHILE}
 use Rattle.pfc_base.specs.declared.sign.TheConstants.{BECOMES, COMMA, SEMICOLON, COLON, SEND, RECEIVE, ARROW}
 use Rattle.pfc_tree.specs.Symbols.{Text}
 use Rattle.pfc_tree.specs.shapes.Exprs.{ExprShape}
 use Rattle.pfc_tree.specs.shapes.Types.{ConstantShape, GroupShape}
-use Rattle.pfc_tree.specs.shapes.Stmts.{StmtShape, StmtShapes, BodyShape, ArmShape, ArmShapes, AcceptShape, AltShape, AltShapes, CommShape, empty, null, block, if_then, if_then_else, case_of, while_do, repeat_until, repeat_forever, for_do, cobegin, accepting, requeue, select, select_else, assign, send, receive, call, no_stmts, more_stmts, body, arm, no_arms, more_arms, accept, accept_do, alt, no_alts, more_alts, comm_accept, comm_send, comm_receive, timeout, terminate}
+use Rattle.pfc_tree.specs.shapes.Stmts.{SpreadShape, StmtShape, StmtShapes, BodyShape, ArmShape, ArmShapes, AcceptShape, AltShape, AltShapes, CommShape, empty, null, block, if_then, if_then_else, case_of, while_do, repeat_until, repeat_forever, for_do, cobegin, accepting, requeue, select, select_else, assign, send, receive, call, no_stmts, more_stmts, body, arm, no_arms, more_arms, accept, accept_do, alt, no_alts, more_alts, comm_accept, comm_send, comm_receive, timeout, terminate}
 use Rattle.pfc_grammar.specs.Reading.{Reader, pure, ◌>>=◌, stop, stop_deep, branch, choose, take_as, many, list_of, list_end}
 use Rattle.pfc_grammar.specs.Heads.{as_word, as_sign, as_name, as_direction, is_word, begins_stmt}
 use Rattle.pfc_grammar.specs.grammar.Exprs.{desig_behind, desig_with, actuals_with, expr_at}
@@ -57,12 +57,36 @@ labels = do
   t ← take_as (as_sign COLON)
   pure cs
 
+-- behind `for`: name ":=" constant "to" constant "replicate"
+unfoldable pub spread_behind : Reader SpreadShape
+spread_behind = do
+  x ← take_as as_name
+  t ← take_as (as_sign BECOMES)
+  low ← constant_reader
+  u ← take_as (as_word TO)
+  high ← constant_reader
+  v ← take_as (as_word REPLICATE)
+  pure (record { name = x; low = low; high = high })
+
+-- [spread], where spread = "for" name ":=" constant "to" constant "replicate"
+unfoldable pub replication : Reader (Option SpreadShape)
+replication = branch (as_word FOR) (λ t. do
+  r ← spread_behind
+  pure (Some r)) (pure None)
+
 -- ["when" expr "=>"]
 unfoldable pub guard : Reader ExprShape → Reader (Option ExprShape)
 guard e = branch (as_word WHEN) (λ t. do
   x ← e
   u ← take_as (as_sign ARROW)
   pure (Some x)) (pure None)
+
+-- [spread] ["when" expr "=>"]
+unfoldable pub alt_head : Reader ExprShape → Reader (Option SpreadShape × Option ExprShape)
+alt_head e = do
+  r ← replication
+  g ← guard e
+  pure (r, g)
 
 -- Statements that hold none.
 -- behind `requeue`: name [actuals]
@@ -96,6 +120,21 @@ comm_behind e x = do
       t ← take_as (as_sign RECEIVE)
       v ← desig_with e
       pure (comm_receive d v))
+
+-- desig "!" expr | desig "?" desig
+unfoldable pub message : Reader ExprShape → Reader CommShape
+message e = branch as_name (comm_behind e) stop
+
+-- "timeout" expr | "terminate" | desig "!" expr | desig "?" desig
+unfoldable pub message_or_wait : Reader ExprShape → Reader CommShape
+message_or_wait e = branch (as_word TIMEOUT) (λ t. do
+  x ← e
+  pure (timeout x)) (branch (as_word TERMINATE) (λ t. pure terminate) (message e))
+
+-- the same, of which behind a spread the first two may not stand
+unfoldable pub comm_plain : Reader ExprShape → Bool → Reader CommShape
+comm_plain e true = message e
+comm_plain e false = message_or_wait e
 
 -- Statements that hold some.
 -- stmts = stmt {";" stmt}
@@ -178,21 +217,20 @@ accept_behind s = do
     x ← s
     pure (accept_do h.0 h.1 x)) (pure (accept h.0 h.1))
 
--- accept | desig "!" expr | desig "?" desig | "timeout" expr | "terminate"
-unfoldable pub comm_with : Reader ExprShape → Reader StmtShape → Reader CommShape
-comm_with e s = branch (as_word ACCEPT) (λ t. do
+-- accept | desig "!" expr | desig "?" desig, and where it is not replicated also "timeout" expr | "terminate"
+unfoldable pub comm_with : Reader ExprShape → Reader StmtShape → Bool → Reader CommShape
+comm_with e s replicated = branch (as_word ACCEPT) (λ t. do
   a ← accept_behind s
-  pure (comm_accept a)) (branch (as_word TIMEOUT) (λ t. do
-    x ← e
-    pure (timeout x)) (branch (as_word TERMINATE) (λ t. pure terminate) (branch as_name (comm_behind e) stop)))
+  pure (comm_accept a)) (comm_plain e replicated)
 
--- alt = ["when" expr "=>"] (accept | desig "!" expr | desig "?" desig | "timeout" expr | "terminate") {";" stmt}
+-- alt = [spread] ["when" expr "=>"] (accept | desig "!" expr | desig "?" desig) {";" stmt}
+--     | ["when" expr "=>"] ("timeout" expr | "terminate") {";" stmt}
 unfoldable pub alt_with : Reader ExprShape → Reader StmtShape → Reader AltShape
 alt_with e s = do
-  g ← guard e
-  c ← comm_with e s
+  h ← alt_head e
+  c ← comm_with e s (is_some h.0)
   ss ← many (as_sign SEMICOLON) (λ t. s)
-  pure (alt g c (stmts_of ss))
+  pure (alt h.0 h.1 c (stmts_of ss))
 
 -- behind `select`: alt {"or" alt} ["else" stmts] "end"
 unfoldable pub select_behind : Reader ExprShape → Reader StmtShape → Bool → Reader StmtShape

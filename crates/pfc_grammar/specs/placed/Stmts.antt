@@ -1,10 +1,11 @@
 -- The readers of statements from tokens, with their places; `e` reads an expression and `s` a statement one level deeper.
 -- What is read behind a word or a sign is given the place of that token where the statement keeps it.
-use Rattle.std.specs.Prelude.{ℕ, zero, suc, List, Bool, true, false, Option, Some, None}
+use Rattle.std.specs.Prelude.{ℕ, zero, suc, List, Bool, true, false, Option, Some, None, is_some}
 use Rattle.pfc_base.specs.declared.places.Place.{Place}
-use Rattle.pfc_base.specs.declared.word.TheConstants.{ACCEPT, BEGIN, CASE, COBEGIN, COEND, DO, ELSE, END, FOR, FOREVER, IF, NULL, OF, OR, PRI, REPEAT, REQUEUE, SELECT, TERMINATE, THEN, TIMEOUT, UNTIL, WHEN, WHILE}
+use Rattle.pfc_base.specs.declared.word.TheConstants.{ACCEPT, BEGIN, CASE, COBEGIN, COEND, DO, ELSE, END, FOR, FOREVER, IF, NULL, OF, OR, PRI, REPEAT, REPLICATE, REQUEUE, SELECT, TERMINATE, THEN, TIMEOUT, TO, UNTIL, WHEN, WHILE}
 use Rattle.pfc_base.specs.declared.sign.TheConstants.{BECOMES, COMMA, SEMICOLON, COLON, SEND, RECEIVE, ARROW}
 use Rattle.pfc_tree.specs.declared.tree.Constant.{Constant}
+use Rattle.pfc_tree.specs.declared.tree.Spread.{Spread}
 use Rattle.pfc_tree.specs.Symbols.{Text}
 use Rattle.pfc_tree.specs.trees.Exprs.{ExprTree}
 use Rattle.pfc_tree.specs.trees.Types.{GroupTree}
@@ -48,12 +49,36 @@ labels = do
   t ← take_as (as_sign COLON)
   pure cs
 
+-- behind `for`: name ":=" constant "to" constant "replicate"
+unfoldable pub spread_behind : Reader Spread
+spread_behind = do
+  x ← take_as as_name
+  t ← take_as (as_sign BECOMES)
+  low ← constant_reader
+  u ← take_as (as_word TO)
+  high ← constant_reader
+  v ← take_as (as_word REPLICATE)
+  pure (record { name = x.0; low = low; high = high; place = x.1 })
+
+-- [spread], where spread = "for" name ":=" constant "to" constant "replicate"
+unfoldable pub replication : Reader (Option Spread)
+replication = branch (as_word FOR) (λ t. do
+  r ← spread_behind
+  pure (Some r)) (pure None)
+
 -- ["when" expr "=>"]
 unfoldable pub guard : Reader ExprTree → Reader (Option ExprTree)
 guard e = branch (as_word WHEN) (λ t. do
   x ← e
   u ← take_as (as_sign ARROW)
   pure (Some x)) (pure None)
+
+-- [spread] ["when" expr "=>"]
+unfoldable pub alt_head : Reader ExprTree → Reader (Option Spread × Option ExprTree)
+alt_head e = do
+  r ← replication
+  g ← guard e
+  pure (r, g)
 
 -- Statements that hold none.
 -- behind `requeue`, which stands at p: name [actuals]
@@ -87,6 +112,21 @@ comm_behind e x = do
       t ← take_as (as_sign RECEIVE)
       v ← desig_with e
       pure (comm_receive d v t.1))
+
+-- desig "!" expr | desig "?" desig
+unfoldable pub message : Reader ExprTree → Reader CommTree
+message e = branch as_name (comm_behind e) stop
+
+-- "timeout" expr | "terminate" | desig "!" expr | desig "?" desig
+unfoldable pub message_or_wait : Reader ExprTree → Reader CommTree
+message_or_wait e = branch (as_word TIMEOUT) (λ t. do
+  x ← e
+  pure (timeout x t.1)) (branch (as_word TERMINATE) (λ t. pure (terminate t.1)) (message e))
+
+-- the same, of which behind a spread the first two may not stand
+unfoldable pub comm_plain : Reader ExprTree → Bool → Reader CommTree
+comm_plain e true = message e
+comm_plain e false = message_or_wait e
 
 -- Statements that hold some.
 -- stmts = stmt {";" stmt}
@@ -181,21 +221,20 @@ accepting_behind s p = do
   a ← accept_behind s
   pure (accepting a p)
 
--- accept | desig "!" expr | desig "?" desig | "timeout" expr | "terminate"
-unfoldable pub comm_with : Reader ExprTree → Reader StmtTree → Reader CommTree
-comm_with e s = branch (as_word ACCEPT) (λ t. do
+-- accept | desig "!" expr | desig "?" desig, and where it is not replicated also "timeout" expr | "terminate"
+unfoldable pub comm_with : Reader ExprTree → Reader StmtTree → Bool → Reader CommTree
+comm_with e s replicated = branch (as_word ACCEPT) (λ t. do
   a ← accept_behind s
-  pure (comm_accept a t.1)) (branch (as_word TIMEOUT) (λ t. do
-    x ← e
-    pure (timeout x t.1)) (branch (as_word TERMINATE) (λ t. pure (terminate t.1)) (branch as_name (comm_behind e) stop)))
+  pure (comm_accept a t.1)) (comm_plain e replicated)
 
--- alt = ["when" expr "=>"] (accept | desig "!" expr | desig "?" desig | "timeout" expr | "terminate") {";" stmt}
+-- alt = [spread] ["when" expr "=>"] (accept | desig "!" expr | desig "?" desig) {";" stmt}
+--     | ["when" expr "=>"] ("timeout" expr | "terminate") {";" stmt}
 unfoldable pub alt_with : Reader ExprTree → Reader StmtTree → Reader AltTree
 alt_with e s = do
-  g ← guard e
-  c ← comm_with e s
+  h ← alt_head e
+  c ← comm_with e s (is_some h.0)
   ss ← many (as_sign SEMICOLON) (λ t. s)
-  pure (alt g c (stmts_of ss))
+  pure (alt h.0 h.1 c (stmts_of ss))
 
 -- behind `select`, which stands at p, in a statement whose first token stands at `first`: alt {"or" alt} ["else" stmts] "end"
 unfoldable pub select_behind : Reader ExprTree → Reader StmtTree → Bool → Place → Place → Reader StmtTree

@@ -1,0 +1,21 @@
+use Rattle.std.proofs.Common.{◌∙◌, rules}
+use Rattle.clap.specs.Words.{app_of, found_of, rows_of}
+use Rattle.pfc_outcome.specs.Asked.{texts_of}
+use Rattle.pfc_outcome.proofs.Command.{refused_words, taken_words}
+use Rattle.pfc_outcome.proofs.options.read_words.Goals as goal
+
+pub returns-in_err-command : goal.returns-in_err-command
+returns-in_err-command c = search rules
+
+pub returns-in-Ok : goal.returns-in-Ok
+returns-in-Ok c =
+    c.options_in.ensures ∙ taken_words (app_of c.in_ok-command.command) (texts_of c.args.words.now) (rows_of (found_of c.in-Ok.matches))
+    c.in_ok-command.ensures (λ e. (c.in-Ok.ensures.matches e).0) c.in-Ok.ensures.kinds
+
+pub returns-in_err-refused_for_words-in-Err : goal.returns-in_err-refused_for_words-in-Err
+returns-in_err-refused_for_words-in-Err c = search rules
+
+pub returns-in_ok-refused_for_words-in-Err : goal.returns-in_ok-refused_for_words-in-Err
+returns-in_ok-refused_for_words-in-Err c =
+    refused_words (app_of c.in_ok-command.command) (texts_of c.args.words.now) c.in-Err.error c.in_ok-command.ensures
+    c.in_ok-refused_for_words-in-Err.ensures c.in-Err.ensures.kinds

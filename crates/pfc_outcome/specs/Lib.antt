@@ -1,3 +1,4 @@
 pub mod Asked
 pub mod Loading
+pub mod Making
 pub mod Options

@@ -4,7 +4,9 @@
 #![tactic(auto)]
 
 mod loading;
+mod making;
 mod options;
 
 pub use loading::{Loaded, load_files};
+pub use making::make_text;
 pub use options::{Options, Source, read_words};

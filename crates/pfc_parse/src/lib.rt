@@ -17,6 +17,3 @@ mod types;
 
 pub use fault::SyntaxFault;
 pub use program::parse;
-
-#[cfg(test)]
-mod tests;

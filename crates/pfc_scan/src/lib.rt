@@ -19,6 +19,3 @@ mod words;
 pub use cutting::scan;
 pub use laws::{one_cutting, tokens_are_written};
 pub use scanned::{ScanFault, Scanned};
-
-#[cfg(test)]
-mod tests;

@@ -10,8 +10,6 @@ mod number_list;
 mod picking;
 mod ready;
 mod script_text;
-#[cfg(test)]
-mod tests;
 mod words;
 
 pub use drawing::Draws;

@@ -9,8 +9,6 @@
 mod answers;
 mod laws;
 mod partners;
-#[cfg(test)]
-mod tests;
 mod walks;
 mod world;
 

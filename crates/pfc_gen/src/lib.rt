@@ -22,6 +22,3 @@ mod words;
 
 pub use faults::GenFault;
 pub use program::generate;
-
-#[cfg(test)]
-mod tests;

@@ -17,8 +17,6 @@ mod ranges;
 mod state;
 mod stmts;
 mod subs;
-#[cfg(test)]
-mod tests;
 mod types;
 
 pub use checker::{CheckFault, check};

@@ -7,6 +7,3 @@
 mod not_built;
 
 pub use not_built::unbuilt;
-
-#[cfg(test)]
-mod tests;

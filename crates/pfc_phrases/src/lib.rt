@@ -43,6 +43,3 @@ pub use types::{
     agree, condition_fault, has, has_object, has_simple, is_object, is_same, is_simple, may_agree,
     may_be_simple, may_have, value_fault, where_so,
 };
-
-#[cfg(test)]
-mod tests;

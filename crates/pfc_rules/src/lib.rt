@@ -15,6 +15,3 @@ mod selects;
 mod statements;
 
 pub use first::{concurrency_fault, first_broken};
-
-#[cfg(test)]
-mod tests;

@@ -8,8 +8,6 @@ mod machine;
 mod operands;
 mod reader;
 mod report_of_run;
-#[cfg(test)]
-mod tests;
 mod top;
 
 pub use top::pfc;

@@ -21,6 +21,3 @@ pub use scopes::Scopes;
 pub use table::{Held, TypeFault, TypeTable, cells_of};
 pub use types::{Fields, TypeForm, TypeId};
 pub use view::{Around, Found, View, find};
-
-#[cfg(test)]
-mod tests;

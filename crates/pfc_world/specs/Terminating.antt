@@ -1,19 +1,9 @@
 -- The third step of settling, and settling whole.
-use Rattle.std.specs.Prelude.{ℕ, Bool, true, false, not, ◌&&◌, ◌||◌, is_some, if◌then◌else◌, List, [], ◌∷◌, map, drop}
-use Rattle.std.specs.List.{list_all, list_any}
-use Rattle.pfc_state.specs.Stands.{Stand, Is_done, is_unfinished, may_end}
-use Rattle.pfc_world.specs.Settling.{earliest, settled}
-use Rattle.pfc_world.specs.Tables.{Table, some_ready}
+use Rattle.std.specs.Prelude.{Bool, true, false, if◌then◌else◌, List, [], ◌∷◌, map}
+use Rattle.pfc_state.specs.Stands.{Stand, Is_done, may_end}
+use Rattle.pfc_world.specs.Settling.{may_all_end, settled}
+use Rattle.pfc_world.specs.Tables.{Table}
 use Rattle.pfc_world.specs.Transitions.{released}
-
--- every unfinished child waits in a select with an open `terminate`, and there is one that does
-abbrev pub are_terminable : List Stand → Bool
-are_terminable children = list_all (λ stand. not (is_unfinished stand) || may_end stand) children && list_any may_end children
-
--- Children may terminate where nobody is ready, no due moment is pending, and each unfinished child
--- waits for nothing but to communicate or to terminate.
-abbrev pub may_terminate : List Stand → Bool
-may_terminate rows = (not (some_ready rows) && not (is_some (earliest rows))) && are_terminable (drop 1 rows)
 
 -- a child that waits in a select with an open `terminate` finishes
 abbrev pub terminated_child : Stand → Stand
@@ -31,9 +21,10 @@ abbrev pub terminated_where : Bool → Table → Table
 terminated_where true w = terminated w
 terminated_where false w = w
 
--- the third step of settling
+-- The third step of settling. It applies where nobody is ready, no due moment is pending, and every
+-- unfinished child waits in a select with an open `terminate`, at least one existing.
 abbrev pub finally_settled : Table → Table
-finally_settled w = terminated_where (may_terminate w.rows) w
+finally_settled w = terminated_where (may_all_end w.rows) w
 
 -- Settling whole: whoever is due is ready; where nobody is, the clock goes to the earliest due moment;
 -- where there is none, children that wait with `terminate` alone finish.

@@ -344,7 +344,9 @@ impl World {
 }
 
 impl World {
-    fn offer_at(&self, p: u32, arm: Arm) -> Option<Offer>
+    /// The first place of the alternative, from 0, among those that the process offers in a select; None where it offers
+    /// no such alternative.
+    pub fn offer_at(&self, p: u32, arm: Arm) -> Option<Offer>
         requires { p < length self.now.rows }
         ensures { result ≡ offer_at p (place_of_arm arm (arms_of (at self.now.rows p))) }
     {

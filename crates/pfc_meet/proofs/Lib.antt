@@ -1,0 +1,3 @@
+pub mod Acceptances
+pub mod Choosing
+pub mod Taking

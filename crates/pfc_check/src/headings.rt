@@ -3,7 +3,7 @@ ghost use Rattle.std.specs.Prelude.{◌≡◌, map, OnOk, IfOk};
 ghost use Rattle.pfc_tree.specs.views.Types.{group_view};
 ghost use Rattle.pfc_types.specs.Views.{levels};
 ghost use Rattle.pfc_types.specs.Blocks.{note};
-ghost use Rattle.pfc_types.specs.rules.Declarations.{passed_fits, parameter_fits, parameter_rules, parameter_type, group_type, broken_group, formal_heading, formals_heading, group_heading, groups_heading, heading};
+ghost use Rattle.pfc_types.specs.rules.Declarations.{passed_fits, parameter_fits, parameter_rules, parameter_type, group_type, broken_group, formal_heading, formals_heading, group_viewed, group_heading, groups_heading, heading, accept_heading};
 ghost use Rattle.pfc_check.specs.States.{state_of, around, heading_of};
 
 use crate::state::{Block, State};
@@ -108,18 +108,31 @@ impl State {
         Ok(())
     }
 
-    /// `var a, b: integer`. The parameters of earlier groups are in view in the type of a later one.
-    fn group(&mut self, g: &Group, block: Block, heading: &mut Heading) -> Result<(), Memory>
-        ensures { OnOk result (heading_of self.new heading.new ≡ group_heading block.entry.scope (around block.entry) (heading_of self.old heading.old) (group_view g.now)) }
+    /// `var a, b: integer`, declared in the scope i; the name of the type is looked up in this view.
+    fn group_viewed(
+        &mut self,
+        g: &Group,
+        i: u32,
+        view: &View,
+        heading: &mut Heading,
+    ) -> Result<(), Memory>
+        ensures { OnOk result (heading_of self.new heading.new ≡ group_viewed i (levels view.now) (heading_of self.old heading.old) (group_view g.now)) }
     {
-        let view = self.here(block);
-        let t = self.group_type(g, &view)?;
+        let t = self.group_type(g, view)?;
         heading.whole = heading.whole && t.is_some();
         let formal = Formal {
             t,
             reference: g.reference,
         };
-        self.formals(&g.names, block.scope, formal, heading)
+        self.formals(&g.names, i, formal, heading)
+    }
+
+    /// The parameters of earlier groups are in view in the type of a later one.
+    fn group(&mut self, g: &Group, block: Block, heading: &mut Heading) -> Result<(), Memory>
+        ensures { OnOk result (heading_of self.new heading.new ≡ group_heading block.entry.scope (around block.entry) (heading_of self.old heading.old) (group_view g.now)) }
+    {
+        let view = self.here(block);
+        self.group_viewed(g, block.scope, &view, heading)
     }
 
     /// The parameters of a block, whose scope is open and empty.
@@ -132,6 +145,25 @@ impl State {
         };
         for g in groups {
             self.group(g, block, &mut heading)?;
+        }
+        Ok(heading)
+    }
+
+    /// The parameters of an accept, whose scope i is open and empty. They are in view in no group.
+    pub(crate) fn accept_heading(
+        &mut self,
+        groups: &[Group],
+        i: u32,
+        view: &View,
+    ) -> Result<Heading, Memory>
+        ensures { IfOk result (λ h. heading_of self.new h ≡ accept_heading (state_of self.old) i (levels view.now) (map group_view groups.now)) }
+    {
+        let mut heading = Heading {
+            formals: Formals::new(self.alloc),
+            whole: true,
+        };
+        for g in groups {
+            self.group_viewed(g, i, view, &mut heading)?;
         }
         Ok(heading)
     }

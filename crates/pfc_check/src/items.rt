@@ -25,7 +25,7 @@ pub(crate) enum Owner {
 }
 
 /// The most processes that a program may have beside main.
-const MOST_PROCESSES: u64 = 63;
+const MOST_PROCESSES: u64 = 1_023;
 
 /// A constant's name, or a faulty one.
 fn constant_meaning(value: Option<Ordinal>) -> Meaning
@@ -125,10 +125,10 @@ impl State {
         )
     }
 
-    /// How many processes a variable brings in, at most 64.
+    /// How many processes a variable brings in, at most 1,024.
     fn brought(&self, t: Option<TypeId>) -> u64
         ensures value { result ≡ brought (state_of self.now).forms t }
-        ensures bound { result ≤ 64 }
+        ensures bound { result ≤ 1024 }
     {
         match t {
             None => 0,
@@ -136,7 +136,7 @@ impl State {
         }
     }
 
-    /// Declares a name that brings in processes. The one that passes the limit is faulty; they are counted up to 64.
+    /// Declares a name that brings in processes. The one that passes the limit is faulty; they are counted up to 1,024.
     pub(crate) fn populated(
         &mut self,
         i: u32,
@@ -145,7 +145,7 @@ impl State {
         place: Place,
         meaning: Meaning,
     ) -> Result<(), Memory>
-        requires { more ≤ 64 }
+        requires { more ≤ 1024 }
         ensures { OnOk result (state_of self.new ≡ populated (state_of self.old) i more (name.now, place) meaning) }
     {
         let before = self.scopes.population() as u64;

@@ -83,7 +83,7 @@ impl State {
         let own = self.scopes.len();
         let meaning = self.look(view, name);
         self.open()?;
-        let heading = self.heading(groups, inside(own, &*view))?;
+        let heading = self.accept_heading(groups, own, view)?;
         self.note(self.accept_fault(meaning, heading.formals.as_slice(), place))
     }
 

@@ -62,6 +62,7 @@ abbrev pub routine_view : Routine → routines.Routine
 routine_view routine.Signal = routines.the_signal
 routine_view (routine.Function w g s) = routines.a_function (wants_view w) (gives_view g) (site_view s)
 routine_view (routine.Procedure w s) = routines.a_procedure (wants_view w) (site_view s)
+routine_view routine.Delay = routines.a_delay
 routine_view (routine.Reader some) = routines.a_reader some
 routine_view (routine.Writer some) = routines.a_writer some
 

@@ -2,6 +2,7 @@
 ghost use Rattle.std.specs.Prelude.{◌≡◌};
 ghost use Rattle.pfc_tree.specs.views.Exprs.{desig_view, selectors_view, actuals_view};
 ghost use Rattle.pfc_types.specs.rules.Calls as calls;
+ghost use Rattle.pfc_types.specs.rules.Routines as routines;
 ghost use Rattle.pfc_phrases.specs.Found.{noted};
 ghost use Rattle.pfc_phrases.specs.Views.{env_view, routine_view};
 
@@ -11,7 +12,7 @@ use crate::lending::count_fault;
 use crate::members::{
     activate, activate_variable, call_entry, call_module, call_selected, only_field,
 };
-use crate::routines::{Routine, routine_of};
+use crate::routines::{Routine, delay_wants, routine_of};
 use crate::{
     Best, Callee, Env, Site, Wants, asked, asked_formals, find_in, meaning_of, refuse, selectors,
     unasked,
@@ -66,9 +67,19 @@ fn call_routine(args: &[Actual], routine: Routine, place: Place, env: Env, best:
     match routine {
         Routine::Signal | Routine::Function(_, _, _) => refuse(args, 310, place, env, best),
         Routine::Procedure(wants, site) => asked(args, Callee::new(wants, site), place, env, best),
+        Routine::Delay => delayed(args, place, env, best),
         Routine::Reader(some) => reads(args, some, place, env, best),
         Routine::Writer(some) => writes(args, some, place, env, best),
     }
+}
+
+/// `delay (c, 1)`. 316: it takes one argument or two; at the name.
+#[tactic(auto, using(crate::proofs::Counts::count_actuals))]
+fn delayed(args: &[Actual], place: Place, env: Env, best: &mut Best)
+    ensures { best.new ≡ noted best.old (calls.call_routine (env_view env.entry) routines.a_delay place (actuals_view args.now)) }
+{
+    let callee = Callee::new(delay_wants(args.len()), Site::InMonitorSub);
+    asked(args, callee, place, env, best);
 }
 
 /// 310: a sub that is called as a statement is a procedure. 423: a guarded procedure is called by its name only inside its
@@ -172,8 +183,7 @@ pub fn requeue(
     }
 }
 
-/// 419: `requeue` names a guarded procedure. A variable or a value parameter of the activation that ends is no variable for a
-/// reference.
+/// 419: `requeue` names a guarded procedure. The arguments of a procedure are asked whether it is guarded or not.
 fn requeue_sub(
     args: &[Actual],
     ending: u32,
@@ -186,12 +196,27 @@ fn requeue_sub(
     ensures { best.new ≡ noted best.old (calls.requeue_sub (env_view env.entry) ending sort formals.now place (actuals_view args.now)) }
 {
     match sort {
-        SubSort::Procedure => refuse(args, 419, place, env, best),
-        SubSort::Guarded => {
-            let callee = Callee::new(Wants::Formals(formals), Site::Anywhere);
-            best.add(count_fault(callee, args, place));
-            actuals(args, true, Wants::Formals(formals), Some(ending), env, best);
+        SubSort::Procedure => {
+            best.unless(false, place, 419);
+            requeue_asked(args, ending, formals, place, env, best);
         }
+        SubSort::Guarded => requeue_asked(args, ending, formals, place, env, best),
         SubSort::Function(_) => refuse(args, 310, place, env, best),
     }
+}
+
+/// The arguments of a `requeue`. A variable or a value parameter of the activation that ends is no variable for a reference.
+fn requeue_asked(
+    args: &[Actual],
+    ending: u32,
+    formals: &[Formal],
+    place: Place,
+    env: Env,
+    best: &mut Best,
+)
+    ensures { best.new ≡ noted best.old (calls.requeue_asked (env_view env.entry) ending formals.now place (actuals_view args.now)) }
+{
+    let callee = Callee::new(Wants::Formals(formals), Site::Anywhere);
+    best.add(count_fault(callee, args, place));
+    actuals(args, true, Wants::Formals(formals), Some(ending), env, best);
 }

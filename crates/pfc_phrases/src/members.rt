@@ -79,13 +79,14 @@ pub(crate) fn call_entry(args: &[Actual], n: u32, field: (&Name, Place), env: En
     }
 }
 
-/// 410: `m.p` names an exported procedure; at the name behind `.`, where its arguments are counted too.
+/// 410: `m.p` names an exported procedure; at the name behind `.`. The arguments of a sub are asked whether it is exported or not.
 pub(crate) fn call_module(args: &[Actual], n: u32, field: (&Name, Place), env: Env, best: &mut Best)
     ensures { best.new ≡ noted best.old (calls.call_module (env_view env.entry) n (field.entry.0.now, field.entry.1) (actuals_view args.now)) }
 {
     match member(env.scopes, env.scopes.module(n).scope, field.0) {
-        Some(Meaning::Sub(k)) if env.scopes.is_exported(k) => {
-            asked_formals(args, env.scopes.sub_formals(k), field.1, env, best)
+        Some(Meaning::Sub(k)) => {
+            best.unless(env.scopes.is_exported(k), field.1, 410);
+            asked_formals(args, env.scopes.sub_formals(k), field.1, env, best);
         }
         Some(Meaning::Faulty) => unasked(args, env, best),
         _ => refuse(args, 410, field.1, env, best),

@@ -55,6 +55,8 @@ pub(crate) enum Routine<'a> {
     Signal,
     Function(Wants<'a>, Gives, Site),
     Procedure(Wants<'a>, Site),
+    /// `delay`, which takes one argument or two.
+    Delay,
     /// `read` and `readln`; whether at least one argument is wanted.
     Reader(bool),
     /// `write` and `writeln`; whether at least one argument is wanted.
@@ -128,6 +130,8 @@ const ONE_CONDITION: Wants = Wants::Formals(&[CONDITION]);
 
 const SEMAPHORE_AND_INTEGER: Wants = Wants::Formals(&[SEMAPHORE, INTEGER]);
 
+const RANKED_CONDITION: Wants = Wants::Formals(&[CONDITION, INTEGER]);
+
 const BOOLEAN_VALUE: Gives = Gives::Always(TypeId::BOOLEAN);
 
 const INTEGER_VALUE: Gives = Gives::Always(TypeId::INTEGER);
@@ -164,10 +168,21 @@ pub(crate) fn routine_of(k: u8) -> Routine<'static>
         17 => Routine::Procedure(SEMAPHORE_AND_INTEGER, Site::InMain),
         18 => Routine::Procedure(ONE_SEMAPHORE, Site::Anywhere),
         19 => Routine::Procedure(ONE_SEMAPHORE, Site::Anywhere),
-        20 => Routine::Procedure(ONE_CONDITION, Site::InMonitorSub),
+        20 => Routine::Delay,
         21 => Routine::Procedure(ONE_CONDITION, Site::InMonitorSub),
         22 => Routine::Procedure(ONE_INTEGER, Site::Anywhere),
         _ => Routine::Signal,
+    }
+}
+
+/// What `delay` wants where it has n arguments: a condition, and behind it a rank where there are more than one.
+pub(crate) fn delay_wants(n: usize) -> Wants<'static>
+    ensures { wants_view result ≡ routines.delay_wants n }
+{
+    if n > 1 {
+        RANKED_CONDITION
+    } else {
+        ONE_CONDITION
     }
 }
 
@@ -310,8 +325,11 @@ fn called_routine<'a>(routine: Routine<'a>) -> Callee<'a>
 {
     match routine {
         Routine::Function(wants, _, site) => Callee::new(wants, site),
-        Routine::Signal | Routine::Procedure(_, _) | Routine::Reader(_) | Routine::Writer(_) =>
-            Callee::NOTHING,
+        Routine::Signal
+        | Routine::Procedure(_, _)
+        | Routine::Delay
+        | Routine::Reader(_)
+        | Routine::Writer(_) => Callee::NOTHING,
     }
 }
 
@@ -332,8 +350,11 @@ pub(crate) fn routine_value(routine: Routine, first: Option<TypeId>) -> Option<T
     match routine {
         Routine::Function(_, Gives::Always(t), _) => Some(t),
         Routine::Function(_, Gives::Alike, _) => first,
-        Routine::Signal | Routine::Procedure(_, _) | Routine::Reader(_) | Routine::Writer(_) =>
-            None,
+        Routine::Signal
+        | Routine::Procedure(_, _)
+        | Routine::Delay
+        | Routine::Reader(_)
+        | Routine::Writer(_) => None,
     }
 }
 

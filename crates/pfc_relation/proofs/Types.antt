@@ -15,7 +15,7 @@ use Rattle.pfc_types.specs.Types.{Forms, integer, boolean, char, condition, is_s
 use Rattle.pfc_types.specs.Fields.{FieldList, type_named, position_of}
 use Rattle.pfc_types.specs.Scopes.{meaning_of}
 use Rattle.pfc_types.specs.rules.Kinds.{where_so, has, has_simple, agree, variable_type}
-use Rattle.pfc_types.specs.rules.Routines.{Want, a_value, a_simple_value, a_variable_of, fits_want, suits, Routine, the_signal, a_function, a_procedure, a_reader, a_writer, one_condition, routines, routine_of, Gives, Site, anywhere, in_main, in_monitor_sub, called_function, called_routine, site_fits, routine_value}
+use Rattle.pfc_types.specs.rules.Routines.{Want, a_value, a_simple_value, a_variable_of, fits_want, suits, Routine, the_signal, a_function, a_procedure, a_delay, a_reader, a_writer, one_condition, routines, routine_of, Gives, Site, anywhere, in_main, in_monitor_sub, called_function, called_routine, site_fits, routine_value}
 use Rattle.pfc_types.specs.rules.Expressions.{Env, find, add_operand, mul_operand, operated, signed_type, related_type, element_of, element_type as indexed_type, field_type, guard_allows, no_selector, no_actual, plain_use, use_type, is_variable, expr_type, simple_type, summed, term_type, multiplied, factor_type, selected, selected_by, indexed, args_fit, first_type, desig_type}
 use Rattle.pfc_types.specs.declared.types.TypeId.{TypeId}
 use Rattle.pfc_types.specs.declared.types.TypeForm.{TypeForm}
@@ -258,6 +258,7 @@ module _ (env : Env) (outside : env.around.sub ≡ false) where
           (ap (λ s. site_fits env.around s (first_type env args)) (sym is.1) ∙ both_right (args_fit env wants args) _ fit))
   call_numeric the_signal p args alone argument h = absurd (no_type _ h)
   call_numeric (a_procedure wants site) p args alone argument h = absurd (no_type _ h)
+  call_numeric a_delay p args alone argument h = absurd (no_type _ h)
   call_numeric (a_reader some) p args alone argument h = absurd (no_type _ h)
   call_numeric (a_writer some) p args alone argument h = absurd (no_type _ h)
 

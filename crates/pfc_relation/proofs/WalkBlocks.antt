@@ -21,7 +21,7 @@ use Rattle.pfc_types.specs.declared.scope.Meaning.{Meaning}
 use Rattle.pfc_types.specs.declared.scope.Meaning.TheVariants.{Named, Sub, Module, Process, Faulty}
 use Rattle.pfc_types.specs.rules.Kinds.{type_meaning, variable_meaning}
 use Rattle.pfc_types.specs.rules.Constants.{Ordinal, same_ordinal, constant_value, constant_place, broken_constant, made, type_place}
-use Rattle.pfc_types.specs.rules.Declarations.{constant_meaning, const_state, consts_state, type_state, types_state, Owner, in_program, elsewhere, owner_rules, owned_type, passes_most, populated, brought, var_name_state, var_names_state, var_state, vars_state, group_type, broken_group, Heading, heading, formal_heading, formals_heading, group_heading, groups_heading, EntryHeading, entry_formal, entry_formals, entry_group, entry_groups, entry_meaning, entry_state, entries_state, accept_rule, accepted, Labels, label_noted, labels_noted, stmt_state, stmts_state, body_state, arms_state, arm_state, accept_state, alts_state, alt_state, comm_state, broken_sort, sort_of, whole_sort, sub_meaning, sub_headed, may_export, export_state, export_list, exports_state, module_owner, module_closed, init_state, process_named, process_headed, process_cells, cells_rule, scope_cells, result_cells, part_state, parts_state, sub_state, module_state, process_state}
+use Rattle.pfc_types.specs.rules.Declarations.{constant_meaning, const_state, consts_state, type_state, types_state, Owner, in_program, elsewhere, owner_rules, owned_type, passes_most, populated, brought, var_name_state, var_names_state, var_state, vars_state, group_type, broken_group, Heading, heading, accept_heading, formal_heading, formals_heading, group_viewed, group_heading, groups_heading, accept_groups, EntryHeading, entry_formal, entry_formals, entry_group, entry_groups, entry_meaning, entry_state, entries_state, accept_rule, accepted, Labels, label_noted, labels_noted, stmt_state, stmts_state, body_state, arms_state, arm_state, accept_state, alts_state, alt_state, comm_state, broken_sort, sort_of, whole_sort, sub_meaning, sub_headed, may_export, export_state, export_list, exports_state, module_owner, module_closed, init_state, process_named, process_headed, process_cells, cells_rule, scope_cells, result_cells, part_state, parts_state, sub_state, module_state, process_state}
 use Rattle.pfc_types.specs.rules.Whole.{begun, declared_parts, declared_all, finished, types_of, main_cells}
 use Rattle.pfc_types.proofs.Prefixes.{begins_same}
 use Rattle.pfc_relation.specs.Cells.{IsSound}
@@ -115,6 +115,12 @@ groups_hold i outer h (g ∷ gs) held =
     groups_hold i outer (group_heading i outer h g) gs
     (formals_hold i g.reference (group_type h.state view g) _ g.names (note_holds h.state (broken_group h.state view g) held))
 
+accept_groups_hold : (i : ℕ) (view : List Level) (h : Heading) (gs : List GroupTree) → Holds h.state → Holds (accept_groups i view h gs).state
+accept_groups_hold i view h [] held = held
+accept_groups_hold i view h (g ∷ gs) held =
+    accept_groups_hold i view (group_viewed i view h g) gs
+    (formals_hold i g.reference (group_type h.state view g) _ g.names (note_holds h.state (broken_group h.state view g) held))
+
 heading_holds : (s : State) (view : List Level) (gs : List GroupTree) → Holds s → Holds (heading (open_scope s) (length s.blocks.scopes) view gs).state
 heading_holds s view gs h = groups_hold (length s.blocks.scopes) view (record { state = open_scope s; formals = []; whole = true }) gs (open_holds s h)
 
@@ -184,8 +190,9 @@ labels_hold view r (c ∷ cs) h =
 
 accepted_holds : (s : State) (view : List Level) (x : Text) (gs : List GroupTree) (p : Place) → Holds s → Holds (accepted s view x gs p)
 accepted_holds s view x gs p held =
-    let h : Heading = heading (open_scope s) (length s.blocks.scopes) view gs in
-    note_holds h.state (accept_rule h.state.blocks (look s.blocks.scopes view x) h.formals p) (heading_holds s view gs held)
+    let h : Heading = accept_heading (open_scope s) (length s.blocks.scopes) view gs in
+    note_holds h.state (accept_rule h.state.blocks (look s.blocks.scopes view x) h.formals p)
+    (accept_groups_hold (length s.blocks.scopes) view (record { state = open_scope s; formals = []; whole = true }) gs (open_holds s held))
 
 mutual
   stmt_holds : (s : State) (view : List Level) (t : StmtTree) → Holds s → Holds (stmt_state s view t)

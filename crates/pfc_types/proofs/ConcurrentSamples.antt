@@ -239,21 +239,3 @@ entry_of_number = refl
 -- var c: channel of integer; begin c.q end
 entry_of_channel : first_fault (program (with_c no_parts) (call (desig (codes "c") (more_selectors (field q (at 32)) no_selectors) (at 30)) no_actuals (at 30))) ≡ refused 422 30
 entry_of_channel = refl
-
--- ## 424
-
--- process type p; begin end; var x: array [1..n] of p
-abbrev crowd : ℕ → PartTrees → PartTrees
-crowd n ps =
-    more_parts (process_p true no_parts empty)
-    (more_parts (var_part x 10 (array (record { low = Number None (pos 1) (at 12); high = Number None (pos n) (at 13) } ∷ []) (named p (at 14)) (at 11))) ps)
-
-too_many : first_fault (program (crowd 64 no_parts) empty) ≡ refused 424 10
-too_many = refl
-
-just_enough : first_fault (program (crowd 63 no_parts) empty) ≡ None
-just_enough = refl
-
--- with 63 of them, process q; begin end;
-one_more : first_fault (program (crowd 63 (one_part (process_part (process false q [] [] no_parts (body_of (one_stmt empty)) (at 20))))) empty) ≡ refused 424 20
-one_more = refl

@@ -16,7 +16,7 @@ use Rattle.pfc_types.specs.declared.heads.SubSort.TheVariants.{Procedure, Guarde
 use Rattle.pfc_types.specs.Scopes.{meaning_of}
 use Rattle.pfc_types.specs.rules.Kinds.{a_variable, name_rules, variable_type}
 use Rattle.pfc_types.specs.rules.Declarations.{whole_sort}
-use Rattle.pfc_types.specs.rules.Routines.{Want, wants_for, Gives, gives, gives_alike, Site, anywhere, in_main, in_monitor_sub, Routine, the_signal, a_function, a_procedure, a_reader, a_writer, routines, routine_of, site_fits, site_rule, Callee, nothing_called, called_with, called_sort, called_routine, called_function, given, sort_value, routine_value, is_function_sort, is_signal, is_function_routine, fits_use, is_any}
+use Rattle.pfc_types.specs.rules.Routines.{Want, wants_for, Gives, gives, gives_alike, Site, anywhere, in_main, in_monitor_sub, Routine, the_signal, a_function, a_procedure, a_delay, a_reader, a_writer, routines, routine_of, site_fits, site_rule, Callee, nothing_called, called_with, called_sort, called_routine, called_function, given, sort_value, routine_value, is_function_sort, is_signal, is_function_routine, fits_use, is_any}
 use Rattle.pfc_types.specs.rules.Expressions.{Env, no_selector, no_actual, guard_allows, use_rules, plain_use, use_type, actual_count, count_rule, is_variable, expr_type, selected, args_fit, arg_fits, first_type, arg_type, broken_selectors, broken_actuals}
 use Rattle.pfc_types.specs.rules.FaultyNames.{all_typed, is_faulty, is_faulty_found, selectors_use_faulty, actuals_use_faulty}
 use Rattle.pfc_types.proofs.Clean.{clean, clean-unless, and-false}
@@ -45,6 +45,7 @@ abbrev IsLawful : Routine → Type 0
 IsLawful the_signal = Unit {0}
 IsLawful (a_function wants g site) = (all_wanted wants ≡ true) × HasFirst g wants
 IsLawful (a_procedure wants site) = Unit {0}
+IsLawful a_delay = Unit {0}
 IsLawful (a_reader some) = Unit {0}
 IsLawful (a_writer some) = Unit {0}
 
@@ -218,6 +219,7 @@ routine_exact :
 routine_exact env no_actuals q the_signal lawful known = refl
 routine_exact env (more_actuals a rest) q the_signal lawful known = neither (args_fit env [] (more_actuals a rest) && true)
 routine_exact env args q (a_procedure wants site) lawful known = neither (args_fit env [] args && true)
+routine_exact env args q a_delay lawful known = neither (args_fit env [] args && true)
 routine_exact env args q (a_reader some) lawful known = neither (args_fit env [] args && true)
 routine_exact env args q (a_writer some) lawful known = neither (args_fit env [] args && true)
 routine_exact env args q (a_function wants g site) lawful known =

@@ -1,4 +1,5 @@
 pub mod Adding
+pub mod ArgumentSamples
 pub mod BlockSamples
 pub mod Clean
 pub mod Concurrent
@@ -9,6 +10,7 @@ pub mod FaultyNames
 pub mod FaultyOperators
 pub mod FaultyTypes
 pub mod First
+pub mod LimitSamples
 pub mod Looks
 pub mod Names
 pub mod OrderSamples

@@ -23,7 +23,7 @@ use Rattle.pfc_types.specs.declared.scope.Meaning.{Meaning}
 use Rattle.pfc_types.specs.declared.scope.Meaning.TheVariants.{Constant as AConstant, Named, Variable, Sub, Module, Process, Entry, Predeclared, Faulty}
 use Rattle.pfc_types.specs.rules.Kinds.{type_name_rules, has_object, type_meaning, variable_meaning}
 use Rattle.pfc_types.specs.rules.Constants.{Ordinal, Extent, constant_value, broken_constant, broken_ranges, range_extents, Made, added_unless, added, channel_form, array_of, made_arrays, MadeFields, made_field, made_names, made_group, record_form, fields_begun, made, made_items, made_item, type_place}
-use Rattle.pfc_types.specs.rules.Declarations.{constant_meaning, const_state, consts_state, type_state, types_state, Owner, owner_rules, owned_type, passes_most, populated, brought, var_name_state, var_names_state, var_state, vars_state, group_type, broken_group, Heading, formal_heading, formals_heading, group_heading, groups_heading, EntryHeading, entry_formal, entry_formals, entry_group, entry_groups, entry_meaning, entry_state, entries_state, may_export, export_state, export_list, exports_state, process_named}
+use Rattle.pfc_types.specs.rules.Declarations.{constant_meaning, const_state, consts_state, type_state, types_state, Owner, owner_rules, owned_type, passes_most, populated, brought, var_name_state, var_names_state, var_state, vars_state, group_type, broken_group, Heading, formal_heading, formals_heading, group_viewed, group_heading, groups_heading, accept_groups, EntryHeading, entry_formal, entry_formals, entry_group, entry_groups, entry_meaning, entry_state, entries_state, may_export, export_state, export_list, exports_state, process_named}
 use Rattle.pfc_types.specs.rules.Bodies.{passed, passed_names, passed_consts, passed_types, passed_vars, passed_groups, passed_entries}
 use Rattle.pfc_types.proofs.Prefixes.{begins_same, begins_push}
 use Rattle.pfc_types.proofs.Walking.{held, Kept, Walked, kept_same, kept_trans, kept_walked, kept_then_walked, walked_trans, note_kept, declare_walked, free_walked}
@@ -191,18 +191,25 @@ formals_walked i reference t h (x ∷ xs) b = walked_trans one (formals_walked i
     one : Walked i h.state (declare h.state i x (variable_meaning reference t)) 0 (λ names n. passed names n x.0)
     one = free_walked h.state i x (variable_meaning reference t) b (variable_sound reference t)
 
-group_walked : (i : ℕ) (outer : List Level) (h : Heading) (g : GroupTree) → i < length (held h.state) → Walked i h.state (group_heading i outer h g).state 0 (λ names n. passed_names names n g.names)
-group_walked i outer h g b = kept_then_walked b noted (formals_walked i g.reference (group_type h.state (here h.state.blocks.scopes i outer) g) _ g.names (omega (arith, b, ap length noted.scopes)))
+group_walked : (i : ℕ) (view : List Level) (h : Heading) (g : GroupTree) → i < length (held h.state) → Walked i h.state (group_viewed i view h g).state 0 (λ names n. passed_names names n g.names)
+group_walked i view h g b = kept_then_walked b noted (formals_walked i g.reference (group_type h.state view g) _ g.names (omega (arith, b, ap length noted.scopes)))
   where
-    noted : Kept h.state (note h.state (broken_group h.state (here h.state.blocks.scopes i outer) g))
-    noted = note_kept h.state (broken_group h.state (here h.state.blocks.scopes i outer) g)
+    noted : Kept h.state (note h.state (broken_group h.state view g))
+    noted = note_kept h.state (broken_group h.state view g)
 
 pub groups_walked : (i : ℕ) (outer : List Level) (h : Heading) (gs : List GroupTree) → i < length (held h.state) → Walked i h.state (groups_heading i outer h gs).state 0 (λ names n. passed_groups names n gs)
 groups_walked i outer h [] b = kept_walked b (kept_same h.state)
 groups_walked i outer h (g ∷ gs) b = walked_trans one (groups_walked i outer (group_heading i outer h g) gs (omega (arith, b, one.count)))
   where
     one : Walked i h.state (group_heading i outer h g).state 0 (λ names n. passed_names names n g.names)
-    one = group_walked i outer h g b
+    one = group_walked i (here h.state.blocks.scopes i outer) h g b
+
+pub accept_groups_walked : (i : ℕ) (view : List Level) (h : Heading) (gs : List GroupTree) → i < length (held h.state) → Walked i h.state (accept_groups i view h gs).state 0 (λ names n. passed_groups names n gs)
+accept_groups_walked i view h [] b = kept_walked b (kept_same h.state)
+accept_groups_walked i view h (g ∷ gs) b = walked_trans one (accept_groups_walked i view (group_viewed i view h g) gs (omega (arith, b, one.count)))
+  where
+    one : Walked i h.state (group_viewed i view h g).state 0 (λ names n. passed_names names n g.names)
+    one = group_walked i view h g b
 
 -- ## Entries
 

@@ -10,11 +10,11 @@ use Rattle.pfc_types.specs.Faults.{unless}
 use Rattle.pfc_types.specs.Scopes.{Level, here, look}
 use Rattle.pfc_types.specs.Blocks.{State, note, open_scope}
 use Rattle.pfc_types.specs.rules.Constants.{Ordinal, same_ordinal, constant_value, constant_place}
-use Rattle.pfc_types.specs.rules.Declarations.{heading, accept_rule, accepted, Labels, label_noted, labels_noted, stmt_state, stmts_state, body_state, arms_state, arm_state, accept_state, alts_state, alt_state, comm_state, init_state}
+use Rattle.pfc_types.specs.rules.Declarations.{heading, accept_heading, accept_rule, accepted, Labels, label_noted, labels_noted, stmt_state, stmts_state, body_state, arms_state, arm_state, accept_state, alts_state, alt_state, comm_state, init_state}
 use Rattle.pfc_types.specs.rules.Statements.{scopes_in, stmts_scopes, body_scopes, arms_scopes, arm_scopes, accept_scopes, alts_scopes, alt_scopes, comm_scopes}
 use Rattle.pfc_types.specs.rules.Bodies.{init_scopes}
 use Rattle.pfc_types.proofs.Walking.{Kept, Opened, kept_same, kept_trans, opened_same, opened_trans, opened_kept, kept_then_opened, opened_inner, note_kept, open_opened}
-use Rattle.pfc_types.proofs.WalkDeclarations.{groups_walked}
+use Rattle.pfc_types.proofs.WalkDeclarations.{groups_walked, accept_groups_walked}
 
 -- ## Labels and headings
 
@@ -37,11 +37,16 @@ pub heading_opened : (s : State) (view : List Level) (gs : List GroupTree) → O
 heading_opened s view gs =
     opened_inner (open_opened s) (groups_walked (length s.blocks.scopes) view (record { state = open_scope s; formals = []; whole = true }) gs (omega (arith, (open_opened s).count)))
 
+-- a scope of its own with the parameters of an accept
+pub accept_heading_opened : (s : State) (view : List Level) (gs : List GroupTree) → Opened s (accept_heading (open_scope s) (length s.blocks.scopes) view gs).state 1
+accept_heading_opened s view gs =
+    opened_inner (open_opened s) (accept_groups_walked (length s.blocks.scopes) view (record { state = open_scope s; formals = []; whole = true }) gs (omega (arith, (open_opened s).count)))
+
 pub accepted_opened : (s : State) (view : List Level) (x : Text) (gs : List GroupTree) (p : Place) → Opened s (accepted s view x gs p) 1
 accepted_opened s view x gs p =
-    opened_kept (heading_opened s view gs)
-    (note_kept (heading (open_scope s) (length s.blocks.scopes) view gs).state
-    (accept_rule (heading (open_scope s) (length s.blocks.scopes) view gs).state.blocks (look s.blocks.scopes view x) (heading (open_scope s) (length s.blocks.scopes) view gs).formals p))
+    opened_kept (accept_heading_opened s view gs)
+    (note_kept (accept_heading (open_scope s) (length s.blocks.scopes) view gs).state
+    (accept_rule (accept_heading (open_scope s) (length s.blocks.scopes) view gs).state.blocks (look s.blocks.scopes view x) (accept_heading (open_scope s) (length s.blocks.scopes) view gs).formals p))
 
 -- ## Statements
 

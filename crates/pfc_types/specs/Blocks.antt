@@ -26,7 +26,7 @@ pub record Blocks : Type 0 where
   pub processes : List ProcessHead
   -- the parameters of the entries of all processes, in the order of the text
   pub entries : List (List Formal)
-  -- how many processes the program's variables hold, counted up to 64
+  -- how many processes the program's variables hold, counted up to 1,024
   pub population : ℕ
   -- the rules that are broken in declarations, in the order in which they are met
   pub noted : List Refusal

@@ -6,7 +6,7 @@ use Rattle.pfc_types.specs.declared.table.Held.{Held}
 -- no more than a type of the table may have
 pub record IsSmall (held : Held) : Type 0 where
   pub cells : held.cells ≤ 65536
-  pub processes : held.processes ≤ 64
+  pub processes : held.processes ≤ 1024
 
 pub record AreHeld (forms : Forms) (rows : List Held) : Type 0 where
   pub same : rows ≡ all_held forms

@@ -56,9 +56,9 @@ predeclared_held n = record { cells = 1; processes = 0; conditions = n == 4; sha
 abbrev pub nothing_held : Held
 nothing_held = record { cells = 0; processes = 0; conditions = false; shared = false }
 
--- processes are counted up to 64
+-- processes are counted up to 1,024, which is one more than a program may have beside main
 abbrev pub most_processes : ℕ → ℕ
-most_processes n = min n 64
+most_processes n = min n 1024
 
 -- both together
 abbrev pub held_with : Held → Held → Held

@@ -10,7 +10,7 @@ use std::marker::Model;
 
 /// The scopes of a program, one for each block and each accept, in the order of the text; the program's own is 0.
 /// Beside them stand the headings of its subs, modules, processes and entries, each list in the order of the text, how many
-/// processes its variables hold, counted up to 64, and the rules that are broken in its declarations.
+/// processes its variables hold, counted up to 1,024, and the rules that are broken in its declarations.
 /// A contract sees the record of these lists.
 #[derive(Drop)]
 pub struct Scopes {
@@ -216,7 +216,7 @@ impl Scopes {
         self.entries.len() as u32
     }
 
-    /// How many processes the program's variables hold, counted up to 64.
+    /// How many processes the program's variables hold, counted up to 1,024.
     pub fn population(&self) -> u32
         ensures { result ≡ self.now.population }
     {

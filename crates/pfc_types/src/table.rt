@@ -13,7 +13,7 @@ use std::marker::Model;
 pub struct Held {
     /// How many cells it takes.
     pub cells: u64,
-    /// How many processes it holds, counted up to 64, which is one more than a program may have beside main.
+    /// How many processes it holds, counted up to 1,024, which is one more than a program may have beside main.
     pub processes: u64,
     /// Whether it holds a condition.
     pub conditions: bool,
@@ -36,7 +36,7 @@ pub enum TypeFault {
 const MOST_CELLS: u64 = 65_536;
 
 /// Processes are counted up to this number.
-const MOST_PROCESSES: u64 = 64;
+const MOST_PROCESSES: u64 = 1_024;
 
 const NOTHING: Held = Held {
     cells: 0,
@@ -187,7 +187,7 @@ impl TypeTable {
     fn held_by(&self, form: &TypeForm) -> Held
         requires { has_bounds form.now ≡ true }
         ensures value { result ≡ held_form (all_held self.now) form.now }
-        ensures processes { result.processes ≤ 64 }
+        ensures processes { result.processes ≤ 1024 }
     {
         match form {
             TypeForm::Channel(_) => ONE_SHARED,
@@ -205,7 +205,7 @@ impl TypeTable {
     /// What the fields of a record take and hold together.
     fn held_by_fields(&self, fields: &Fields) -> Held
         ensures value { result ≡ fields_held (all_held self.now) fields.now }
-        ensures processes { result.processes ≤ 64 }
+        ensures processes { result.processes ≤ 1024 }
     {
         let mut sum = NOTHING;
         for i in 0..fields.len() {
@@ -251,7 +251,7 @@ fn times(n: u64, held: Held) -> Held
     requires count { n ≤ 2 ^ 32 }
     requires small { IsSmall held }
     ensures value { result ≡ held_times n held }
-    ensures processes { result.processes ≤ 64 }
+    ensures processes { result.processes ≤ 1024 }
 {
     Held {
         cells: n * held.cells,
@@ -264,10 +264,10 @@ fn times(n: u64, held: Held) -> Held
 /// Both together.
 fn both(sum: Held, held: Held) -> Held
     requires sum { sum.cells ≤ 2 ^ 48 }
-    requires processes { sum.processes ≤ 64 }
+    requires processes { sum.processes ≤ 1024 }
     requires small { IsSmall held }
     ensures value { result ≡ held_with sum held }
-    ensures processes { result.processes ≤ 64 }
+    ensures processes { result.processes ≤ 1024 }
 {
     Held {
         cells: sum.cells + held.cells,

@@ -15,7 +15,7 @@ use Rattle.pfc_types.specs.declared.scope.Meaning.TheVariants.{Constant, Named, 
 use Rattle.pfc_types.specs.declared.types.TypeId.{TypeId}
 use Rattle.pfc_types.specs.declared.view.Found.{Found}
 use Rattle.pfc_types.specs.rules.Kinds.{where_so, has, has_simple, may_have, may_be_simple, variable_type}
-use Rattle.pfc_types.specs.rules.Routines.{Want, a_value, a_simple_value, a_variable_of, gives, gives_alike, Routine, the_signal, a_function, a_procedure, a_reader, a_writer, routines, routine_of, called_routine, called_function, routine_value, site_fits}
+use Rattle.pfc_types.specs.rules.Routines.{Want, a_value, a_simple_value, a_variable_of, gives, gives_alike, Routine, the_signal, a_function, a_procedure, a_delay, a_reader, a_writer, routines, routine_of, called_routine, called_function, routine_value, site_fits}
 use Rattle.pfc_types.specs.rules.Expressions.{Env, find, add_operand, mul_operand, operated, signed_type, guard_allows, no_selector, no_actual, plain_use, use_type, expr_type, summed, term_type, multiplied, factor_type, selected, args_fit, first_type, desig_type, broken_expr, broken_desig}
 use Rattle.pfc_types.specs.rules.FaultyNames.{expr_uses_faulty, desig_uses_faulty}
 use Rattle.pfc_types.proofs.FaultyExprs.{expressions_faulty}
@@ -129,6 +129,7 @@ routine_simple env (a_function (a_value t ∷ wants) gives_alike site) args simp
 routine_simple env (a_function (a_variable_of t ∷ wants) gives_alike site) args simple fit = absurd simple
 routine_simple env the_signal args simple fit = refl
 routine_simple env (a_procedure wants site) args simple fit = refl
+routine_simple env a_delay args simple fit = refl
 routine_simple env (a_reader some) args simple fit = refl
 routine_simple env (a_writer some) args simple fit = refl
 

@@ -14,8 +14,8 @@ use Rattle.pfc_types.specs.declared.heads.Formal.{Formal}
 use Rattle.pfc_types.specs.declared.heads.SubSort.{SubSort}
 use Rattle.pfc_types.specs.declared.heads.SubSort.TheVariants.{Procedure, Guarded, Function}
 use Rattle.pfc_types.specs.rules.Kinds.{may_have, may_be_simple, value_rule, wrong_kind}
-use Rattle.pfc_types.specs.rules.Routines.{wants_for, called_with, anywhere, Callee, Routine, the_signal, a_function, a_procedure, a_reader, a_writer, routine_of, site_rule}
-use Rattle.pfc_types.specs.rules.Expressions.{Env, find, expr_place, as_literal, is_variable, expr_type, selected, first_type, field_type, no_actual, count_rule, broken_expr, broken_selectors, broken_actuals}
+use Rattle.pfc_types.specs.rules.Routines.{wants_for, called_with, anywhere, in_monitor_sub, Callee, Routine, the_signal, a_function, a_procedure, a_delay, a_reader, a_writer, routine_of, delay_wants, site_rule}
+use Rattle.pfc_types.specs.rules.Expressions.{Env, find, expr_place, as_literal, is_variable, expr_type, selected, first_type, field_type, no_actual, actual_count, count_rule, broken_expr, broken_selectors, broken_actuals}
 
 -- arguments of which nothing is asked but their own rules
 abbrev pub unasked : Env → ActualTrees → Faults
@@ -84,6 +84,7 @@ abbrev pub call_routine : Env → Routine → Place → ActualTrees → Faults
 call_routine env the_signal p args = wrong_kind p ⨾ unasked env args
 call_routine env (a_function wants g site) p args = wrong_kind p ⨾ unasked env args
 call_routine env (a_procedure wants site) p args = asked env (called_with wants site) p args
+call_routine env a_delay p args = asked env (called_with (delay_wants (actual_count args)) in_monitor_sub) p args
 call_routine env (a_reader some) p args = some_rule some args p ⨾ broken_reads env args
 call_routine env (a_writer some) p args = some_rule some args p ⨾ broken_writes env args
 
@@ -131,12 +132,11 @@ abbrev pub call_entry : Env → ℕ → Text × Place → ActualTrees → Faults
 call_entry env n x args =
     call_entry_named env n (meaning_in (scope_at env.state.blocks.scopes (process_at env.state.blocks n).scope) x.0) x.1 args
 
--- 410: `m.p` names an exported procedure; at the name behind `.`, where its arguments are counted too
+-- 410: `m.p` names an exported procedure; at the name behind `.`. The arguments of a sub are asked whether it is exported or not: they
+-- are counted (316) at the same place.
 abbrev pub call_exported : Env → Option Meaning → Place → ActualTrees → Faults
 call_exported env (Some (Sub n)) p args =
-    if (sub_at env.state.blocks n).exported
-    then asked_formals env (sub_at env.state.blocks n).formals p args
-    else (unless false p 410 ⨾ unasked env args)
+    unless (sub_at env.state.blocks n).exported p 410 ⨾ asked_formals env (sub_at env.state.blocks n).formals p args
 call_exported env (Some Faulty) p args = unasked env args
 call_exported env m p args = unless false p 410 ⨾ unasked env args
 
@@ -217,12 +217,16 @@ broken_call env (desig x (more_selectors s ss) p) args = call_part_of env (meani
 
 -- ## Requeues
 
--- 419: a guarded procedure of the same resource, which a name in view is; 310: anything but a procedure; at the name
 -- A variable or a value parameter of the activation that ends, whose scope is `ending`, is no variable for a reference (318).
-abbrev pub requeue_sub : Env → ℕ → SubSort → List Formal → Place → ActualTrees → Faults
-requeue_sub env ending Procedure formals p args = unless false p 419 ⨾ unasked env args
-requeue_sub env ending Guarded formals p args =
+abbrev pub requeue_asked : Env → ℕ → List Formal → Place → ActualTrees → Faults
+requeue_asked env ending formals p args =
     count_rule (called_with (wants_for formals) anywhere) args p ⨾ broken_actuals env (Some ending) true (wants_for formals) args
+
+-- 419: a guarded procedure of the same resource, which a name in view is; 310: anything but a procedure; at the name. The arguments of
+-- a procedure are asked whether it is guarded or not: they are counted (316) at the same place.
+abbrev pub requeue_sub : Env → ℕ → SubSort → List Formal → Place → ActualTrees → Faults
+requeue_sub env ending Procedure formals p args = unless false p 419 ⨾ requeue_asked env ending formals p args
+requeue_sub env ending Guarded formals p args = requeue_asked env ending formals p args
 requeue_sub env ending (Function t) formals p args = wrong_kind p ⨾ unasked env args
 
 abbrev pub requeue_rules : Env → ℕ → Option Meaning → Place → ActualTrees → Faults

@@ -97,11 +97,11 @@ abbrev pub owned_type : Owner → Forms → Option TypeId → Option TypeId
 owned_type owner forms None = None
 owned_type owner forms (Some t) = where_so (shared_fits owner forms t && condition_fits owner forms t) t
 
--- 424: at most 63 processes; at the first name with which there are more
+-- 424: at most 1,023 processes beside main; at the first name with which there are more
 abbrev pub passes_most : ℕ → ℕ → Bool
-passes_most before more = nat_le before 63 && nat_lt 63 (before + more)
+passes_most before more = nat_le before 1023 && nat_lt 1023 (before + more)
 
--- A name that brings in processes. The one that passes the limit is faulty; they are counted up to 64.
+-- A name that brings in processes. The one that passes the limit is faulty; they are counted up to 1,024.
 abbrev pub populated : State → ℕ → ℕ → Text × Place → Meaning → State
 populated s i more x m =
     if passes_most s.blocks.population more
@@ -180,12 +180,15 @@ abbrev pub formals_heading : ℕ → Bool → Option TypeId → Heading → List
 formals_heading i reference t h [] = h
 formals_heading i reference t h (x ∷ xs) = formals_heading i reference t (formal_heading i reference t h x) xs
 
--- var a, b: integer. The parameters of earlier groups are in view in the type of a later one.
-abbrev pub group_heading : ℕ → List Level → Heading → GroupTree → Heading
-group_heading i outer h g =
-    let view = here h.state.blocks.scopes i outer in
+-- var a, b: integer, declared in the scope i; the name of the type is looked up in this view
+abbrev pub group_viewed : ℕ → List Level → Heading → GroupTree → Heading
+group_viewed i view h g =
     let t = group_type h.state view g in
     formals_heading i g.reference t (record { state = note h.state (broken_group h.state view g); formals = h.formals; whole = h.whole && is_some t }) g.names
+
+-- The parameters of earlier groups are in view in the type of a later one.
+abbrev pub group_heading : ℕ → List Level → Heading → GroupTree → Heading
+group_heading i outer h g = group_viewed i (here h.state.blocks.scopes i outer) h g
 
 abbrev pub groups_heading : ℕ → List Level → Heading → List GroupTree → Heading
 groups_heading i outer h [] = h
@@ -282,10 +285,19 @@ abbrev pub accept_rule : Blocks → Option Meaning → List Formal → Place →
 accept_rule b (Some (Entry k)) formals p = unless (same_formals formals (entry_at b (length b.processes - 1) k)) p 415
 accept_rule b m formals p = none
 
--- The parameters of an accept form a scope of their own. The process around, whose entries are in view, is the last so far.
+-- The parameters of an accept form a scope of their own, which is in view in its statement alone: the types of its groups, like
+-- those of an entry's groups, are looked up without them.
+abbrev pub accept_groups : ℕ → List Level → Heading → List GroupTree → Heading
+accept_groups i view h [] = h
+accept_groups i view h (g ∷ gs) = accept_groups i view (group_viewed i view h g) gs
+
+abbrev pub accept_heading : State → ℕ → List Level → List GroupTree → Heading
+accept_heading s i view gs = accept_groups i view (record { state = s; formals = []; whole = true }) gs
+
+-- The process around, whose entries are in view, is the last so far.
 abbrev pub accepted : State → List Level → Text → List GroupTree → Place → State
 accepted s view x gs p =
-    let h = heading (open_scope s) (length s.blocks.scopes) view gs in
+    let h = accept_heading (open_scope s) (length s.blocks.scopes) view gs in
     note h.state (accept_rule h.state.blocks (look s.blocks.scopes view x) h.formals p)
 
 -- the labels of one `case` so far

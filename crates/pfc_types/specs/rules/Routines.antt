@@ -1,5 +1,5 @@
 -- What is called, and what it wants of its arguments.
-use Rattle.std.specs.Prelude.{ℕ, Bool, true, false, not, ◌&&◌, ◌||◌, if◌then◌else◌, nat_le, List, [], ◌∷◌, map, get_or, Option, Some, None}
+use Rattle.std.specs.Prelude.{ℕ, Bool, true, false, not, ◌&&◌, ◌||◌, if◌then◌else◌, nat_le, nat_lt, List, [], ◌∷◌, map, get_or, Option, Some, None}
 use Rattle.pfc_base.specs.declared.places.Place.{Place}
 use Rattle.pfc_types.specs.Faults.{Faults, none, ◌⨾◌, unless}
 use Rattle.pfc_types.specs.Types.{Forms, integer, boolean, char, semaphore, condition}
@@ -72,6 +72,8 @@ pub data Routine : Type 0 where
   the_signal : Routine
   a_function : List Want → Gives → Site → Routine
   a_procedure : List Want → Site → Routine
+  -- `delay`, which takes one argument or two
+  a_delay : Routine
   -- `read` and `readln`; whether at least one argument is wanted
   a_reader : Bool → Routine
   -- `write` and `writeln`; whether at least one argument is wanted
@@ -88,6 +90,14 @@ one_semaphore = a_variable_of (Some semaphore) ∷ []
 
 abbrev pub one_condition : List Want
 one_condition = a_variable_of (Some condition) ∷ []
+
+-- a condition with a rank
+abbrev pub ranked_condition : List Want
+ranked_condition = a_variable_of (Some condition) ∷ a_value (Some integer) ∷ []
+
+-- `delay` with n arguments: it takes one or two, so none is one too few, and three are one too many
+abbrev pub delay_wants : ℕ → List Want
+delay_wants n = if nat_lt 1 n then ranked_condition else one_condition
 
 -- by their numbers, from `any` on
 abbrev pub routines : List Routine
@@ -117,7 +127,7 @@ routines =
     ∷ a_procedure (a_variable_of (Some semaphore) ∷ a_value (Some integer) ∷ []) in_main
     ∷ a_procedure one_semaphore anywhere
     ∷ a_procedure one_semaphore anywhere
-    ∷ a_procedure one_condition in_monitor_sub
+    ∷ a_delay
     ∷ a_procedure one_condition in_monitor_sub
     ∷ a_procedure one_integer anywhere
     ∷ []
@@ -167,6 +177,7 @@ abbrev pub called_routine : Routine → Callee
 called_routine the_signal = nothing_called
 called_routine (a_function wants g site) = called_with wants site
 called_routine (a_procedure wants site) = nothing_called
+called_routine a_delay = nothing_called
 called_routine (a_reader some) = nothing_called
 called_routine (a_writer some) = nothing_called
 
@@ -189,6 +200,7 @@ abbrev pub routine_value : Routine → Option TypeId → Option TypeId
 routine_value the_signal first = None
 routine_value (a_function wants g site) first = given g first
 routine_value (a_procedure wants site) first = None
+routine_value a_delay first = None
 routine_value (a_reader some) first = None
 routine_value (a_writer some) first = None
 

@@ -7,5 +7,5 @@ invariant-loop-i l =
     record {
       value : l.sum ≡ fields_held (all_held l.self) (take l.i l.fields);
       cells : l.sum.cells ≤ 65536 * l.i;
-      processes : l.sum.processes ≤ 64;
+      processes : l.sum.processes ≤ 1024;
     }

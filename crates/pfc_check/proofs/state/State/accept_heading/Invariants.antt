@@ -1,0 +1,11 @@
+use Rattle.std.proofs.Common.{◌≡◌, drop, map}
+use Rattle.pfc_tree.specs.views.Types.{group_view}
+use Rattle.pfc_types.specs.Views.{levels}
+use Rattle.pfc_types.specs.rules.Declarations.{accept_groups}
+use Rattle.pfc_check.specs.States.{heading_of}
+use Rattle.pfc_check.proofs.state.State.accept_heading.Given as goal
+
+-- what is still to come completes it
+abbrev pub invariant-loop-g : goal.invariant-loop-g
+invariant-loop-g l =
+    accept_groups l.i (levels l.view) (heading_of l.self l.heading) (map group_view (drop l.g-index l.groups)) ≡ accept_groups l.i (levels l.view) (heading_of l.initial.self l.initial.heading) (map group_view l.groups)

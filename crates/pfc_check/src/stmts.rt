@@ -2,11 +2,11 @@
 ghost use Rattle.std.specs.Prelude.{◌≡◌, [], ◌∷◌, ◌++◌, map, false, OnOk};
 ghost use Rattle.std.specs.List.{list_any};
 ghost use Rattle.pfc_tree.specs.views.Types.{group_view};
-ghost use Rattle.pfc_tree.specs.views.Stmts.{stmt_view, stmts_view, body_view, arms_view, arm_view, accept_view, alts_view, alt_view, comm_view};
+ghost use Rattle.pfc_tree.specs.views.Stmts.{stmt_view, stmts_view, body_view, arms_view, arm_view, accept_view, alts_view, alt_view};
 ghost use Rattle.pfc_types.specs.Views.{levels};
 ghost use Rattle.pfc_types.specs.Blocks.{note};
 ghost use Rattle.pfc_types.specs.rules.Constants.{same_ordinal, constant_value, constant_place};
-ghost use Rattle.pfc_types.specs.rules.Declarations.{same_formal, same_formals, accept_rule, accepted, label_noted, labels_noted, stmt_state, stmts_state, body_state, arms_state, arm_state, accept_state, alts_state, alt_state, comm_state};
+ghost use Rattle.pfc_types.specs.rules.Declarations.{same_formal, same_formals, accept_rule, accepted, label_noted, labels_noted, stmt_state, stmts_state, body_state, arms_state, arm_state, accept_state, alts_state, alt_state};
 ghost use Rattle.pfc_phrases.specs.Found.{refused};
 ghost use Rattle.pfc_phrases.specs.Views.{ordinal_view};
 ghost use Rattle.pfc_check.specs.States.{state_of, seen_in, labels_of};
@@ -123,7 +123,7 @@ impl State {
             | Stmt::Send(..)
             | Stmt::Receive(..)
             | Stmt::Call(..) => Ok(()),
-            Stmt::Block(body, _) => self.body(body, view),
+            Stmt::Block(body, _) => self.stmts(&body.stmts, view),
             Stmt::If(_, then, other, _) => {
                 self.stmt(then, view)?;
                 match other {
@@ -158,7 +158,6 @@ impl State {
     }
 
     /// The accepts and the labels in a body.
-    #[cycle(stmts)]
     pub(crate) fn body(&mut self, body: &Body, view: &View) -> Result<(), Memory>
         ensures { OnOk result (state_of self.new ≡ body_state (state_of self.old) (levels view.now) (body_view body.now)) }
     {
@@ -216,18 +215,11 @@ impl State {
     fn alt(&mut self, a: &Alt, view: &View) -> Result<(), Memory>
         ensures { OnOk result (state_of self.new ≡ alt_state (state_of self.old) (levels view.now) (alt_view a.now)) }
     {
-        self.comm(&a.comm, view)?;
-        self.stmts(&a.rest, view)
-    }
-
-    #[cycle(stmts)]
-    fn comm(&mut self, c: &Comm, view: &View) -> Result<(), Memory>
-        ensures { OnOk result (state_of self.new ≡ comm_state (state_of self.old) (levels view.now) (comm_view c.now)) }
-    {
-        match c {
-            Comm::Accept(accept, _) => self.accept(accept, view),
-            Comm::Send(..) | Comm::Receive(..) | Comm::Timeout(..) | Comm::Terminate(_) => Ok(()),
+        match &a.comm {
+            Comm::Accept(accept, _) => self.accept(accept, view)?,
+            Comm::Send(..) | Comm::Receive(..) | Comm::Timeout(..) | Comm::Terminate(_) => {}
         }
+        self.stmts(&a.rest, view)
     }
 }
 

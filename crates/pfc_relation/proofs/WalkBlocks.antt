@@ -234,7 +234,7 @@ mutual
   alts_hold s view (more_alts a alts) h = alts_hold (alt_state s view a) view alts (alt_holds s view a h)
 
   alt_holds : (s : State) (view : List Level) (a : AltTree) → Holds s → Holds (alt_state s view a)
-  alt_holds s view (alt guard c ts) h = stmts_hold (comm_state s view c) view ts (comm_holds s view c h)
+  alt_holds s view (alt spread guard c ts) h = stmts_hold (comm_state s view c) view ts (comm_holds s view c h)
 
   comm_holds : (s : State) (view : List Level) (c : CommTree) → Holds s → Holds (comm_state s view c)
   comm_holds s view (comm_accept a p) h = accept_holds s view a h

@@ -62,6 +62,7 @@ refusal_table =
     ∷ (422, codes "not a process")
     ∷ (423, codes "guarded procedure called")
     ∷ (424, codes "too many processes")
+    ∷ (425, codes "too many alternatives")
     ∷ (501, codes "program too large")
     ∷ []
 

@@ -91,6 +91,7 @@ pub fn refusal_text(code: u16) -> Option<&'static str>
         422 => "not a process",
         423 => "guarded procedure called",
         424 => "too many processes",
+        425 => "too many alternatives",
         501 => "program too large",
         _ => return None,
     };

@@ -40,7 +40,7 @@ pub fn first_broken<'a>(
     best.first
 }
 
-/// The first broken rule among those of concurrency, which are 401 to 424, None exactly where none of them is broken. It takes
+/// The first broken rule among those of concurrency, which are 401 to 425, None exactly where none of them is broken. It takes
 /// no memory.
 pub fn concurrency_fault(tree: &Tree, types: &TypeTable, scopes: &Scopes) -> Option<Refusal>
     requires types { types.now ≡ types_of (tree_view tree.now) }

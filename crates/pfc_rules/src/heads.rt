@@ -2,19 +2,18 @@
 ghost use Rattle.std.specs.Prelude.{◌≡◌};
 ghost use Rattle.pfc_tree.specs.views.Exprs.{expr_view, actuals_view};
 ghost use Rattle.pfc_types.specs.Faults.{◌⨾◌};
-ghost use Rattle.pfc_types.specs.Views.{levels};
-ghost use Rattle.pfc_types.specs.rules.Constants.{constant_type, constant_value};
+ghost use Rattle.pfc_types.specs.rules.Constants.{constant_type};
 ghost use Rattle.pfc_types.specs.rules.Kinds.{condition_rule};
 ghost use Rattle.pfc_types.specs.rules.Expressions.{expr_place, expr_type, broken_expr};
 ghost use Rattle.pfc_types.specs.rules.Statements as rules;
-ghost use Rattle.pfc_phrases.specs.Found.{noted};
+ghost use Rattle.pfc_phrases.specs.Found.{noted, refused};
 ghost use Rattle.pfc_phrases.specs.Views.{env_view};
 
-use pfc_base::{Name, Place};
+use pfc_base::{Name, Place, Refusal};
 use pfc_phrases::{
     Best, Env, NameKind, condition_fault, constant, constant_place, constant_value, expr,
-    expr_place, find_in, is_simple, may_agree, may_be_simple, may_have, meaning_of, name_fault,
-    requeue, variable_type,
+    expr_place, fault_unless, find_in, is_simple, may_agree, may_be_simple, may_have, meaning_of,
+    name_fault, requeue, variable_type,
 };
 use pfc_tree::{Actual, Constant, Expr};
 use pfc_types::TypeId;
@@ -41,14 +40,14 @@ fn label(c: &Constant, t: Option<TypeId>, env: Env, best: &mut Best)
 {
     constant(c, env.scopes, env.view, best);
     if let Some(t) = t {
-        let own = label_type(c, env);
+        let own = constant_type(c, env);
         best.unless(is_simple(t) && may_have(t, own), constant_place(c), 319);
     }
 }
 
-/// The type of a label, None where it is faulty.
-fn label_type(c: &Constant, env: Env) -> Option<TypeId>
-    ensures { result ≡ constant_type (constant_value env.entry.scopes.now.scopes (levels env.entry.view.now) c.now) }
+/// The type of a constant, None where it is faulty.
+pub(crate) fn constant_type(c: &Constant, env: Env) -> Option<TypeId>
+    ensures { result ≡ constant_type (rules.written_constant (env_view env.entry) c.now) }
 {
     match constant_value(c, env.scopes, env.view) {
         Some(value) => Some(value.t),
@@ -73,12 +72,24 @@ pub(crate) fn for_head(x: &Name, from: &Expr, to: &Expr, place: Place, env: Env,
     best.add(name_fault(NameKind::Variable, m, place));
     let first = expr(from, env, best);
     let last = expr(to, env, best);
-    let t = variable_type(m);
-    best.unless(
+    best.add(for_fault(variable_type(m), first, last, place));
+}
+
+/// 321: a variable of type t runs from one value to another, whose types are given; at the variable. It is simple, and the values
+/// have its type.
+pub(crate) fn for_fault(
+    t: Option<TypeId>,
+    first: Option<TypeId>,
+    last: Option<TypeId>,
+    place: Place,
+) -> Option<Refusal>
+    ensures { refused result ≡ rules.for_rule t first last place }
+{
+    fault_unless(
         may_be_simple(t) && may_agree(t, first) && may_agree(t, last),
         place,
         321,
-    );
+    )
 }
 
 /// 414: `accept` stands only in the body of a process, outside its subs; at `accept`. 301 and 310: it names an entry in

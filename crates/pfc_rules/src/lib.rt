@@ -12,6 +12,7 @@ mod first;
 mod heads;
 mod passing;
 mod selects;
+mod spreads;
 mod statements;
 
 pub use first::{concurrency_fault, first_broken};

@@ -4,9 +4,11 @@ ghost use Rattle.pfc_tree.specs.views.Stmts.{comm_view, alts_view};
 ghost use Rattle.pfc_types.specs.Faults.{◌⨾◌};
 ghost use Rattle.pfc_types.specs.rules.Statements as rules;
 ghost use Rattle.pfc_phrases.specs.Found.{noted};
+ghost use Rattle.pfc_phrases.specs.Views.{env_view};
 
+use crate::spreads::number_fault;
 use pfc_base::Place;
-use pfc_phrases::Best;
+use pfc_phrases::{Best, Env};
 use pfc_tree::{Alt, Comm};
 
 /// Whether an alternative waits for another process.
@@ -55,12 +57,13 @@ fn ways(alts: &[Alt], best: &mut Best) -> bool
     had
 }
 
-/// 416: one alternative at least waits for another process; at `select`. 417 likewise, of all alternatives. Gives whether a
-/// `timeout` or `terminate` stands.
-pub(crate) fn select_head(alts: &[Alt], place: Place, best: &mut Best) -> bool
+/// 416: one alternative at least waits for another process; at `select`. 425 and 417 likewise, of all alternatives. Gives
+/// whether a `timeout` or `terminate` stands.
+pub(crate) fn select_head(alts: &[Alt], place: Place, env: Env, best: &mut Best) -> bool
     ensures way { result ≡ rules.has_way (alts_view alts.now) }
-    ensures best { best.new ≡ noted best.old (rules.select_rule (alts_view alts.now) place ⨾ rules.ways_rule false (alts_view alts.now)) }
+    ensures best { best.new ≡ noted best.old (rules.select_rule (alts_view alts.now) place ⨾ rules.number_rule (env_view env.entry) (alts_view alts.now) place ⨾ rules.ways_rule false (alts_view alts.now)) }
 {
     best.unless(any_communicates(alts), place, 416);
+    best.add(number_fault(alts, place, env));
     ways(alts, best)
 }

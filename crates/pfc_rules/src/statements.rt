@@ -12,6 +12,7 @@ use crate::assignments::assign;
 use crate::communication::{receive, send};
 use crate::heads::{accept_head, condition, for_head, labels, requeued, seconds};
 use crate::selects::select_head;
+use crate::spreads::spread_head;
 use pfc_base::Place;
 use pfc_phrases::{Best, Env, call, expr};
 use pfc_tree::{Accept, Alt, Body, CaseArm, Comm, Stmt};
@@ -87,7 +88,7 @@ fn stmt(s: &Stmt, next: u32, env: Env, best: &mut Best) -> u32
             next
         }
         Stmt::Select(_, all, other, _, place) => {
-            let way = select_head(all, *place, best);
+            let way = select_head(all, *place, env, best);
             let next = alts(all, next, env, best);
             match other {
                 Some((ss, place)) => {
@@ -194,6 +195,7 @@ fn alt(a: &Alt, next: u32, env: Env, best: &mut Best) -> u32
     ensures next { result ≡ next + rules.alt_scopes (alt_view a.now) }
     ensures best { best.new ≡ noted best.old (rules.broken_alt (env_view env.entry) next (alt_view a.now)) }
 {
+    spread_head(&a.spread, env, best);
     if let Some(e) = &a.guard {
         condition(e, env, best);
     }

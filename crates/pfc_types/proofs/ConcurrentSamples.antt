@@ -1,10 +1,9 @@
 -- Small programs that break one rule of concurrency, or nearly one.
-use Rattle.std.specs.Prelude.{◌≡◌, ℕ, pos, Bool, true, false, List, [], ◌∷◌, None, codes, refl}
+use Rattle.std.specs.Prelude.{◌≡◌, ℕ, Bool, true, false, List, [], ◌∷◌, None, codes, refl}
 use Rattle.pfc_base.specs.declared.places.Place.{Place}
 use Rattle.pfc_tree.specs.Symbols.{Text}
-use Rattle.pfc_tree.specs.declared.tree.Constant.TheVariants.{Number}
 use Rattle.pfc_tree.specs.trees.Exprs.{desig, field, no_selectors, more_selectors, actual, no_actuals, more_actuals}
-use Rattle.pfc_tree.specs.trees.Types.{TypeTree, named, channel, array}
+use Rattle.pfc_tree.specs.trees.Types.{TypeTree, named, channel}
 use Rattle.pfc_tree.specs.trees.Stmts.{StmtTree, AltTree, AltTrees, CommTree, cobegin, accepting, accept, requeue, select, select_else, call, empty, no_stmts, alt, no_alts, more_alts, comm_receive, timeout, terminate}
 use Rattle.pfc_tree.specs.trees.Parts.{PartTree, PartTrees, ProgramTree, sub_part, monitor, resource, process_part, procedure, guarded, no_parts, more_parts, sub, the_module, process}
 use Rattle.pfc_types.specs.rules.Whole.{first_fault}
@@ -143,8 +142,8 @@ accept_in_process = refl
 
 -- ## 416, 417 and 421
 
-abbrev plain_alt : CommTree → AltTree
-plain_alt c = alt None c no_stmts
+abbrev pub plain_alt : CommTree → AltTree
+plain_alt c = alt None None c no_stmts
 
 -- c ? x or comm
 abbrev pub receive_or : CommTree → AltTrees → AltTrees

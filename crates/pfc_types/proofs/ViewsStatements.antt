@@ -92,7 +92,7 @@ mutual
       (counted_as (alts_counted (alt_state s view a) view alts fin (within_grown (held s) (held (alt_state s view a)) view (opened_grown one) w) (rest_finished one two f)) (ap (λ n. alts_views fin view n alts) one.count))
 
   alt_counted : (s : State) (view : List Level) (a : AltTree) (fin : List Names) → AllWithin (held s) view → Finished (length (held s)) (held (alt_state s view a)) fin → AreCounted fin (alt_visits s view a) (alt_views fin view (length (held s)) a)
-  alt_counted s view (alt guard c ts) fin w f =
+  alt_counted s view (alt spread guard c ts) fin w f =
       let one = comm_opened s view c in
       let two = stmts_opened (comm_state s view c) view ts in
       counted_both (comm_counted s view c fin w (finished_opened two f))

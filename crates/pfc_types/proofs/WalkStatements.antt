@@ -96,7 +96,7 @@ mutual
   alts_opened s view (more_alts a alts) = opened_trans (alt_opened s view a) (alts_opened (alt_state s view a) view alts)
 
   pub alt_opened : (s : State) (view : List Level) (a : AltTree) → Opened s (alt_state s view a) (alt_scopes a)
-  alt_opened s view (alt guard c ts) = opened_trans (comm_opened s view c) (stmts_opened (comm_state s view c) view ts)
+  alt_opened s view (alt spread guard c ts) = opened_trans (comm_opened s view c) (stmts_opened (comm_state s view c) view ts)
 
   pub comm_opened : (s : State) (view : List Level) (c : CommTree) → Opened s (comm_state s view c) (comm_scopes c)
   comm_opened s view (comm_accept a p) = accept_opened s view a

@@ -61,7 +61,7 @@ abbrev mutual
   alts_views scopes view next (more_alts a alts) = alt_views scopes view next a ++ alts_views scopes view (next + alt_scopes a) alts
 
   pub alt_views : List Names → List Level → ℕ → AltTree → List (List Level)
-  alt_views scopes view next (alt guard c ts) = comm_views scopes view next c ++ stmts_views scopes view (next + comm_scopes c) ts
+  alt_views scopes view next (alt spread guard c ts) = comm_views scopes view next c ++ stmts_views scopes view (next + comm_scopes c) ts
 
   pub comm_views : List Names → List Level → ℕ → CommTree → List (List Level)
   comm_views scopes view next (comm_accept a p) = accept_views scopes view next a

@@ -71,7 +71,7 @@ abbrev mutual
   alts_visits s view (more_alts a alts) = alt_visits s view a ++ alts_visits (alt_state s view a) view alts
 
   pub alt_visits : State → List Level → AltTree → List Visit
-  alt_visits s view (alt guard c ts) = comm_visits s view c ++ stmts_visits (comm_state s view c) view ts
+  alt_visits s view (alt spread guard c ts) = comm_visits s view c ++ stmts_visits (comm_state s view c) view ts
 
   pub comm_visits : State → List Level → CommTree → List Visit
   comm_visits s view (comm_accept a p) = accept_visits s view a

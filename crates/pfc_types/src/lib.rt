@@ -18,6 +18,6 @@ pub use checked::Checked;
 pub use heads::{Formal, Formals, ModuleHead, ProcessHead, SubHead, SubSort};
 pub use scope::{Meaning, Scope, ScopeFault};
 pub use scopes::Scopes;
-pub use table::{Held, TypeFault, TypeTable, cells_of};
+pub use table::{Held, TypeFault, TypeTable, cells_of, value_count};
 pub use types::{Fields, TypeForm, TypeId};
 pub use view::{Around, Found, View, find};

@@ -196,7 +196,7 @@ impl TypeTable {
                 low,
                 high,
                 element,
-            } => times(extent_of(*low, *high), self.held(*element)),
+            } => times(value_count(*low, *high), self.held(*element)),
             TypeForm::Record(fields) => self.held_by_fields(fields),
             TypeForm::Process(_) => ONE_PROCESS,
         }
@@ -238,7 +238,7 @@ fn has_good_bounds(form: &TypeForm) -> bool
 }
 
 /// How many values lie between two bounds, both counted.
-fn extent_of(low: i32, high: i32) -> u64
+pub fn value_count(low: i32, high: i32) -> u64
     requires { low ≤ℤ high }
     ensures value { result ≡ extent low high }
     ensures bound { result ≤ 2 ^ 32 }

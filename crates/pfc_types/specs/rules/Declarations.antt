@@ -366,7 +366,7 @@ abbrev mutual
   alts_state s view (more_alts a alts) = alts_state (alt_state s view a) view alts
 
   pub alt_state : State → List Level → AltTree → State
-  alt_state s view (alt guard c ts) = stmts_state (comm_state s view c) view ts
+  alt_state s view (alt spread guard c ts) = stmts_state (comm_state s view c) view ts
 
   pub comm_state : State → List Level → CommTree → State
   comm_state s view (comm_accept a p) = accept_state s view a

@@ -1,12 +1,13 @@
 -- Statements: the rules that are broken in them.
-use Rattle.std.specs.Prelude.{ℕ, ◌+◌, ◌==◌, Bool, true, false, not, ◌&&◌, ◌||◌, if◌then◌else◌, List, [], ◌∷◌, Option, Some, None, is_some}
+use Rattle.std.specs.Prelude.{ℕ, ◌+◌, ◌==◌, Bool, true, false, not, ◌&&◌, ◌||◌, if◌then◌else◌, nat_le, List, [], ◌∷◌, Option, Some, None, is_some}
 use Rattle.pfc_base.specs.declared.places.Place.{Place}
 use Rattle.pfc_tree.specs.Symbols.{Text}
 use Rattle.pfc_tree.specs.declared.tree.Constant.{Constant}
+use Rattle.pfc_tree.specs.declared.tree.Spread.{Spread}
 use Rattle.pfc_tree.specs.trees.Exprs.{ExprTree, DesigTree, ActualTrees, desig, no_selectors, more_selectors}
 use Rattle.pfc_tree.specs.trees.Stmts.{StmtTree, StmtTrees, BodyTree, ArmTree, ArmTrees, AcceptTree, AltTree, AltTrees, CommTree, empty, null, block, if_then, if_then_else, case_of, while_do, repeat_until, repeat_forever, for_do, cobegin, accepting, requeue, select, select_else, assign, send, receive, call, no_stmts, more_stmts, body, arm, no_arms, more_arms, accept, accept_do, alt, no_alts, more_alts, comm_accept, comm_send, comm_receive, timeout, terminate}
 use Rattle.pfc_types.specs.Faults.{Faults, none, ◌⨾◌, unless}
-use Rattle.pfc_types.specs.Types.{Forms, integer, synchronous, is_simple, form_of, carried_form}
+use Rattle.pfc_types.specs.Types.{Forms, integer, synchronous, is_simple, form_of, carried_form, extent}
 use Rattle.pfc_types.specs.Scopes.{Level, here, meaning_of}
 use Rattle.pfc_types.specs.Blocks.{sub_at}
 use Rattle.pfc_types.specs.declared.types.TypeId.{TypeId}
@@ -17,7 +18,7 @@ use Rattle.pfc_types.specs.declared.heads.SubHead.{SubHead}
 use Rattle.pfc_types.specs.declared.heads.SubSort.{SubSort}
 use Rattle.pfc_types.specs.declared.heads.SubSort.TheVariants.{Procedure, Guarded, Function}
 use Rattle.pfc_types.specs.rules.Kinds.{has, may_have, may_agree, may_be_simple, value_rule, condition_rule, name_rules, wrong_kind, a_variable, an_entry, variable_type}
-use Rattle.pfc_types.specs.rules.Constants.{constant_value, constant_type, constant_place, broken_constant}
+use Rattle.pfc_types.specs.rules.Constants.{Ordinal, are_bounds, constant_value, constant_type, constant_place, broken_constant}
 use Rattle.pfc_types.specs.rules.Routines.{is_any}
 use Rattle.pfc_types.specs.rules.Expressions.{Env, find, expr_place, desig_place, as_desig, expr_type, desig_type, broken_expr, broken_desig}
 use Rattle.pfc_types.specs.rules.Calls.{broken_call, requeue_rules}
@@ -136,6 +137,10 @@ broken_receive env d v p = broken_channel env d ⨾ broken_receiver env (carried
 
 -- ## Case and for
 
+-- a constant as it is written, None where it is faulty
+abbrev pub written_constant : Env → Constant → Option Ordinal
+written_constant env c = constant_value env.state.blocks.scopes env.view c
+
 -- 319: a label has the type of its `case`, which is simple; at the label
 abbrev pub may_label : TypeId → Option TypeId → Bool
 may_label t u = is_simple t && may_have t u
@@ -147,7 +152,7 @@ label_rule (Some t) u p = unless (may_label t u) p 319
 abbrev pub broken_label : Env → Option TypeId → Constant → Faults
 broken_label env t c =
     broken_constant env.state.blocks.scopes env.view c
-    ⨾ label_rule t (constant_type (constant_value env.state.blocks.scopes env.view c)) (constant_place c)
+    ⨾ label_rule t (constant_type (written_constant env c)) (constant_place c)
 
 abbrev pub broken_labels : Env → Option TypeId → List Constant → Faults
 broken_labels env t [] = none
@@ -164,6 +169,38 @@ broken_for env x a b p =
     ⨾ broken_expr env a
     ⨾ broken_expr env b
     ⨾ for_rule (variable_type m) (expr_type env a) (expr_type env b) p
+
+-- ## Spreads
+
+-- for x := 1 to 3 replicate; 321: a simple variable named alone, and constants of its type; at the variable. The low constant may be
+-- above the high one.
+abbrev pub broken_spread : Env → Option Spread → Faults
+broken_spread env None = none
+broken_spread env (Some s) =
+    let m = meaning_of (find env s.name) in
+    name_rules a_variable m s.place
+    ⨾ broken_constant env.state.blocks.scopes env.view s.low
+    ⨾ broken_constant env.state.blocks.scopes env.view s.high
+    ⨾ for_rule (variable_type m) (constant_type (written_constant env s.low)) (constant_type (written_constant env s.high)) s.place
+
+-- How many values lie from a low constant to a high one of its type: none where the low one is above the high one. Where a constant
+-- is faulty or the types differ the values are not known, and none is counted.
+abbrev pub values_between : Option Ordinal → Option Ordinal → ℕ
+values_between (Some a) (Some b) = if are_bounds a b then extent a.value b.value else 0
+values_between a b = 0
+
+-- how many alternatives one stands for: as many as its spread has values
+abbrev pub spread_count : Env → Option Spread → ℕ
+spread_count env None = 1
+spread_count env (Some s) = values_between (written_constant env s.low) (written_constant env s.high)
+
+abbrev pub alts_count : Env → AltTrees → ℕ
+alts_count env no_alts = 0
+alts_count env (more_alts (alt spread guard c ts) alts) = spread_count env spread + alts_count env alts
+
+-- 425: the alternatives of one `select`, one with a spread counted once for each value, are at most 1,024; at `select`
+abbrev pub number_rule : Env → AltTrees → Place → Faults
+number_rule env alts p = unless (nat_le (alts_count env alts) 1024) p 425
 
 -- ## Concurrent statements
 
@@ -210,7 +247,7 @@ communicates (terminate p) = false
 
 abbrev pub any_communicates : AltTrees → Bool
 any_communicates no_alts = false
-any_communicates (more_alts (alt guard c ts) alts) = communicates c || any_communicates alts
+any_communicates (more_alts (alt spread guard c ts) alts) = communicates c || any_communicates alts
 
 abbrev pub select_rule : AltTrees → Place → Faults
 select_rule alts p = unless (any_communicates alts) p 416
@@ -225,11 +262,11 @@ way_rule had (terminate p) = unless (not had) p 417
 
 abbrev pub ways_rule : Bool → AltTrees → Faults
 ways_rule had no_alts = none
-ways_rule had (more_alts (alt guard c ts) alts) = way_rule had c ⨾ ways_rule (had || not (communicates c)) alts
+ways_rule had (more_alts (alt spread guard c ts) alts) = way_rule had c ⨾ ways_rule (had || not (communicates c)) alts
 
 abbrev pub has_way : AltTrees → Bool
 has_way no_alts = false
-has_way (more_alts (alt guard c ts) alts) = not (communicates c) || has_way alts
+has_way (more_alts (alt spread guard c ts) alts) = not (communicates c) || has_way alts
 
 abbrev pub else_rule : AltTrees → Place → Faults
 else_rule alts p = unless (not (has_way alts)) p 417
@@ -286,7 +323,7 @@ abbrev mutual
   alts_scopes (more_alts a alts) = alt_scopes a + alts_scopes alts
 
   pub alt_scopes : AltTree → ℕ
-  alt_scopes (alt guard c ts) = comm_scopes c + stmts_scopes ts
+  alt_scopes (alt spread guard c ts) = comm_scopes c + stmts_scopes ts
 
   pub comm_scopes : CommTree → ℕ
   comm_scopes (comm_accept a p) = accept_scopes a
@@ -320,9 +357,11 @@ abbrev mutual
   broken_stmt env next (cobegin ts last p) = cobegin_rule env.around p ⨾ broken_stmts (within_cobegin env) next ts
   broken_stmt env next (accepting a p) = broken_accept env next a p
   broken_stmt env next (requeue x args p) = broken_requeue env x args p
-  broken_stmt env next (select pri alts p q) = select_rule alts q ⨾ ways_rule false alts ⨾ broken_alts env next alts
+  broken_stmt env next (select pri alts p q) =
+      select_rule alts q ⨾ number_rule env alts q ⨾ ways_rule false alts ⨾ broken_alts env next alts
   broken_stmt env next (select_else pri alts ts at p q) =
       select_rule alts q
+      ⨾ number_rule env alts q
       ⨾ ways_rule false alts
       ⨾ broken_alts env next alts
       ⨾ else_rule alts at
@@ -356,8 +395,8 @@ abbrev mutual
   broken_alts env next (more_alts a alts) = broken_alt env next a ⨾ broken_alts env (next + alt_scopes a) alts
 
   pub broken_alt : Env → ℕ → AltTree → Faults
-  broken_alt env next (alt guard c ts) =
-      broken_guard env guard ⨾ broken_comm env next c ⨾ broken_stmts env (next + comm_scopes c) ts
+  broken_alt env next (alt spread guard c ts) =
+      broken_spread env spread ⨾ broken_guard env guard ⨾ broken_comm env next c ⨾ broken_stmts env (next + comm_scopes c) ts
 
   pub broken_comm : Env → ℕ → CommTree → Faults
   broken_comm env next (comm_accept a p) = broken_accept env next a p

@@ -61,6 +61,6 @@ broken t = listed (faults_of t)
 abbrev pub first_fault : ProgramTree → Option Refusal
 first_fault t = least_from 0 None (faults_of t)
 
--- the first among the rules of concurrency, which are 401 to 424
+-- the first among the rules of concurrency, which are 401 to 425
 abbrev pub first_concurrency_fault : ProgramTree → Option Refusal
 first_concurrency_fault t = least_from 401 None (faults_of t)

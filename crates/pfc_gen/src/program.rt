@@ -1,5 +1,5 @@
 //! The code of a program.
-ghost use Rattle.std.specs.Prelude.{◌≡◌, [], ◌<◌, ◌≤◌, length, IfOk, IfErr};
+ghost use Rattle.std.specs.Prelude.{◌≡◌, [], ◌<◌, ◌≤◌, false, length, IfOk, IfErr};
 ghost use Rattle.pfc_code.specs.Images.{plain_image};
 ghost use Rattle.pfc_tree.specs.views.Parts.{tree_view};
 ghost use Rattle.pfc_tree.specs.views.Stmts.{body_view};
@@ -8,6 +8,7 @@ ghost use Rattle.pfc_types.specs.Views.{levels};
 ghost use Rattle.pfc_types.specs.rules.Declarations.{scope_cells};
 ghost use Rattle.pfc_phrases.specs.Views.{env_view};
 ghost use Rattle.pfc_meaning.specs.Configurations as meaning;
+ghost use Rattle.pfc_meaning.specs.Unbuilt.{unbuilt};
 ghost use Rattle.pfc_gen.specs.Images as images;
 ghost use Rattle.pfc_gen.specs.Layouts.{firsts_from};
 ghost use Rattle.pfc_gen.specs.Making as making;
@@ -41,6 +42,7 @@ const MAIN: Around = Around {
 /// The image of a checked tree: the code of its main body. It is refused with `TooLarge` only where that has more than
 /// 200,000 instructions, and with `Memory` for want of memory, or for a number of more than 32 bits.
 pub fn generate(alloc: Global, tree: &Checked) -> Result<Image, GenFault>
+    requires built { unbuilt (tree_view tree.now.0) ≡ false }
     ensures image { IfOk result (λ image. plain_image image ≡ images.image_of (tree_view tree.now.0)) }
     ensures fits { IfOk result (λ image. length image.code.items ≤ 200000) }
     ensures lines { IfOk result (λ image. length image.lines.items ≡ length image.code.items) }

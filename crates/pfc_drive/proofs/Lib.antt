@@ -1,5 +1,6 @@
 pub mod Arrivals
 pub mod Beginnings
+pub mod Gathering
 pub mod Lines
 pub mod Memory
 pub mod Onward

@@ -1,5 +1,5 @@
 -- The cells of main's block, by the words of their addresses.
-use Rattle.std.proofs.Common.{◌≡◌, ℕ, zero, suc, ◌+◌, ◌*◌, ◌^◌, ◌/◌, ◌%◌, ◌≤◌, ◌<◌, ℤ, pos, true, List, [], ◌∷◌, ◌++◌, length, take, drop, refl, sym, ap, ap₂, ◌∙◌, subst, arith, append_assoc, length-append}
+use Rattle.std.proofs.Common.{◌≡◌, ℕ, ◌+◌, ◌^◌, ◌/◌, ◌%◌, ◌≤◌, ◌<◌, ℤ, pos, List, [], ◌∷◌, ◌++◌, length, take, drop, sym, ap, ap₂, ◌∙◌, subst, arith, append_assoc, length-append}
 use Rattle.std.proofs.Math.Seq.{drop-append-add, take-append-add}
 use Rattle.pfc_types.specs.Types.{cells_in}
 use Rattle.pfc_types.specs.rules.Declarations.{scope_cells}
@@ -9,11 +9,10 @@ use Rattle.pfc_meaning.specs.Store.{Location, value_at, stored, variables}
 use Rattle.pfc_machine.specs.declared.refs.Ref.{Ref}
 use Rattle.pfc_machine.specs.Refs.{ref_of}
 use Rattle.pfc_machine.specs.Fits.{AreLive}
-use Rattle.pfc_machine.specs.Stacks.{Stack, Stacks, own_cells, cells_at, with_words, written}
+use Rattle.pfc_machine.specs.Stacks.{Stack, own_cells, cells_at, with_words, written}
 use Rattle.pfc_relation.specs.Cells.{IsOf, AreCells, words_of}
 use Rattle.pfc_relation.specs.Standing.{Program, IsChecked, IsWord, forms_of, names_of}
 use Rattle.pfc_relation.proofs.Cells.{cells_length, read_is, read_words, lies_within, write_cells}
-use Rattle.pfc_relation.proofs.Words.{words_length}
 
 -- an address below 2^32 is one of process 0
 pub small_ref : (n : ℕ) → n < 2 ^ 32 → ref_of (pos n) ≡ record { process = 0; cell = n }

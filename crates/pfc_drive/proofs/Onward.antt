@@ -1,6 +1,5 @@
 -- From one instruction to the next, up to the next action.
-use Rattle.std.proofs.Common.{◌≡◌, ℕ, ◌+◌, ◌-◌, ◌≤◌, ◌<◌, ℤ, true, false, List, [], ◌∷◌, length, map, get_or, Option, Some, None, refl, sym, ap, ◌∙◌, subst, arith, ◌⊎◌, inl, inr, slice_get, option_map}
-use Rattle.std.proofs.lemmas.List.{length-map}
+use Rattle.std.proofs.Common.{◌≡◌, ℕ, ◌≤◌, ◌<◌, ℤ, false, List, [], ◌∷◌, length, get_or, Option, Some, refl, sym, ap, ◌∙◌, subst, ◌⊎◌, inl, inr, slice_get, option_map}
 use Rattle.std.proofs.lemmas.Option.{slice_get-map, slice_get_within, get_or_from_slice_get}
 use Rattle.rand_pcg.specs.Lcg.{Lcg}
 use Rattle.pfc_state.specs.declared.states.Running.{Running}
@@ -10,14 +9,13 @@ use Rattle.pfc_values.specs.Inputs.{Left, opened}
 use Rattle.pfc_sched.specs.Draws.{first_draws}
 use Rattle.pfc_meaning.specs.Values.{Value}
 use Rattle.pfc_meaning.specs.Frames.{Next}
-use Rattle.pfc_gen.specs.Images.{instructions, lines_of}
 use Rattle.pfc_machine.specs.declared.instructed.Instructed.{Instructed}
 use Rattle.pfc_machine.specs.declared.instructed.Instructed.TheVariants.{Quiet, Acted, Fault, Outward}
 use Rattle.pfc_machine.specs.Answers.{IsPerformed}
-use Rattle.pfc_machine.specs.Rows.{Row, goes, acts, ends_in, outward, row, quiet, moved}
+use Rattle.pfc_machine.specs.Rows.{Row, goes, row, quiet, moved}
 use Rattle.pfc_machine.specs.Fits.{Fits}
 use Rattle.pfc_machine.specs.Stacks.{Stack, Stacks, own_cells, stack_of}
-use Rattle.pfc_relation.specs.Standing.{Program, IsChecked, IsAt, forms_of, names_of}
+use Rattle.pfc_relation.specs.Standing.{Program, IsChecked, IsAt}
 use Rattle.pfc_relation.specs.Following.{quietly, IsFit, Arrived, Follows, arrives, moves}
 use Rattle.pfc_drive.specs.Advances.{Reached, is_quiet}
 use Rattle.pfc_drive.specs.Programs.{IsProgram}

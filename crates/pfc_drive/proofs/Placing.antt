@@ -1,8 +1,8 @@
 -- Several changes of one stack, one after the other.
-use Rattle.std.proofs.Common.{◌≡◌, ℕ, zero, suc, ◌+◌, ◌≤◌, ◌<◌, ℤ, List, [], ◌∷◌, length, take, drop, get_or, set, refl, sym, ap, ap₂, ◌∙◌, subst, arith}
+use Rattle.std.proofs.Common.{◌≡◌, ℕ, ◌+◌, ◌<◌, ℤ, List, ◌∷◌, length, set, ap, ◌∙◌}
 use Rattle.std.proofs.lemmas.List.{set-set, get_or-set_same}
 use Rattle.pfc_machine.specs.Rows.{passed}
-use Rattle.pfc_machine.specs.Stacks.{Stack, Stacks, no_stack, stack_of, operand, written}
+use Rattle.pfc_machine.specs.Stacks.{Stack, Stacks, no_stack, stack_of}
 use Rattle.pfc_drive.specs.Deeds.{operands_of}
 
 -- the stacks with other operands of a process

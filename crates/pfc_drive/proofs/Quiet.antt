@@ -1,29 +1,13 @@
 -- Quiet instructions as rows of main's stack, and the instructions that a next action needs.
-use Rattle.std.proofs.Common.{◌≡◌, ℕ, zero, suc, ◌+◌, ◌*◌, ◌-◌, ◌^◌, ◌≤◌, ◌<◌, ℤ, pos, ◌+ℤ◌, true, false, List, [], ◌∷◌, ◌++◌, length, take, drop, reverse, Option, Some, None, Ok, Err, refl, sym, ap, ap₂, ◌∙◌, subst, arith, length-append, slice_get}
-use Rattle.std.proofs.lemmas.List.{length-reverse}
+use Rattle.std.proofs.Common.{◌≡◌, ℕ, zero, suc, ◌+◌, ◌-◌, ◌≤◌, ℤ, pos, List, [], ◌∷◌, length, ap, ◌∙◌, arith}
 use Rattle.pfc_base.specs.declared.faults.RunFault.{RunFault}
 use Rattle.pfc_code.specs.declared.instructions.Instr.{Instr}
-use Rattle.pfc_code.specs.declared.instructions.Instr.TheVariants.{LIT, ADDR, IDX, FLD, LOAD, STORE, TURN, FORW, FORT, END, RAND, WRI, WRB, WRC, WRS, WRNL, RDI, RDC, RDNL, EOF, EOLN}
-use Rattle.pfc_types.specs.Types.{is_simple, cells_in}
-use Rattle.pfc_types.specs.declared.types.TypeId.{TypeId}
-use Rattle.pfc_values.specs.declared.simple.Simple.{Simple}
-use Rattle.pfc_values.specs.declared.simple.Simple.TheVariants.{Integer, Boolean, Char}
-use Rattle.pfc_meaning.specs.Values.{Value, ordinal}
-use Rattle.pfc_meaning.specs.Store.{Location}
-use Rattle.pfc_meaning.specs.Operators.{simple_of}
-use Rattle.pfc_meaning.specs.Frames.{Rest, Next, reads, copies_from, writes, turns, prints, inputs, skips, asks_eof, asks_eoln, draws, faults, finishes}
-use Rattle.pfc_gen.specs.Statements.{write_instr, read_instr}
-use Rattle.pfc_machine.specs.Refs.{ref_of, word_of}
-use Rattle.pfc_machine.specs.Rows.{Alone, quiet, action, fault, more, alone, Row, goes, acts, ends_in, outward, row, moved, within, passed}
-use Rattle.pfc_machine.specs.Fits.{Fits, needs, adds, Reckons, Reaches, AreLive}
-use Rattle.pfc_machine.specs.Stacks.{Stack, Stacks, own_cells, stack_of, operand, cell_word}
-use Rattle.pfc_relation.specs.Cells.{IsOf, AreCells, words_of}
-use Rattle.pfc_relation.specs.Standing.{Program, IsChecked, IsAt, IsSimpleWord, IsWholeWord, forms_of, names_of}
-use Rattle.pfc_relation.specs.Following.{quietly, IsFit, IsPiece, number, wide_number, string, wide_string, newline, IsFault, of_operands, of_number_width, of_string_width, IsWrite, of_value, of_kept, IsTurn, of_loop, of_count, Arrived}
-use Rattle.pfc_relation.proofs.Words.{words_length}
-use Rattle.pfc_drive.specs.Standing.{Holds}
+use Rattle.pfc_code.specs.declared.instructions.Instr.TheVariants.{LIT, ADDR, LOAD, STORE, FORW, RAND, WRS, RDI, RDC, EOF, EOLN}
+use Rattle.pfc_machine.specs.Rows.{Alone, quiet, action, fault, more, alone, goes, ends_in, row, moved, within, passed}
+use Rattle.pfc_machine.specs.Fits.{Fits, adds, Reckons, Reaches}
+use Rattle.pfc_machine.specs.Stacks.{Stack, own_cells}
+use Rattle.pfc_relation.specs.Following.{quietly, IsFit}
 use Rattle.pfc_drive.specs.Deeds.{Manages}
-use Rattle.pfc_drive.proofs.Memory.{word_live}
 
 -- ## Quiet instructions
 

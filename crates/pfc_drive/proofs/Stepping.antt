@@ -1,5 +1,5 @@
 -- An action as the step of a configuration.
-use Rattle.std.proofs.Common.{◌≡◌, ℕ, zero, suc, ◌+◌, ◌^◌, ◌<◌, Bool, true, false, if◌then◌else◌, List, [], ◌∷◌, ◌++◌, length, get_or, set, Option, Some, None, refl, sym, ap, ap₂, ◌∙◌, subst, arith, slice_get, Result, Ok, Err, OnErr}
+use Rattle.std.proofs.Common.{◌≡◌, ℕ, zero, suc, ◌+◌, ◌^◌, ◌<◌, Bool, true, false, List, [], ◌∷◌, ◌++◌, length, get_or, set, Option, Some, None, refl, sym, ap, ◌∙◌, subst, arith, slice_get, Result, Ok, Err, OnErr}
 use Rattle.std.proofs.lemmas.List.{append-nil}
 use Rattle.rand_pcg.specs.Lcg.{Lcg}
 use Rattle.pfc_base.specs.declared.faults.RunFault.{RunFault}
@@ -9,27 +9,27 @@ use Rattle.pfc_world.specs.Transitions.{begun, rested, finished, ticked}
 use Rattle.pfc_values.specs.Inputs.{Left}
 use Rattle.pfc_values.specs.Outputs.{is_open_line}
 use Rattle.pfc_meaning.specs.Values.{Value}
-use Rattle.pfc_meaning.specs.Frames.{Next, Task, finishes, going, ends as ending_at}
+use Rattle.pfc_meaning.specs.Frames.{Next, Task, going, ends as ending_at}
 use Rattle.pfc_meaning.specs.Remainders.{next}
-use Rattle.pfc_meaning.specs.Configurations.{Config, Fault_at, act, acted, faulted, done_at, step}
+use Rattle.pfc_meaning.specs.Configurations.{Config, act, acted, faulted, done_at, step}
 use Rattle.pfc_code.specs.declared.instructions.Instr.{Instr}
 use Rattle.pfc_code.specs.Images.{PlainImage}
 use Rattle.pfc_machine.specs.declared.instructed.Instructed.{Instructed}
 use Rattle.pfc_machine.specs.declared.instructed.Instructed.TheVariants.{Quiet, Acted, Fault, Outward}
 use Rattle.pfc_machine.specs.Answers.{IsPerformed}
-use Rattle.pfc_machine.specs.Rows.{Row, goes, acts, ends_in, outward, row}
+use Rattle.pfc_machine.specs.Rows.{Row, acts, ends_in, outward, row}
 use Rattle.pfc_machine.specs.Stacks.{Stacks, stack_of}
 use Rattle.pfc_relation.specs.Standing.{Program, IsChecked, IsAt}
-use Rattle.pfc_relation.specs.Following.{TaskAt, Follows, arrives, Arrived}
+use Rattle.pfc_relation.specs.Following.{TaskAt, arrives, Arrived}
 use Rattle.pfc_relation.proofs.Remainders.{task_follows}
 use Rattle.pfc_drive.specs.declared.actions.Done.{Done}
 use Rattle.pfc_drive.specs.declared.actions.Done.TheVariants.{Stepped, Faulted}
-use Rattle.pfc_drive.specs.Deeds.{Deed, goes_on, does, puts, refuses, ends, deed, by_row, outward_deed, open_behind, IsDeed, Manages}
+use Rattle.pfc_drive.specs.Deeds.{Deed, goes_on, does, puts, refuses, ends, deed, by_row, outward_deed, open_behind, Manages}
 use Rattle.pfc_drive.specs.Advances.{Reached, is_quiet}
 use Rattle.pfc_drive.specs.Programs.{IsProgram}
 use Rattle.pfc_drive.specs.States.{State}
 use Rattle.pfc_drive.specs.Standing.{Holds, IsBefore, Stands, main_stand}
-use Rattle.pfc_drive.specs.Steps.{number_in, MayGo, is_left, stepped, over, stopped, IsOutward, IsCarried, Tells, IsReady, IsStep}
+use Rattle.pfc_drive.specs.Steps.{number_in, MayGo, is_left, stepped, over, stopped, IsOutward, IsCarried, IsReady, IsStep}
 use Rattle.pfc_drive.proofs.Arrivals.{Arrival, arrival, Leaves, silent, printing, faulty, ending, over as with_parts}
 use Rattle.pfc_drive.proofs.Lines.{open_grown}
 use Rattle.pfc_drive.proofs.Onward.{code_length}

@@ -1,17 +1,17 @@
 -- The run from a configuration on, by its first turn.
-use Rattle.std.proofs.Common.{◌≡◌, ℕ, zero, suc, ◌+◌, ◌-◌, ◌<◌, ◌≤◌, Bool, true, false, List, [], ◌∷◌, ◌++◌, length, take, Option, Some, None, refl, sym, ap, ◌∙◌, subst, arith, append_assoc, append-nil}
-use Rattle.std.specs.Io.KnownBytes.{Appends}
-use Rattle.std.proofs.KnownBytes.{Appends-nil, Appends-trans}
-use Rattle.pfc_io.proofs.Written.{AppendsFront-none, AppendsFront-cut, AppendsFront-append, AppendsFront-after}
+use Rattle.std.proofs.Common.{◌≡◌, ℕ, zero, suc, ◌+◌, ◌-◌, ◌<◌, ◌≤◌, Bool, true, false, List, [], ◌∷◌, if◌then◌else◌, Option, Some, None, refl, sym, ap, ap₂, ◌∙◌, subst, arith, append-nil}
+use Rattle.std.proofs.KnownBytes.{Appends-nil}
+use Rattle.pfc_io.specs.Writes.{AppendsFront}
+use Rattle.pfc_io.proofs.Written.{AppendsFront-none}
 use Rattle.pfc_state.specs.Stands.{Stand, Is_idle, Is_created, Is_ready, Waits, Is_done, is_ready}
 use Rattle.pfc_state.specs.declared.endings.Ending.{Ending}
-use Rattle.pfc_state.specs.declared.endings.Ending.TheVariants.{Finished, Fault, Deadlock, Limit, Script, SinkFailed, Memory}
+use Rattle.pfc_state.specs.declared.endings.Ending.TheVariants.{Finished, Fault, Deadlock, Limit}
 use Rattle.pfc_sched.specs.Picks.{Picking, picked, after_pick}
 use Rattle.pfc_sched.specs.declared.picking.Pick.{Pick}
 use Rattle.pfc_sched.specs.declared.picking.Pick.TheVariants.{Process}
 use Rattle.pfc_sched.proofs.PickLaws.{picks_ready}
 use Rattle.pfc_code.specs.Images.{PlainImage}
-use Rattle.pfc_world.specs.Tables.{Table, at}
+use Rattle.pfc_world.specs.Tables.{Table, at, some_ready}
 use Rattle.pfc_world.specs.Settling.{settled}
 use Rattle.pfc_meaning.specs.Configurations.{Config, Fault_at, step}
 use Rattle.pfc_meaning.specs.Runs.{Final, final, settled_config, is_done, ending_at, by_pick, unless_ended, run_from}
@@ -23,7 +23,7 @@ use Rattle.pfc_drive.specs.States.{State}
 use Rattle.pfc_drive.specs.Standing.{Stands, main_stand}
 use Rattle.pfc_drive.specs.Programs.{IsProgram}
 use Rattle.pfc_drive.specs.Steps.{IsReady, IsStep}
-use Rattle.pfc_drive.proofs.Outputs.{step_counts, run_prints, later_prints}
+use Rattle.pfc_drive.proofs.Outputs.{step_counts, later_prints}
 
 -- ## Nobody waits for a moment
 
@@ -95,6 +95,13 @@ module _ (g : Program) (s : State) (c : Config) (h : Stands g s c) where
     ends_over : h.over ≡ true → ending_at c ≡ Some Finished
     ends_over o = endings (Is_done ∷ []) (h.rows ∙ ap (λ (x : Stand). x ∷ []) (main_over h.over o))
 
+    ends_dead : is_done (at s.table.rows 0) ≡ false → some_ready s.table.rows ≡ false → ending_at c ≡ Some Deadlock
+    ends_dead o none =
+        let rows : c.table.rows ≡ s.table.rows = sym (ap (λ (t : Table). t.rows) h.table) in
+        ap (λ (f : Option Fault_at). ending_at (record c { fault = f })) sound
+        ∙ ap₂ (λ (over some : Bool). (let e : Option Ending = if over then Some Finished else if some then None else Some Deadlock in e))
+        (ap (λ (r : List Stand). is_done (at r 0)) rows ∙ o) (ap some_ready rows ∙ none)
+
     ends_none : h.over ≡ false → ending_at c ≡ None
     ends_none o = endings (Is_ready ∷ []) (h.rows ∙ ap (λ (x : Stand). x ∷ []) (main_ready h.over o))
 
@@ -113,6 +120,9 @@ module _ (g : Program) (s : State) (c : Config) (h : Stands g s c) where
 
     pub run_over : c.fault ≡ None → is_done (at s.table.rows 0) ≡ true → run_left g limit picking c ≡ final c Finished
     run_over sound o = ended Finished (ends_over sound (sym over_is ∙ o)) (limit - c.table.done)
+
+    pub run_dead : c.fault ≡ None → is_done (at s.table.rows 0) ≡ false → some_ready s.table.rows ≡ false → run_left g limit picking c ≡ final c Deadlock
+    run_dead sound o none = ended Deadlock (ends_dead sound o none) (limit - c.table.done)
 
     pub run_limited : c.fault ≡ None → is_done (at s.table.rows 0) ≡ false → limit ≤ s.table.done → run_left g limit picking c ≡ final c (Limit limit)
     run_limited sound o low =
@@ -173,112 +183,46 @@ module _ (g : Program) (s : State) (c : Config) (h : Stands g s c) where
 
 -- ## Actions
 
--- what was printed stands behind nothing
-pub step_is : (g : Program) (new : State) (c : Config) (p : ℕ) (old out bytes : List ℕ) (d d' : Done) → IsStep g new c p old out d → old ≡ [] → bytes ≡ out → d ≡ d'
-    → IsStep g new c p [] bytes d'
-step_is g new c p old out bytes d d' is empty all told =
-    subst (λ (x : Done). IsStep g new c p [] bytes x) told
-    (subst (λ (x : List ℕ). IsStep g new c p [] x d) (sym all) (subst (λ (x : List ℕ). IsStep g new c p x out d) empty is))
-
 module _ (g : Program) (c : Config) (p : ℕ) (limit left : ℕ) (picking : Picking) where
-  -- want of memory: nothing was written
-  pub none_written : (before : Option (List ℕ)) → IsBrokenOff (run_from g.env limit left picking (step g.env c p)) c before before
-  none_written before =
-      let e = later_prints g.env limit left picking c p in record { bytes = e.bytes; output = e.more; front = AppendsFront-none before e.bytes }
-
-  -- a sink that took a part of what was printed
-  pub part_written : (new : State) (bytes : List ℕ) (d : Done) (n : ℕ) (before after : Option (List ℕ)) → IsStep g new c p [] bytes d
-      → n < length bytes → Appends before after (take n bytes) → IsBrokenOff (run_from g.env limit left picking (step g.env c p)) c before after
-  part_written new bytes d n before after is low written =
-      let e = run_prints g.env limit left picking (step g.env c p) in
-      record {
-        bytes = bytes ++ e.bytes;
-        output = e.more ∙ ap (λ (x : List ℕ). x ++ e.bytes) is.output ∙ append_assoc c.output is.bytes e.bytes ∙ ap (λ (x : List ℕ). c.output ++ (x ++ e.bytes)) (sym is.out_is);
-        front = AppendsFront-append before after bytes e.bytes (AppendsFront-cut before after bytes n (omega (arith, low)) written);
-      }
+  -- want of memory: nothing was printed
+  pub none_printed : (old out : List ℕ) → out ≡ old → IsBrokenOff (run_from g.env limit left picking (step g.env c p)) c (Some old) (Some out)
+  none_printed old out same =
+      let e = later_prints g.env limit left picking c p in
+      record { bytes = e.bytes; output = e.more; front = subst (λ (x : List ℕ). AppendsFront (Some old) (Some x) e.bytes) (sym same) (AppendsFront-none (Some old) e.bytes) }
 
   -- a fault
-  pub ends_in_fault : (new : State) (bytes : List ℕ) (line : ℕ) (f : _) (before after : Option (List ℕ)) → IsStep g new c p [] bytes (Faulted line f)
-      → Appends before after bytes → Completes g (run_from g.env limit left picking (step g.env c p)) c new (Fault p line f) before after
-  ends_in_fault new bytes line f before after is written =
+  pub ends_in_fault : (new : State) (old out : List ℕ) (line : ℕ) (f : _) → IsStep g new c p old out (Faulted line f)
+      → Completes g (run_from g.env limit left picking (step g.env c p)) c new (Fault p line f) (Some old) (Some out)
+  ends_in_fault new old out line f is =
       let e = run_fault g new (step g.env c p) is.stands limit picking (record { process = p; line = line; fault = f }) is.tells left in
       record {
         ends = sym (ap (λ (x : Final). x.ending) e);
         stands = subst (λ (x : Final). Stands g new x.config) (sym e) is.stands;
-        bytes = bytes;
-        output = ap (λ (x : Final). x.config.output) e ∙ is.output ∙ ap (λ (x : List ℕ). c.output ++ x) (sym is.out_is);
-        written = written;
+        bytes = is.bytes;
+        output = ap (λ (x : Final). x.config.output) e ∙ is.output;
+        written = is.out_is;
       }
 
   -- no fault
-  pub continues : (new : State) (bytes : List ℕ) (before after : Option (List ℕ)) → IsStep g new c p [] bytes Stepped
-      → Appends before after bytes → Continues g c (step g.env c p) new before after
-  continues new bytes before after is written = record {
+  pub continues : (new : State) (old out : List ℕ) → IsStep g new c p old out Stepped → Continues g c (step g.env c p) new (Some old) (Some out)
+  continues new old out is = record {
     stands = is.stands;
     sound = is.tells;
-    bytes = bytes;
-    output = is.output ∙ ap (λ (x : List ℕ). c.output ++ x) (sym is.out_is);
-    written = written;
+    bytes = is.bytes;
+    output = is.output;
+    written = is.out_is;
   }
 
 -- and one action more
-pub counted : (g : Program) (c : Config) (p : ℕ) (s new : State) (bytes : List ℕ) (d : Done) → Stands g s c → IsStep g new c p [] bytes d → new.table.done ≡ s.table.done + 1
-counted g c p s new bytes d h is =
+pub counted : (g : Program) (c : Config) (p : ℕ) (s new : State) (old out : List ℕ) (d : Done) → Stands g s c → IsStep g new c p old out d → new.table.done ≡ s.table.done + 1
+counted g c p s new old out d h is =
     let new_is : new.table.done ≡ (step g.env c p).table.done = ap (λ (t : Table). t.done) is.stands.table in
     let old_is : s.table.done ≡ c.table.done = ap (λ (t : Table). t.done) h.table in
     let one : (step g.env c p).table.done ≡ c.table.done + 1 = step_counts g.env c p in
     omega (arith, new_is, old_is, one)
 
--- ## Turn after turn
-
-module _ (g : Program) where
-  joined : (a b c : Config) (s t : State) (start before after : Option (List ℕ)) → Continues g a b s start before → Continues g b c t before after → Continues g a c t start after
-  joined a b c s t start before after p q = record {
-    stands = q.stands;
-    sound = q.sound;
-    bytes = p.bytes ++ q.bytes;
-    output = q.output ∙ ap (λ (x : List ℕ). x ++ q.bytes) p.output ∙ append_assoc a.output p.bytes q.bytes;
-    written = Appends-trans start before after p.bytes q.bytes p.written q.written;
-  }
-
-  module _ (a c : Config) (s new : State) (f : Final) (start before after : Option (List ℕ)) (p : Continues g a c s start before) where
-    whole_course : (ending : Ending) → Completes g f c new ending before after → Completes g f a new ending start after
-    whole_course ending q = record {
-      ends = q.ends;
-      stands = q.stands;
-      bytes = p.bytes ++ q.bytes;
-      output = q.output ∙ ap (λ (x : List ℕ). x ++ q.bytes) p.output ∙ append_assoc a.output p.bytes q.bytes;
-      written = Appends-trans start before after p.bytes q.bytes p.written q.written;
-    }
-
-    broken_course : IsBrokenOff f c before after → IsBrokenOff f a start after
-    broken_course q = record {
-      bytes = p.bytes ++ q.bytes;
-      output = q.output ∙ ap (λ (x : List ℕ). x ++ q.bytes) p.output ∙ append_assoc a.output p.bytes q.bytes;
-      front = AppendsFront-after start before after p.bytes q.bytes p.written q.front;
-    }
-
-    -- what a run came to, with what was printed before it
-    course_behind : (ending : Ending) → IsCourse g f c new ending before after → IsCourse g f a new ending start after
-    course_behind Finished q = whole_course Finished q
-    course_behind (Fault process line fault) q = whole_course (Fault process line fault) q
-    course_behind Deadlock q = whole_course Deadlock q
-    course_behind (Limit n) q = whole_course (Limit n) q
-    course_behind (Script item why) q = whole_course (Script item why) q
-    course_behind SinkFailed q = broken_course q
-    course_behind Memory q = broken_course q
-
-  -- a turn behind others
-  pub turn_behind : (limit : ℕ) (first picking picking' : Picking) (a : Config) (s new : State) (result : Option Ending) (start before after : Option (List ℕ))
-      → IsTurn g limit first picking a s None start before
-      → ((c : Config) → Stands g s c → c.fault ≡ None → IsTurn g limit picking picking' c new result before after)
-      → IsTurn g limit first picking' a new result start after
-  turn_behind limit first picking picking' a s new None start before after (c, p, few, same) k =
-      let (c', q, few', same') = k c p.stands p.sound in (c', joined a c c' s new start before after p q, few', same' ∙ same)
-  turn_behind limit first picking picking' a s new (Some ending) start before after (c, p, few, same) k =
-      course_behind a c s new (run_left g limit first a) start before after p ending
-      (subst (λ (f : Final). IsCourse g f c new ending before after) same (k c p.stands p.sound))
-
-  pub turn_few : (limit : ℕ) (picking picking' : Picking) (c : Config) (new : State) (before after : Option (List ℕ)) → IsTurn g limit picking picking' c new None before after → new.table.done ≤ limit
-  turn_few limit picking picking' c new before after (c', p, few, same) =
-      let count : new.table.done ≡ c'.table.done = ap (λ (t : Table). t.done) p.stands.table in omega (arith, count, few)
+-- a turn does not pass the limit
+pub turn_few : (g : Program) (limit : ℕ) (picking picking' : Picking) (c : Config) (new : State) (before after : Option (List ℕ))
+    → IsTurn g limit picking picking' c new None before after → new.table.done ≤ limit
+turn_few g limit picking picking' c new before after (c', p, few, same) =
+    let count : new.table.done ≡ c'.table.done = ap (λ (t : Table). t.done) p.stands.table in omega (arith, count, few)

@@ -15,7 +15,7 @@ use Rattle.pfc_drive.specs.Standing.{Stands}
 abbrev pub run_left : Program → ℕ → Picking → Config → Final
 run_left g limit picking c = run_from g.env limit (limit - c.table.done) picking c
 
--- the run came to this ending: the session stands for its end, and the sink has the bytes that it printed
+-- the run came to this ending: the session stands for its end, and the bytes that it printed are written
 pub record Completes (g : Program) (f : Final) (c : Config) (new : State) (ending : Ending) (before after : Option (List ℕ)) : Type 0 where
   pub ends : ending ≡ f.ending
   pub stands : Stands g new f.config
@@ -23,7 +23,7 @@ pub record Completes (g : Program) (f : Final) (c : Config) (new : State) (endin
   pub output : f.config.output ≡ c.output ++ bytes
   pub written : Appends before after bytes
 
--- the run was broken off: the sink has a front of the bytes that it prints
+-- the run was broken off: a front of the bytes that it prints is written
 pub record IsBrokenOff (f : Final) (c : Config) (before after : Option (List ℕ)) : Type 0 where
   pub bytes : List ℕ
   pub output : f.config.output ≡ c.output ++ bytes
@@ -51,7 +51,7 @@ IsOfMain Memory = Unit {0}
 
 -- ## Turns
 
--- an action was done and no fault: the session stands for this configuration, and the sink has what was printed
+-- an action was done and no fault: the session stands for this configuration, and what was printed is written
 pub record Continues (g : Program) (c c' : Config) (new : State) (before after : Option (List ℕ)) : Type 0 where
   pub stands : Stands g new c'
   pub sound : c'.fault ≡ None
@@ -69,3 +69,28 @@ abbrev pub IsTurn : Program → ℕ → Picking → Picking → Config → State
 IsTurn g limit picking picking' c new None before after =
     (c' : Config) × Continues g c c' new before after × (c'.table.done ≤ limit) × (run_left g limit picking' c' ≡ run_left g limit picking c)
 IsTurn g limit picking picking' c new (Some ending) before after = IsCourse g (run_left g limit picking c) c new ending before after
+
+-- ## Gathered output
+
+-- Turns led from a configuration to a further one without a fault, from which the run is what it was: of what they printed the first bytes
+-- were sent to the sink, and the others are held.
+pub record Gathers (g : Program) (limit : ℕ) (first picking : Picking) (c : Config) (now : State) (held : List ℕ) (before after : Option (List ℕ)) : Type 0 where
+  pub config : Config
+  pub stands : Stands g now config
+  pub sound : config.fault ≡ None
+  pub same : run_left g limit picking config ≡ run_left g limit first c
+  pub sent : List ℕ
+  pub output : config.output ≡ c.output ++ (sent ++ held)
+  pub written : Appends before after sent
+
+-- the sink was handed the first of the bytes that were held, and the others are still held
+pub record IsSent (old new : List ℕ) (before after : Option (List ℕ)) : Type 0 where
+  pub sent : List ℕ
+  pub both : old ≡ sent ++ new
+  pub written : Appends before after sent
+
+-- The sink was handed all bytes that are held, unless memory was refused; or it took no more.
+pub data IsHandedOver (held : List ℕ) (before after : Option (List ℕ)) (ending : Ending) : Ending → Type 0 where
+  whole : Appends before after held → IsHandedOver held before after ending ending
+  dropped : ending ≡ Memory → AppendsFront before after held → IsHandedOver held before after ending ending
+  failed : AppendsFront before after held → IsHandedOver held before after ending SinkFailed

@@ -1,5 +1,5 @@
 -- The code of an image as it is told once.
-use Rattle.std.specs.Prelude.{ℕ, ◌<◌, ◌^◌, ◌≡◌, Some, length}
+use Rattle.std.specs.Prelude.{◌<◌, ◌^◌, ◌≡◌, Some, length}
 use Rattle.pfc_code.specs.declared.images.Block.{Block}
 use Rattle.pfc_code.specs.Images.{PlainImage}
 use Rattle.pfc_gen.specs.Images.{instructions, lines_of}

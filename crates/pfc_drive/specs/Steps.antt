@@ -1,6 +1,5 @@
 -- The step that an action is.
 use Rattle.std.specs.Prelude.{ℕ, ◌+◌, ◌^◌, ◌<◌, ◌≡◌, Bool, true, false, List, ◌++◌, length, set, Option, Some, None}
-use Rattle.pfc_code.specs.declared.instructions.Instr.{Instr}
 use Rattle.pfc_code.specs.Images.{PlainImage}
 use Rattle.pfc_state.specs.Stands.{Is_ready}
 use Rattle.pfc_world.specs.Tables.{at}

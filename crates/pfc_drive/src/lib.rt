@@ -6,10 +6,12 @@
 
 mod actions;
 mod advancing;
+mod laws;
 mod moving;
 mod outward;
 mod runs;
 mod session;
 
 pub use actions::Done;
+pub use laws::an_image_runs_its_tree;
 pub use session::Session;

@@ -1,17 +1,11 @@
-use Rattle.std.proofs.Common.{◌≡◌, ℕ, List, ◌+◌, ◌-◌, ◌<◌, ◌≤◌, length, subst, sym, ap, ◌∙◌, arith}
+use Rattle.std.proofs.Common.{ℕ, ◌<◌, length, subst, sym, ap, ◌∙◌, arith}
 use Rattle.pfc_code.specs.Images.{plain_image}
-use Rattle.pfc_state.specs.declared.states.Running.{Running}
-use Rattle.pfc_meaning.specs.Frames.{Next}
-use Rattle.pfc_meaning.specs.Values.{Value}
 use Rattle.pfc_machine.specs.declared.instructed.Instructed.{Instructed}
 use Rattle.pfc_machine.specs.declared.instructed.Instructed.TheVariants.{Quiet}
 use Rattle.pfc_machine.specs.Answers.{performer}
-use Rattle.pfc_machine.specs.Stacks.{Stacks, stack_of}
-use Rattle.pfc_relation.specs.Standing.{Program, IsChecked}
+use Rattle.pfc_machine.specs.Stacks.{stack_of}
 use Rattle.pfc_drive.specs.Advances.{Reached}
-use Rattle.pfc_drive.specs.Programs.{IsProgram}
-use Rattle.pfc_drive.specs.Standing.{IsBefore}
-use Rattle.pfc_drive.proofs.Onward.{Passed, SomeBefore, WasPerformed, ready_at, quiet_on, quiet_some, quiet_up, unquiet, reached_on, within_at}
+use Rattle.pfc_drive.proofs.Onward.{WasPerformed, ready_at, quiet_on, quiet_some, quiet_up, unquiet, reached_on, within_at}
 use Rattle.pfc_drive.proofs.advancing.advance.Goals as goal
 
 pub run_instr-requires-clause-fits : goal.run_instr-requires-clause-fits

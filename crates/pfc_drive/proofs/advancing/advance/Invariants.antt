@@ -1,4 +1,4 @@
-use Rattle.std.proofs.Common.{◌≡◌, ℕ, List, ◌-◌, length}
+use Rattle.std.proofs.Common.{◌≡◌, List, ◌-◌, length}
 use Rattle.pfc_code.specs.Images.{plain_image}
 use Rattle.pfc_drive.specs.Programs.{IsProgram}
 use Rattle.pfc_drive.specs.Standing.{IsBefore}

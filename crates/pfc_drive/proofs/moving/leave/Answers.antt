@@ -1,6 +1,6 @@
-use Rattle.std.proofs.Common.{◌∷◌, drop}
+use Rattle.std.proofs.Common.{drop}
 use Rattle.pfc_drive.specs.Deeds.{operands_of}
-use Rattle.pfc_drive.proofs.Placing.{leave_is, instead_is}
+use Rattle.pfc_drive.proofs.Placing.{leave_is}
 use Rattle.pfc_drive.proofs.moving.leave.Goals as goal
 
 pub returns : goal.returns

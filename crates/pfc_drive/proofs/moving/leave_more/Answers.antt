@@ -1,8 +1,7 @@
-use Rattle.std.proofs.Common.{◌∷◌, ℤ, ap, ◌∙◌, drop, w64}
+use Rattle.std.proofs.Common.{◌∷◌, ℤ, ap, ◌∙◌, w64}
 use Rattle.std.proofs.lemmas.Int.{to_z-of_z}
-use Rattle.pfc_machine.specs.Rows.{passed}
 use Rattle.pfc_drive.specs.Deeds.{operands_of}
-use Rattle.pfc_drive.proofs.Placing.{with_operands, leave_is, instead_is}
+use Rattle.pfc_drive.proofs.Placing.{with_operands, leave_is}
 use Rattle.pfc_drive.proofs.moving.leave_more.Goals as goal
 
 pub returns : goal.returns

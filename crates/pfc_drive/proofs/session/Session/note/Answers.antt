@@ -1,4 +1,4 @@
-use Rattle.std.proofs.Common.{◌≡◌, ℕ, ◌<◌, List, ◌++◌, length, Bool, ◌∙◌, ap, subst}
+use Rattle.std.proofs.Common.{ℕ, ◌<◌, List, length, Bool, ◌∙◌, ap, subst}
 use Rattle.pfc_drive.specs.States.{State}
 use Rattle.pfc_drive.proofs.Lines.{open_is}
 use Rattle.pfc_drive.proofs.session.Session.note.Goals as goal

@@ -1,9 +1,3 @@
-pub mod Branches
-pub mod Ended
-pub mod Levels
-pub mod Loops
 pub mod PartLevels
-pub mod Seen
-pub mod StmtLevels
 pub mod Whiling
 pub mod Whole

@@ -13,7 +13,7 @@ use Rattle.pfc_grammar.specs.placed.Stmts.{stmt_at}
 use Rattle.pfc_grammar.specs.placed.Parts.{SubHead, parts_at, part_with, block_with, sub_behind, body_end}
 use Rattle.pfc_tree.specs.trees.Parts.{SubTree}
 use Rattle.pfc_parse.specs.Homes.{block_at, sub_after}
-use Rattle.pfc_parse.proofs.Branches.{bind_given}
+use Rattle.pfc_token_parser.proofs.Branches.{bind_given}
 
 pub parts_are : (n : ℕ) (h : Home) (ts : List Token) → parts_at n h ts ≡ many_while (begins_part h) (part_with (type_at n) (block_at n h)) ts
 unfolding parts_at block_at

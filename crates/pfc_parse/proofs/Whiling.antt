@@ -4,10 +4,10 @@ use Rattle.pfc_base.specs.declared.tokens.Token.{Token}
 use Rattle.pfc_tree.specs.Symbols.{Symbol}
 use Rattle.pfc_grammar.specs.Reading.{Halt, bad, deep}
 use Rattle.pfc_grammar.specs.placed.Reading.{Reader, Outcome, pure, bind, then_read, while_turns, while_onto}
-use Rattle.pfc_parse.specs.declared.reading.Halt as fault
-use Rattle.pfc_parse.specs.declared.reading.Halt.TheVariants.{Unexpected, Deep, Memory}
-use Rattle.pfc_parse.specs.Giving.{Halts, sees}
-use Rattle.pfc_parse.proofs.Branches.{choose_seen, choose_not_seen}
+use Rattle.pfc_token_parser.specs.declared.tokens.Halt as fault
+use Rattle.pfc_token_parser.specs.declared.tokens.Halt.TheVariants.{Unexpected, Deep, Memory}
+use Rattle.pfc_token_parser.specs.Giving.{Halts, sees}
+use Rattle.pfc_token_parser.proofs.Branches.{choose_seen, choose_not_seen}
 
 -- What comes of a list from here, where xs are read and ts are left: the outcome of the whole loop. The turns that are left are
 -- enough for the tokens.

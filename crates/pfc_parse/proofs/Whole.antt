@@ -16,9 +16,9 @@ use Rattle.pfc_grammar.specs.Outcomes.{bare_outcome}
 use Rattle.pfc_grammar.specs.placed.Reading.{Outcome, bind, take_as, finish}
 use Rattle.pfc_grammar.specs.placed.Stmts.{stmt_at}
 use Rattle.pfc_grammar.specs.placed.Parts.{program_at, program_behind, parts_at, whole_at, read_tokens}
-use Rattle.pfc_parse.specs.declared.reading.Halt as fault
-use Rattle.pfc_parse.specs.declared.reading.Halt.TheVariants.{Unexpected, Deep, Memory}
-use Rattle.pfc_parse.specs.Giving.{Halts}
+use Rattle.pfc_token_parser.specs.declared.tokens.Halt as fault
+use Rattle.pfc_token_parser.specs.declared.tokens.Halt.TheVariants.{Unexpected, Deep, Memory}
+use Rattle.pfc_token_parser.specs.Giving.{Halts}
 use Rattle.pfc_parse.specs.Parsing.{IsFaultOf, IsUnlessMemory, fault_at}
 
 -- the reader of a program where 64 levels are left

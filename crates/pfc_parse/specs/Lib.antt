@@ -1,4 +1,2 @@
-pub mod Firsts
-pub mod Giving
 pub mod Homes
 pub mod Parsing

@@ -7,8 +7,8 @@ use Rattle.pfc_tree.specs.Readings.{tree_shape}
 use Rattle.pfc_tree.specs.Grammar.{IsSyntaxFault}
 use Rattle.pfc_parse.specs.declared.fault.SyntaxFault.{SyntaxFault}
 use Rattle.pfc_parse.specs.declared.fault.SyntaxFault.TheVariants as fault
-use Rattle.pfc_parse.specs.declared.reading.Halt.{Halt}
-use Rattle.pfc_parse.specs.declared.reading.Halt.TheVariants.{Unexpected, Deep, Memory}
+use Rattle.pfc_token_parser.specs.declared.tokens.Halt.{Halt}
+use Rattle.pfc_token_parser.specs.declared.tokens.Halt.TheVariants.{Unexpected, Deep, Memory}
 
 -- the fault is the syntax fault of the kinds, 201 or 202, at its place; want of memory says nothing
 abbrev pub IsFaultOf : List Symbol → SyntaxFault → Type 0

@@ -7,20 +7,20 @@ ghost use Rattle.pfc_grammar.specs.placed.Exprs.{expr_at};
 ghost use Rattle.pfc_grammar.specs.placed.Types.{type_at};
 ghost use Rattle.pfc_grammar.specs.placed.Stmts.{stmt_at};
 ghost use Rattle.pfc_grammar.specs.placed.Parts as reader;
-ghost use Rattle.pfc_parse.specs.Giving.{Gives};
+ghost use Rattle.pfc_token_parser.specs.Giving.{Gives};
 ghost use Rattle.pfc_parse.specs.Homes.{block_at, home_view, sub_after};
 
 pub(crate) mod heads;
 pub(crate) mod homes;
 
-use crate::items::{const_items, formals, type_items, var_items};
-use crate::reading::{Halt, expect_name, expect_sign, word};
 use heads::{
     SubHead, body, ending, entries, exports, function_head, guarded_head, procedure_head, type_word,
 };
 use homes::{Home, begins_part, no_block, word_of_program, word_of_resource};
 use pfc_base::{Token, sign, word};
+use pfc_token_parser::{Halt, expect_name, expect_sign, word};
 use pfc_tree::{Module, Part, Process, Sub};
+use pfc_type_parser::{const_items, formals, type_items, var_items};
 use std::alloc::Global;
 
 /// `{part}` of a home, where so many levels are left for what the parts hold
@@ -46,7 +46,7 @@ pub(crate) fn parts(
 
 /// `consts | types | vars`, or a block
 #[cycle(parts)]
-#[tactic(auto, using(crate::proofs::Branches::branch_taken, crate::proofs::Branches::branch_not_taken), unfolding(crate::specs::Homes::block_at, pfc_grammar::specs::placed::Parts::part_with, pfc_grammar::specs::placed::Reading::bind, pfc_grammar::specs::placed::Reading::pure))]
+#[tactic(auto, using(pfc_token_parser::proofs::Branches::branch_taken, pfc_token_parser::proofs::Branches::branch_not_taken), unfolding(crate::specs::Homes::block_at, pfc_grammar::specs::placed::Parts::part_with, pfc_grammar::specs::placed::Reading::bind, pfc_grammar::specs::placed::Reading::pure))]
 fn part(levels: u8, home: Home, tokens: &[Token], alloc: Global) -> Result<(Part, &[Token]), Halt>
     ensures gives { Gives (λ r. (part_view r.0, r.1.now)) result (reader.part_with (type_at levels) (block_at levels (home_view home)) tokens.now) }
     ensures kept { IfOk result (λ r. length r.1.now < length tokens.now) }
@@ -71,7 +71,7 @@ fn part(levels: u8, home: Home, tokens: &[Token], alloc: Global) -> Result<(Part
 
 /// A sub, and in a resource a guarded procedure, and in a program a monitor, a resource or a process.
 #[cycle(parts)]
-#[tactic(auto, using(crate::proofs::Branches::branch_taken, crate::proofs::Branches::branch_not_taken), unfolding(crate::specs::Homes::sub_after, pfc_grammar::specs::placed::Parts::block_with, pfc_grammar::specs::placed::Parts::sub_behind, pfc_grammar::specs::placed::Reading::bind, pfc_grammar::specs::placed::Reading::pure, pfc_grammar::specs::placed::Reading::stop))]
+#[tactic(auto, using(pfc_token_parser::proofs::Branches::branch_taken, pfc_token_parser::proofs::Branches::branch_not_taken), unfolding(crate::specs::Homes::sub_after, pfc_grammar::specs::placed::Parts::block_with, pfc_grammar::specs::placed::Parts::sub_behind, pfc_grammar::specs::placed::Reading::bind, pfc_grammar::specs::placed::Reading::pure, pfc_grammar::specs::placed::Reading::stop))]
 fn block(levels: u8, home: Home, tokens: &[Token], alloc: Global) -> Result<(Part, &[Token]), Halt>
     ensures gives { Gives (λ r. (part_view r.0, r.1.now)) result (reader.block_with (reader.parts_at levels) (expr_at levels) (stmt_at levels) (home_view home) tokens.now) }
     ensures kept { IfOk result (λ r. length r.1.now < length tokens.now) }

@@ -11,16 +11,16 @@ ghost use Rattle.pfc_tree.specs.views.Parts.{tree_view};
 ghost use Rattle.pfc_grammar.specs.Outcomes.{IsTreeOf};
 ghost use Rattle.pfc_grammar.specs.placed.Stmts.{stmt_at};
 ghost use Rattle.pfc_grammar.specs.placed.Parts as reader;
-ghost use Rattle.pfc_parse.specs.Giving.{Gives};
+ghost use Rattle.pfc_token_parser.specs.Giving.{Gives};
 ghost use Rattle.pfc_parse.specs.Parsing.{IsFaultOf, IsUnlessMemory, fault_at};
 
 use crate::SyntaxFault;
 use crate::parts::heads::{body, params};
 use crate::parts::homes::Home;
 use crate::parts::parts;
-use crate::reading::{Halt, expect_name, expect_sign, expect_word};
 use pfc_base::{Place, Token, sign, word};
 use pfc_grammar::a_reading_of_tokens_is_exact;
+use pfc_token_parser::{Halt, expect_name, expect_sign, expect_word};
 use pfc_tree::Tree;
 use std::alloc::Global;
 

@@ -9,15 +9,14 @@ ghost use Rattle.pfc_grammar.specs.placed.Reading.{many};
 ghost use Rattle.pfc_grammar.specs.placed.Exprs.{expr_at};
 ghost use Rattle.pfc_grammar.specs.placed.Stmts.{stmt_at, body_with};
 ghost use Rattle.pfc_grammar.specs.placed.Parts as reader;
-ghost use Rattle.pfc_parse.specs.Giving.{Gives};
+ghost use Rattle.pfc_token_parser.specs.Giving.{Gives};
 
-use crate::constants::names;
-use crate::exprs::expr;
-use crate::items::formals;
-use crate::reading::{Halt, expect_name, expect_sign, expect_word, sign, word};
-use crate::stmts::body_behind;
 use pfc_base::{Name, Place, Token, sign, word};
+use pfc_expression_parser::expr;
+use pfc_statement_parser::body_behind;
+use pfc_token_parser::{Halt, expect_name, expect_sign, expect_word, sign, word};
 use pfc_tree::{Body, Entry, Group, SubKind};
+use pfc_type_parser::{formals, names};
 use std::alloc::Global;
 
 /// What stands before the parts of a sub.
@@ -153,7 +152,7 @@ fn entry_behind(tokens: &[Token], alloc: Global) -> Result<(Entry, &[Token]), Ha
 }
 
 /// `["type"]`
-#[tactic(auto, using(crate::proofs::Branches::branch_taken, crate::proofs::Branches::branch_not_taken), unfolding(pfc_grammar::specs::placed::Parts::type_word, pfc_grammar::specs::placed::Reading::pure))]
+#[tactic(auto, using(pfc_token_parser::proofs::Branches::branch_taken, pfc_token_parser::proofs::Branches::branch_not_taken), unfolding(pfc_grammar::specs::placed::Parts::type_word, pfc_grammar::specs::placed::Reading::pure))]
 pub(crate) fn type_word(tokens: &[Token]) -> Result<(bool, &[Token]), Halt>
     ensures gives { Gives (λ r. (r.0, r.1.now)) result (reader.type_word tokens.now) }
     ensures kept { IfOk result (λ r. length r.1.now ≤ length tokens.now) }
@@ -175,7 +174,7 @@ pub(crate) fn body(levels: u8, tokens: &[Token], alloc: Global) -> Result<(Body,
 }
 
 /// `"end" | body`, with the place of the `end`
-#[tactic(auto, using(crate::proofs::Branches::branch_taken, crate::proofs::Branches::branch_not_taken), unfolding(pfc_grammar::specs::placed::Parts::ending, pfc_grammar::specs::placed::Reading::bind, pfc_grammar::specs::placed::Reading::pure))]
+#[tactic(auto, using(pfc_token_parser::proofs::Branches::branch_taken, pfc_token_parser::proofs::Branches::branch_not_taken), unfolding(pfc_grammar::specs::placed::Parts::ending, pfc_grammar::specs::placed::Reading::bind, pfc_grammar::specs::placed::Reading::pure))]
 pub(crate) fn ending(
     levels: u8,
     tokens: &[Token],
@@ -193,7 +192,7 @@ pub(crate) fn ending(
 }
 
 /// `["(" name {"," name} ")"]`
-#[tactic(auto, using(crate::proofs::Branches::branch_taken, crate::proofs::Branches::branch_not_taken), unfolding(pfc_grammar::specs::placed::Parts::params, pfc_grammar::specs::placed::Reading::bind, pfc_grammar::specs::placed::Reading::pure))]
+#[tactic(auto, using(pfc_token_parser::proofs::Branches::branch_taken, pfc_token_parser::proofs::Branches::branch_not_taken), unfolding(pfc_grammar::specs::placed::Parts::params, pfc_grammar::specs::placed::Reading::bind, pfc_grammar::specs::placed::Reading::pure))]
 pub(crate) fn params(
     tokens: &[Token],
     alloc: Global,

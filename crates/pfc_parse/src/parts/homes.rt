@@ -2,11 +2,11 @@
 ghost use Rattle.std.specs.Prelude.{◌≡◌, ◌<◌, ◌||◌, zero, Bool, length, IfSome, option_map};
 ghost use Rattle.pfc_tree.specs.trees.Parts.{PartTree};
 ghost use Rattle.pfc_grammar.specs.Heads.{as_word_of_program, as_word_of_resource, begins_block, begins_part};
-ghost use Rattle.pfc_parse.specs.Giving.{Halts, sees, taken};
+ghost use Rattle.pfc_token_parser.specs.Giving.{Halts, sees, taken};
 ghost use Rattle.pfc_parse.specs.Homes.{block_at, home_view};
 
-use crate::reading::{Halt, is_word, word};
 use pfc_base::{Place, Token, word};
+use pfc_token_parser::{Halt, is_word, word};
 
 /// Whose parts a list holds.
 #[derive(Clone, Copy, PartialEq, Eq)]

@@ -4,7 +4,7 @@ use Rattle.pfc_tree.specs.declared.tree.Part.{the_lemmas}
 use Rattle.pfc_grammar.specs.placed.Reading.{bind, pure, many_while}
 use Rattle.pfc_grammar.specs.placed.Parts as reader
 use Rattle.pfc_parse.specs.Homes.{home_view}
-use Rattle.pfc_parse.proofs.Branches.{branch_taken, branch_not_taken, viewed}
+use Rattle.pfc_token_parser.proofs.Branches.{branch_taken, branch_not_taken, viewed}
 use Rattle.pfc_parse.proofs.Whiling.{whiling_begins, whiling_goes, whiling_ends, whiling_halts}
 use Rattle.pfc_parse.proofs.PartLevels.{parts_are, sub_goes}
 use Rattle.pfc_parse.proofs.parts.+parts.Goals as goal

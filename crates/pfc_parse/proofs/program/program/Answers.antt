@@ -1,6 +1,6 @@
 use Rattle.std.proofs.lemmas.Result.{err_from_is_err_and}
 use Rattle.pfc_grammar.specs.placed.Reading.{bind}
-use Rattle.pfc_parse.proofs.Branches.{bind_halts}
+use Rattle.pfc_token_parser.proofs.Branches.{bind_halts}
 use Rattle.pfc_parse.proofs.Whole.{program_is}
 use Rattle.pfc_parse.proofs.program.program.Goals as goal
 

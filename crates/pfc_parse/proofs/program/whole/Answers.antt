@@ -2,7 +2,7 @@ use Rattle.std.proofs.Common.{rules}
 use Rattle.std.proofs.lemmas.Result.{err_from_is_err_and}
 use Rattle.pfc_tree.specs.views.Parts.{tree_view}
 use Rattle.pfc_grammar.specs.placed.Reading.{bind}
-use Rattle.pfc_parse.proofs.Branches.{bind_halts}
+use Rattle.pfc_token_parser.proofs.Branches.{bind_halts}
 use Rattle.pfc_parse.proofs.Whole.{whole_is, finished, unfinished}
 use Rattle.pfc_parse.proofs.program.whole.Goals as goal
 

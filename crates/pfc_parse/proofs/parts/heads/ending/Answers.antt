@@ -1,7 +1,7 @@
 use Rattle.std.proofs.Common.{rules}
 use Rattle.pfc_grammar.specs.placed.Reading.{bind, pure}
 use Rattle.pfc_grammar.specs.placed.Parts.{ending}
-use Rattle.pfc_parse.proofs.Branches.{branch_not_taken}
+use Rattle.pfc_token_parser.proofs.Branches.{branch_not_taken}
 use Rattle.pfc_parse.proofs.PartLevels.{body_ends}
 use Rattle.pfc_parse.proofs.parts.heads.ending.Goals as goal
 

@@ -1,8 +1,8 @@
 use Rattle.std.proofs.Common.{rules, arith}
 use Rattle.std.proofs.lemmas.Result.{err_from_is_err_and}
 use Rattle.pfc_grammar.specs.placed.Reading.{many}
-use Rattle.pfc_parse.proofs.Branches.{viewed}
-use Rattle.pfc_parse.proofs.Loops.{turning_begins, turning_goes, turning_ends, turning_halts}
+use Rattle.pfc_token_parser.proofs.Branches.{viewed}
+use Rattle.pfc_token_parser.proofs.Loops.{turning_begins, turning_goes, turning_ends, turning_halts}
 use Rattle.pfc_parse.proofs.parts.heads.entries.Goals as goal
 
 pub loop-behind-init : goal.loop-behind-init

@@ -5,7 +5,7 @@ use Rattle.pfc_tree.specs.views.Parts.{entry_view}
 use Rattle.pfc_grammar.specs.Heads.{as_word}
 use Rattle.pfc_grammar.specs.placed.Reading.{many}
 use Rattle.pfc_grammar.specs.placed.Parts.{entry_behind}
-use Rattle.pfc_parse.proofs.Loops.{Turning}
+use Rattle.pfc_token_parser.proofs.Loops.{Turning}
 use Rattle.pfc_parse.proofs.parts.heads.entries.Given as goal
 
 abbrev pub invariant-loop-behind : goal.invariant-loop-behind

@@ -4,7 +4,7 @@ use Rattle.pfc_base.specs.declared.word.TheConstants.{EXPORT}
 use Rattle.pfc_grammar.specs.Heads.{as_word}
 use Rattle.pfc_grammar.specs.placed.Reading.{many}
 use Rattle.pfc_grammar.specs.placed.Parts.{export_behind}
-use Rattle.pfc_parse.proofs.Loops.{Turning}
+use Rattle.pfc_token_parser.proofs.Loops.{Turning}
 use Rattle.pfc_parse.proofs.parts.heads.exports.Given as goal
 
 abbrev pub invariant-loop-behind : goal.invariant-loop-behind

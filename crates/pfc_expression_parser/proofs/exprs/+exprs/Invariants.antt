@@ -1,0 +1,97 @@
+-- The levels go down, and within a level the functions call in one order. What the lists of operands, selectors, indices and
+-- arguments come to from here.
+use Rattle.std.proofs.Common.{◌+◌, ◌*◌, ◌≤◌, length, map, [], ◌∷◌}
+use Rattle.pfc_base.specs.declared.sign.TheConstants.{COMMA}
+use Rattle.pfc_tree.specs.views.Exprs.{expr_view, term_view, factor_view, selector_view, actual_view}
+use Rattle.pfc_grammar.specs.Heads.{as_sign, as_add_op, as_mul_op, as_selector}
+use Rattle.pfc_grammar.specs.placed.Reading.{many, many_onto}
+use Rattle.pfc_grammar.specs.placed.Exprs.{selector_behind, actual_with, multiplier_behind, summand_behind, factor_at, expr_at}
+use Rattle.pfc_token_parser.proofs.Loops.{Turning}
+use Rattle.pfc_expression_parser.proofs.exprs.+exprs.Given as goal
+
+abbrev pub decreases-expr : goal.decreases-expr
+decreases-expr l = 20 * l.levels
+
+abbrev pub decreases-relating : goal.decreases-relating
+decreases-relating l = 20 * l.levels + 19
+
+abbrev pub decreases-simple : goal.decreases-simple
+decreases-simple l = 20 * l.levels + 18
+
+abbrev pub decreases-summands : goal.decreases-summands
+decreases-summands l = 20 * l.levels + 17
+
+abbrev pub decreases-term : goal.decreases-term
+decreases-term l = 20 * l.levels + 16
+
+abbrev pub decreases-multipliers : goal.decreases-multipliers
+decreases-multipliers l = 20 * l.levels + 15
+
+abbrev pub decreases-factor : goal.decreases-factor
+decreases-factor l = 20 * l.levels + 14
+
+abbrev pub decreases-plain_factor : goal.decreases-plain_factor
+decreases-plain_factor l = 20 * l.levels + 13
+
+abbrev pub decreases-desig_behind : goal.decreases-desig_behind
+decreases-desig_behind l = 20 * l.levels + 6
+
+abbrev pub decreases-selector_behind : goal.decreases-selector_behind
+decreases-selector_behind l = 20 * l.levels + 5
+
+abbrev pub decreases-exprs_behind : goal.decreases-exprs_behind
+decreases-exprs_behind l = 20 * l.levels + 4
+
+abbrev pub decreases-actuals : goal.decreases-actuals
+decreases-actuals l = 20 * l.levels + 6
+
+abbrev pub decreases-actuals_behind : goal.decreases-actuals_behind
+decreases-actuals_behind l = 20 * l.levels + 5
+
+abbrev pub decreases-actual : goal.decreases-actual
+decreases-actual l = 20 * l.levels + 4
+
+abbrev pub invariant-summands-loop-op : goal.invariant-summands-loop-op
+invariant-summands-loop-op l = record {
+  shorter : length l.rest ≤ length l.tokens;
+  turning : Turning as_add_op (summand_behind (factor_at l.levels)) (map (λ u. (u.0, term_view u.1)) l.summands.items) l.rest (many as_add_op (summand_behind (factor_at l.levels)) l.tokens);
+}
+
+abbrev pub decreases-summands-loop-op : goal.decreases-summands-loop-op
+decreases-summands-loop-op l = length l.rest
+
+abbrev pub invariant-multipliers-loop-op : goal.invariant-multipliers-loop-op
+invariant-multipliers-loop-op l = record {
+  shorter : length l.rest ≤ length l.tokens;
+  turning : Turning as_mul_op (multiplier_behind (factor_at l.levels)) (map (λ m. (m.0, factor_view m.1)) l.multipliers.items) l.rest (many as_mul_op (multiplier_behind (factor_at l.levels)) l.tokens);
+}
+
+abbrev pub decreases-multipliers-loop-op : goal.decreases-multipliers-loop-op
+decreases-multipliers-loop-op l = length l.rest
+
+abbrev pub invariant-desig_behind-loop-index : goal.invariant-desig_behind-loop-index
+invariant-desig_behind-loop-index l = record {
+  shorter : length l.rest ≤ length l.tokens;
+  turning : Turning as_selector (λ o. selector_behind (expr_at l.levels) o.0 o.1) (map selector_view l.selectors.items) l.rest (many as_selector (λ o. selector_behind (expr_at l.levels) o.0 o.1) l.tokens);
+}
+
+abbrev pub decreases-desig_behind-loop-index : goal.decreases-desig_behind-loop-index
+decreases-desig_behind-loop-index l = length l.rest
+
+abbrev pub invariant-exprs_behind-loop-behind : goal.invariant-exprs_behind-loop-behind
+invariant-exprs_behind-loop-behind l = record {
+  shorter : length l.rest ≤ length l.tokens;
+  turning : Turning (as_sign COMMA) (λ t. expr_at l.levels) (map expr_view l.exprs.items) l.rest (many_onto (expr_view l.fn.first ∷ []) (as_sign COMMA) (λ t. expr_at l.levels) l.tokens);
+}
+
+abbrev pub decreases-exprs_behind-loop-behind : goal.decreases-exprs_behind-loop-behind
+decreases-exprs_behind-loop-behind l = length l.rest
+
+abbrev pub invariant-actuals_behind-loop-behind : goal.invariant-actuals_behind-loop-behind
+invariant-actuals_behind-loop-behind l = record {
+  shorter : length l.rest ≤ length l.tokens;
+  turning : Turning (as_sign COMMA) (λ t. actual_with (expr_at l.levels)) (map actual_view l.args.items) l.rest (many_onto (actual_view l.fn.first ∷ []) (as_sign COMMA) (λ t. actual_with (expr_at l.levels)) l.tokens);
+}
+
+abbrev pub decreases-actuals_behind-loop-behind : goal.decreases-actuals_behind-loop-behind
+decreases-actuals_behind-loop-behind l = length l.rest

@@ -1,0 +1,2 @@
+//! The meaning of programs.
+#![tactic(auto)]

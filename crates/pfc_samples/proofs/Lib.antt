@@ -1,1 +1,4 @@
-pub mod First
+pub mod ByHand
+pub mod MainBodies
+pub mod Readings
+pub mod Worked

@@ -19,12 +19,11 @@ pub record Told : Type 0 where
   pub words : List ℕ
   pub line : ℕ
 
--- a run: its output, its ending, the standings where the report tells them, and the number of its actions
+-- a run: its output, its ending, and the standings where the report tells them
 pub record Shows : Type 0 where
   pub output : List ℕ
   pub ending : Ending
   pub standings : List Told
-  pub actions : ℕ
 
 abbrev pub told : Standing → Option (List ℕ) → List Told → List Told
 told s None rest = rest
@@ -41,7 +40,7 @@ told_behind (Fault p line f) all = []
 told_behind ending all = all_told all
 
 abbrev pub shown : Run → Shows
-shown r = record { output = r.config.output; ending = r.ending; standings = told_behind r.ending (standings r.config); actions = r.config.table.done }
+shown r = record { output = r.config.output; ending = r.ending; standings = told_behind r.ending (standings r.config) }
 
 abbrev pub run_of : Option ProgramTree → List ℕ → ℕ → Picking → ℕ → Option Run
 run_of None input seed picking limit = None
@@ -58,8 +57,8 @@ ran text input seed picking limit = shown_of (run_of (program_in text) input see
 
 -- ## What a sample expects
 
-abbrev pub shows : List ℕ → Ending → List Told → ℕ → Option Shows
-shows output ending standings actions = Some (record { output = output; ending = ending; standings = standings; actions = actions })
+abbrev pub shows : List ℕ → Ending → List Told → Option Shows
+shows output ending standings = Some (record { output = output; ending = ending; standings = standings })
 
 -- a standing of a report
 abbrev pub stands : ℕ → List ℕ → ℕ → Told

@@ -1,5 +1,6 @@
 pub mod Closers
 pub mod Codes
+pub mod Computed
 pub mod Firsts
 pub mod Fronts
 pub mod Lists

@@ -2,11 +2,17 @@
 ghost use Rattle.std.specs.Prelude.{◌≡◌, ℕ, List};
 ghost use Rattle.pfc_base.specs.declared.places.Place.{Place};
 ghost use Rattle.pfc_base.specs.declared.tokens.Token.{Token};
+ghost use Rattle.pfc_scan.specs.Computed.{cut};
 ghost use Rattle.pfc_scan.specs.Cutting.{Cutting, tokens, IsCut, IsWritten, text_start};
 
 /// A text has at most one cutting: its tokens with the place of its end, or one refusal.
 pub fn one_cutting()
     ensures { (text : List ℕ) (a b : Cutting) → IsCut text a → IsCut text b → a ≡ b }
+{}
+
+/// The cutting of a text is computed: it is what the function `cut` gives.
+pub fn a_cutting_is_computed()
+    ensures { (text : List ℕ) → IsCut text (cut text) }
 {}
 
 /// Between the tokens of a text, before the first and after the last, there is white space alone: white bytes and

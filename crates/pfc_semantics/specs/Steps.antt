@@ -1,4 +1,4 @@
--- The step of a process: the one action that comes next.
+-- What an action does, one clause for each kind.
 use Rattle.std.specs.Prelude.{ℕ, ℤ, if◌then◌else◌, Bool, true, false, List, [], ◌∷◌, ◌++◌, Option, Some, None, Result, Ok, Err}
 use Rattle.rand_pcg.specs.Lcg.{Lcg}
 use Rattle.pfc_base.specs.declared.faults.RunFault.{RunFault}
@@ -14,7 +14,7 @@ use Rattle.pfc_semantics.specs.Operators.{simple_of}
 use Rattle.pfc_semantics.specs.Programs.{Block, Program, block_at}
 use Rattle.pfc_semantics.specs.Remainders.{Context, Argument, Call, Remainder, AwaitsValue, Action, leave, in_names, scan_on, to_procedure, to_function, to_module, to_requeue, to_process, to_entry, reads, writes, turns, calls, finishes, prints, inputs, skips, asks_eof, asks_eoln, asks_clock, asks_empty, draws, joins, initials, waits, signals, delays, resumes, sleeps, meets, decides, parts, scans, bars, passes, faults}
 use Rattle.pfc_semantics.specs.Rewriting.{Doing, going, holding, next}
-use Rattle.pfc_semantics.specs.Configurations.{Mark, plain, of_monitor, of_resource, Caller, of_nobody, of_remainder, of_value, Activation, Config, Effect, activity_of, goes_on, holds, value_for, written_for, after}
+use Rattle.pfc_semantics.specs.Configurations.{Mark, plain, of_monitor, of_resource, Caller, of_nobody, of_remainder, of_value, Activation, Config, Effect, activity_of, goes_on, holds, value_for, written_for}
 use Rattle.pfc_semantics.specs.Calls.{called, left_by, result_in}
 use Rattle.pfc_semantics.specs.Processes.{creates, joined, ended_process}
 use Rattle.pfc_semantics.specs.Semaphores.{initials_at, waits_for, signals_to}
@@ -135,13 +135,6 @@ line_of (bars x b k) = x.line
 line_of (passes x w s k) = x.line
 line_of (faults x f) = x.line
 
-abbrev pub act : Program → Config → ℕ → ℕ → Action → Config
-act g c p choice n = after g c p (line_of n) (effect g c p choice n)
-
 -- the action that comes next for a process
 abbrev pub next_of : Program → Config → ℕ → Action
 next_of g c p = next (activity_of g c p).doing
-
--- The configuration behind the step of a ready process: all that is quiet, and then its one action.
-abbrev pub stepped : Program → Config → ℕ → ℕ → Config
-stepped g c p choice = act g c p choice (next_of g c p)

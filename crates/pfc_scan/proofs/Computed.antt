@@ -109,9 +109,11 @@ is_more n h = grind (arith, nat_tests)
 
 number_is : (text : List ℕ) (tail : ℕ) → is_ascii_digit (slice_index text 0) ≡ true → tail ≡ real_len (drop (prefix_len is_ascii_digit text) text)
     → prefix_len is_ascii_digit text + tail ≤ length text → IsNextPiece text (number_piece text (prefix_len is_ascii_digit text) tail)
-number_is text tail h e k = number_next text tail _ h e k (λ x. if_true (tail == 0) _ _ (is_zero tail x)) (λ x. if_false (tail == 0) _ _ (is_more tail x))
+number_is text tail h e k =
+    number_next text tail _ h e k (λ x. if_true (tail == 0) _ _ (is_zero tail x)) (λ x. if_false (tail == 0) _ _ (is_more tail x))
 
-single_is : (text : List ℕ) (o : Option ℕ) → 0 < length text → first_of (slice_index text 0) ≡ Mark → opens_comment text ≡ false → double_number text ≡ None
+single_is :
+    (text : List ℕ) (o : Option ℕ) → 0 < length text → first_of (slice_index text 0) ≡ Mark → opens_comment text ≡ false → double_number text ≡ None
     → sign_number (slice_index text 0 ∷ []) ≡ o → IsNext text (single_sign o)
 single_is text None some first closed d e = sign_none text some first closed d e
 single_is text (Some n) some first closed d e = sign_single text n some first closed d e
@@ -128,11 +130,17 @@ star_first : (rest : List ℕ) → begins_with rest (codes "*") ≡ true → sli
 star_first [] h = cc
 star_first (c ∷ rest) h = sym (eqb-true 42 c (and_parts (42 == c) true h).0)
 
-mark_opened : (b : ℕ) (rest : List ℕ) → first_of b ≡ Mark → opens_comment (b ∷ rest) ≡ true → IsNext (b ∷ rest) (comment_piece 2 (star_close false 0 (drop 2 (b ∷ rest))))
+mark_opened :
+    (b : ℕ) (rest : List ℕ) → first_of b ≡ Mark → opens_comment (b ∷ rest) ≡ true
+    → IsNext (b ∷ rest) (comment_piece 2 (star_close false 0 (drop 2 (b ∷ rest))))
 mark_opened b rest first h =
     elim (or_cases (begins_with (b ∷ rest) (codes "{")) (begins_with (b ∷ rest) (codes "(*")) h) [
-      | inl e ↦ (let same : 123 ≡ b = eqb-true 123 b (and_parts (123 == b) true e).0 in let x : Brace ≡ Mark = ap first_of same ∙ first in absurd (cc))
-      | inr e ↦ (let parts = and_parts (40 == b) (begins_with rest (codes "*")) e in star_is (b ∷ rest) _ (sym (eqb-true 40 b parts.0)) (star_first rest parts.1) refl)
+      | inl e ↦ (
+          let same : 123 ≡ b = eqb-true 123 b (and_parts (123 == b) true e).0 in
+          let x : Brace ≡ Mark = ap first_of same ∙ first in absurd (cc))
+      | inr e ↦ (
+          let parts = and_parts (40 == b) (begins_with rest (codes "*")) e in
+          star_is (b ∷ rest) _ (sym (eqb-true 40 b parts.0)) (star_first rest parts.1) refl)
     ]
 
 mark_is : (b : ℕ) (rest : List ℕ) (o : Bool) → first_of b ≡ Mark → opens_comment (b ∷ rest) ≡ o
@@ -170,9 +178,12 @@ behind_is n more all place text m r h next =
     let few : length (drop m text) ≤ n = omega arith in
     go r next few
   where
-    go : (r : Reading) → IsNextPiece text (record { length = m; reading = r }) → length (drop m text) ≤ n → IsCutFrom place text (cut_behind place text m r more)
+    go : (r : Reading) → IsNextPiece text (record { length = m; reading = r }) → length (drop m text) ≤ n
+        → IsCutFrom place text (cut_behind place text m r more)
     go Gap next few = skipped (take m text) (drop m text) next.longest (all (after place (take m text)) (drop m text) few)
-    go (Token kind) next few = taken (take m text) (drop m text) kind (more (after place (take m text)) (drop m text)) next.longest (all (after place (take m text)) (drop m text) few) refl
+    go (Token kind) next few =
+        taken (take m text) (drop m text) kind (more (after place (take m text)) (drop m text)) next.longest
+        (all (after place (take m text)) (drop m text) few) refl
     go (Refused code) next few = barred (take m text) (drop m text) code next.longest refl
 
 at_is : (n : ℕ) (more : Place → List ℕ → Cutting) → CutsAll n more → (place : Place) (b : ℕ) (bytes : List ℕ) (o : Option Piece)

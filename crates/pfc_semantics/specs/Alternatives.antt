@@ -4,11 +4,10 @@
 -- of its variable, where it is replicated; then its guard; and where that is true or absent, the alternative is open, and its channel, its
 -- message, its receiving variable or its seconds are evaluated. Guards are evaluated once.
 use Rattle.std.specs.Prelude.{ℕ, zero, suc, ◌+◌, ℤ, pos, ◌+ℤ◌, int_le, int_lt, Bool, if◌then◌else◌, List, [], ◌∷◌, ◌++◌, map, Option, Some, None}
-use Rattle.pfc_base.specs.declared.places.Place.{Place}
 use Rattle.pfc_base.specs.declared.faults.RunFault.TheVariants.{Below}
 use Rattle.pfc_tree.specs.declared.tree.Spread.{Spread}
 use Rattle.pfc_tree.specs.trees.Exprs.{ExprTree, DesigTree}
-use Rattle.pfc_tree.specs.trees.Stmts.{StmtTree, StmtTrees, AcceptTree, AltTrees, CommTree, empty, no_stmts, accept, accept_do, alt, no_alts, more_alts, comm_accept, comm_send, comm_receive, timeout, terminate}
+use Rattle.pfc_tree.specs.trees.Stmts.{StmtTrees, AcceptTree, AltTrees, CommTree, empty, accept, accept_do, alt, no_alts, more_alts, comm_accept, comm_send, comm_receive, timeout, terminate}
 use Rattle.pfc_types.specs.Types.{extent}
 use Rattle.pfc_types.specs.Scopes.{meaning_of}
 use Rattle.pfc_types.specs.rules.Constants.{Ordinal, constant_value}

@@ -1,14 +1,14 @@
 -- Calls of procedures and functions, and the end of an activation.
-use Rattle.std.specs.Prelude.{ℕ, ◌+◌, pos, ◌==◌, nat_le, if◌then◌else◌, List, [], ◌∷◌, ◌++◌, length, map, drop, Option, Some, None, Ok, Err}
+use Rattle.std.specs.Prelude.{ℕ, ◌+◌, ◌==◌, nat_le, if◌then◌else◌, List, [], ◌∷◌, ◌++◌, length, map, drop, Option, Some, None, Ok, Err}
 use Rattle.pfc_base.specs.declared.faults.RunFault.TheVariants.{Stack}
 use Rattle.pfc_semantics.specs.Values.{Value}
 use Rattle.pfc_semantics.specs.Store.{variable, with_room, without}
-use Rattle.pfc_semantics.specs.Layouts.{sub_with, laid_names}
+use Rattle.pfc_semantics.specs.Layouts.{sub_with}
 use Rattle.pfc_semantics.specs.Objects.{first_laid}
 use Rattle.pfc_semantics.specs.Displays.{Frame, Display, outward}
-use Rattle.pfc_semantics.specs.Programs.{Block, Program, block_at}
-use Rattle.pfc_semantics.specs.Remainders.{Argument, Remainder, in_names}
-use Rattle.pfc_semantics.specs.Rewriting.{Doing, going, holding}
+use Rattle.pfc_semantics.specs.Programs.{Block, Program}
+use Rattle.pfc_semantics.specs.Remainders.{Argument, Remainder}
+use Rattle.pfc_semantics.specs.Rewriting.{Doing, going}
 use Rattle.pfc_semantics.specs.Configurations.{Mark, plain, Caller, Activation, Activity, Config, Effect, activity_of, with_activity, all_passed, at_work, body_of}
 use Rattle.pfc_types.specs.declared.heads.SubHead.{SubHead}
 

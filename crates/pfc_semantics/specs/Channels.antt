@@ -11,7 +11,7 @@ use Rattle.pfc_semantics.specs.Displays.{Spot}
 use Rattle.pfc_semantics.specs.Programs.{Program}
 use Rattle.pfc_semantics.specs.Remainders.{Context, Replica, Offer, Open, Remainder, to_send, to_receive, to_accept, to_wait, to_end, write_again}
 use Rattle.pfc_semantics.specs.Statements.{behind}
-use Rattle.pfc_semantics.specs.Configurations.{Hand, Config, activity_of, empty_hand, offering, asking, barred_at, goes_on, number_for, written_for}
+use Rattle.pfc_semantics.specs.Configurations.{Hand, Config, activity_of, offering, goes_on, number_for, written_for}
 
 -- ## What is open
 

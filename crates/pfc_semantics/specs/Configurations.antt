@@ -1,9 +1,8 @@
 -- Configurations: all that there is between two actions.
-use Rattle.std.specs.Prelude.{ℕ, ◌+◌, ℤ, pos, unsigned_abs, ◌==◌, Bool, true, false, nat_le, if◌then◌else◌, List, [], ◌∷◌, ◌++◌, length, map, get_or, set, drop, replicate, Option, Some, None, Result, Ok, Err}
-use Rattle.std.specs.List.{list_any}
+use Rattle.std.specs.Prelude.{ℕ, ◌+◌, unsigned_abs, Bool, true, false, List, [], ◌∷◌, length, map, get_or, set, replicate, Option, Some, None, Result, Ok, Err}
 use Rattle.rand_pcg.specs.Lcg.{Lcg}
 use Rattle.pfc_base.specs.declared.faults.RunFault.{RunFault}
-use Rattle.pfc_types.specs.Blocks.{module_at, process_at}
+use Rattle.pfc_types.specs.Blocks.{process_at}
 use Rattle.pfc_types.specs.rules.Expressions.{Env}
 use Rattle.pfc_world.specs.Tables.{Table, start_table}
 use Rattle.pfc_world.specs.Holders.{Held}
@@ -12,13 +11,13 @@ use Rattle.pfc_world.specs.Transitions.{ticked}
 use Rattle.pfc_sched.specs.Draws.{first_draws}
 use Rattle.pfc_values.specs.Inputs.{Left as InputLeft, opened}
 use Rattle.pfc_semantics.specs.Values.{Location, Value, ordinal_of, points}
-use Rattle.pfc_semantics.specs.Store.{Store, with_room, without, value_at, stored}
-use Rattle.pfc_semantics.specs.Objects.{first_laid, of_kind}
+use Rattle.pfc_semantics.specs.Store.{Store, with_room, value_at, stored}
+use Rattle.pfc_semantics.specs.Objects.{of_kind}
 use Rattle.pfc_semantics.specs.Displays.{Spot, Display, located}
 use Rattle.pfc_semantics.specs.Programs.{Block, Program, block_at}
-use Rattle.pfc_semantics.specs.Remainders.{Context, Open, Bar, Argument, by_value, by_reference, Remainder, AwaitsValue, Action, ends, in_names}
+use Rattle.pfc_semantics.specs.Remainders.{Context, Open, Bar, Argument, by_value, by_reference, Remainder, AwaitsValue, ends, in_names}
 use Rattle.pfc_semantics.specs.Statements.{behind}
-use Rattle.pfc_semantics.specs.Rewriting.{Doing, going, holding, next}
+use Rattle.pfc_semantics.specs.Rewriting.{Doing, going, holding}
 
 -- ## Activations
 

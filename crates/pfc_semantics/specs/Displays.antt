@@ -2,7 +2,7 @@
 --
 -- A place of the text names a variable by the scope that declares it: a spot. Where that variable lives depends on who runs there: the
 -- display of an activation says, for each scope in view, to which activation the scope's variables belong.
-use Rattle.std.specs.Prelude.{ℕ, ◌+◌, zero, suc, ◌==◌, if◌then◌else◌, List, [], ◌∷◌, ◌++◌, length, Option, Some, None}
+use Rattle.std.specs.Prelude.{ℕ, ◌+◌, zero, suc, ◌==◌, if◌then◌else◌, List, [], ◌∷◌, ◌++◌, length, Option}
 use Rattle.pfc_types.specs.Scopes.{scope_at}
 use Rattle.pfc_types.specs.Blocks.{Blocks}
 use Rattle.pfc_types.specs.declared.types.TypeId.{TypeId}

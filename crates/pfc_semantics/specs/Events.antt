@@ -1,23 +1,21 @@
 -- What an action was: its process and its line, the bytes that it wrote, the variables that it read or wrote, whom it made ready, and at which
 -- objects it synchronised. A trace and a report of races are functions of this.
-use Rattle.std.specs.Prelude.{ℕ, ◌+◌, Bool, true, false, not, ◌&&◌, if◌then◌else◌, List, [], ◌∷◌, ◌++◌, length, drop, Option, Some, None, slice_get, Result, Ok, Err}
-use Rattle.pfc_base.specs.declared.faults.RunFault.{RunFault}
+use Rattle.std.specs.Prelude.{ℕ, ◌+◌, Bool, true, false, not, ◌&&◌, if◌then◌else◌, List, [], ◌∷◌, ◌++◌, length, drop, Option, Some, None, slice_get, Ok, Err}
 use Rattle.pfc_types.specs.Blocks.{module_at}
 use Rattle.pfc_state.specs.Stands.{Stand, is_ready}
 use Rattle.pfc_state.specs.declared.waits.Arm.{Arm}
 use Rattle.pfc_state.specs.declared.waits.Arm.TheVariants.{Send as To, Receive as From, Accept as Entry}
 use Rattle.pfc_world.specs.Partners.{is_accepting}
-use Rattle.pfc_semantics.specs.Values.{Location, Value, ordinal, compound, points}
+use Rattle.pfc_semantics.specs.Values.{Location, Value, points}
 use Rattle.pfc_semantics.specs.Objects.{module_number}
 use Rattle.pfc_semantics.specs.Displays.{Frame, Spot, frame_of}
 use Rattle.pfc_semantics.specs.Programs.{Program}
-use Rattle.pfc_semantics.specs.Remainders.{Context, Accepting, Offer, Open, Selecting, Argument, Call, Action, to_send, to_receive, to_accept, to_wait, to_end, to_procedure, to_function, to_module, to_requeue, to_process, to_entry, reads, writes, turns, calls, finishes, prints, inputs, skips, asks_eof, asks_eoln, asks_clock, asks_empty, draws, joins, initials, waits, signals, delays, resumes, sleeps, meets, decides, parts, scans, bars, passes, faults}
+use Rattle.pfc_semantics.specs.Remainders.{Accepting, Offer, Open, Argument, Call, Action, to_send, to_receive, to_accept, to_wait, to_end, to_module, to_requeue, to_entry, reads, writes, calls, finishes, inputs, asks_empty, initials, waits, signals, delays, resumes, meets, decides, parts, scans, bars, passes}
 use Rattle.pfc_semantics.specs.Configurations.{Mark, plain, of_monitor, of_resource, Activation, Config, Effect, activity_of, location_for, number_for, all_passed, after}
 use Rattle.pfc_semantics.specs.Channels.{Side, arm_of, side_of}
 use Rattle.pfc_semantics.specs.Rendezvous.{asked}
 use Rattle.pfc_semantics.specs.Selects.{partner_at, matched_places, open_at, place_taken}
 use Rattle.pfc_semantics.specs.Monitors.{monitor_of}
-use Rattle.pfc_semantics.specs.Resources.{resource_marked}
 use Rattle.pfc_semantics.specs.Steps.{next_of, line_of, effect}
 
 -- a read or a write of what lies at a location

@@ -103,7 +103,9 @@ finish_call c f t u go v = with_number c (applied f (simple_of t) (ordinal_of v)
 
 -- A predeclared function. How its argument is evaluated is given, as a value and as a variable. `eof`, `eoln` and `clock` have none, and
 -- `empty` asks of a condition.
-abbrev pub from_function : Context → Function → Option TypeId → AwaitsValue → (Value → Action) → (AwaitsValue → (Value → Action) → Action) → (AwaitsLocation → (TypedSpot → Action) → Action) → Action
+abbrev pub from_function :
+    Context → Function → Option TypeId → AwaitsValue → (Value → Action) → (AwaitsValue → (Value → Action) → Action)
+    → (AwaitsLocation → (TypedSpot → Action) → Action) → Action
 from_function c eof t u go value variable = asks_eof c u
 from_function c eoln t u go value variable = asks_eoln c u
 from_function c clock t u go value variable = asks_clock c u
@@ -112,7 +114,9 @@ from_function c f t u go value variable = value (apply f t u) (finish_call c f t
 
 -- A name with its selectors or arguments: a constant, a variable, a function of the program, or a predeclared function. How its selectors
 -- lead to a variable, how its arguments are evaluated, and how that of a predeclared function is, is given.
-abbrev pub from_name : Context → Option Meaning → AwaitsValue → (Value → Action) → (AwaitsLocation → (TypedSpot → Action) → Action) → (List Formal → Call → Action) → (Function → Action) → Action
+abbrev pub from_name :
+    Context → Option Meaning → AwaitsValue → (Value → Action) → (AwaitsLocation → (TypedSpot → Action) → Action)
+    → (List Formal → Call → Action) → (Function → Action) → Action
 from_name c (Some (Constant t n)) u go variable called predeclared = go (ordinal n)
 from_name c (Some (Variable t reference)) u go variable called predeclared = variable (read_for u) (λ s. reads c s.spot u)
 from_name c (Some (Sub n)) u go variable called predeclared =
@@ -126,7 +130,8 @@ abbrev mutual
   pub from_expr : Context → ExprTree → AwaitsValue → (Value → Action) → Action
   from_expr c (plain s p) u go = from_simple c s u go
   from_expr c (related s r t p) u go =
-      from_simple c s (compare_with r.0 t u) (λ a. from_simple c t (compare_to (ordinal_of a) r.0 u) (λ b. go (ordinal (compared r.0 (ordinal_of a) (ordinal_of b)))))
+      from_simple c s (compare_with r.0 t u)
+      (λ a. from_simple c t (compare_to (ordinal_of a) r.0 u) (λ b. go (ordinal (compared r.0 (ordinal_of a) (ordinal_of b)))))
 
   pub from_simple : Context → SimpleTree → AwaitsValue → (Value → Action) → Action
   from_simple c (sum None first no_summands) u go = from_term c first u go
@@ -147,7 +152,8 @@ abbrev mutual
   pub from_multipliers : Context → Value → MultiplierTrees → AwaitsValue → (Value → Action) → Action
   from_multipliers c a no_multipliers u go = go a
   from_multipliers c a (more_multipliers op f rest) u go =
-      from_factor c f (multiply_by (ordinal_of a) op.0 rest u) (λ b. with_number c (multiplied op.0 (ordinal_of a) (ordinal_of b)) (λ n. from_multipliers c n rest u go))
+      from_factor c f (multiply_by (ordinal_of a) op.0 rest u)
+      (λ b. with_number c (multiplied op.0 (ordinal_of a) (ordinal_of b)) (λ n. from_multipliers c n rest u go))
 
   pub from_factor : Context → FactorTree → AwaitsValue → (Value → Action) → Action
   from_factor c (number n p) u go = go (ordinal n)

@@ -6,12 +6,11 @@
 use Rattle.std.specs.Prelude.{ℕ, ◌+◌, ◌==◌, Bool, true, false, nat_lt, if◌then◌else◌, List, [], ◌∷◌, ◌++◌, length, take, drop, position, Option, Some, None}
 use Rattle.pfc_types.specs.Scopes.{Names, scope_at}
 use Rattle.pfc_types.specs.Blocks.{Blocks, module_at}
-use Rattle.pfc_types.specs.declared.types.TypeId.{TypeId}
 use Rattle.pfc_types.specs.declared.scope.Meaning.{Meaning}
 use Rattle.pfc_types.specs.declared.scope.Meaning.TheVariants.{Variable, Process, Module}
 use Rattle.pfc_types.specs.declared.heads.SubHead.{SubHead}
 use Rattle.pfc_types.specs.declared.heads.SubSort.{SubSort}
-use Rattle.pfc_types.specs.declared.heads.SubSort.TheVariants.{Procedure, Guarded, Function}
+use Rattle.pfc_types.specs.declared.heads.SubSort.TheVariants.{Function}
 
 -- what each place of a layout is: a variable of some type, or a single process
 abbrev pub Layout : Type 0

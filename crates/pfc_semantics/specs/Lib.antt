@@ -17,6 +17,7 @@ pub mod Rendezvous
 pub mod Resources
 pub mod Rewriting
 pub mod Runs
+pub mod Seen
 pub mod Selects
 pub mod Semaphores
 pub mod Statements

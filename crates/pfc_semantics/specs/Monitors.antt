@@ -1,5 +1,5 @@
 -- Monitors and their conditions.
-use Rattle.std.specs.Prelude.{ℕ, ℤ, pos, ◌==◌, Bool, true, false, if◌then◌else◌, List, [], ◌∷◌, get_or, Ok}
+use Rattle.std.specs.Prelude.{ℕ, ℤ, ◌==◌, Bool, false, if◌then◌else◌, List, [], get_or, Ok}
 use Rattle.std.specs.List.{list_any}
 use Rattle.pfc_state.specs.declared.waits.Why.TheVariants.{Condition}
 use Rattle.pfc_world.specs.Transitions.{blocked}
@@ -11,7 +11,7 @@ use Rattle.pfc_semantics.specs.Values.{ordinal}
 use Rattle.pfc_semantics.specs.Displays.{Spot}
 use Rattle.pfc_semantics.specs.Programs.{Block, Program}
 use Rattle.pfc_semantics.specs.Remainders.{Context, Argument, Remainder, AwaitsValue}
-use Rattle.pfc_semantics.specs.Configurations.{Mark, Caller, Activation, Config, Effect, plain, of_monitor, of_resource, activity_of, goes_on, holds, number_for, monitors_held, with_monitors, body_of}
+use Rattle.pfc_semantics.specs.Configurations.{Mark, Caller, Config, Effect, plain, of_monitor, of_resource, activity_of, goes_on, holds, number_for, monitors_held, with_monitors, body_of}
 use Rattle.pfc_semantics.specs.Calls.{cells_above, unless_full, activated}
 
 -- A call from outside makes the activation and asks to enter, in one action: a free monitor is the caller's, else it waits.

@@ -1,5 +1,5 @@
 -- What operators and functions give of numbers, or the fault that they end in.
-use Rattle.std.specs.Prelude.{ℤ, Bool, List, [], ◌∷◌, get_or, not, Option, Some, None, Ok, int_lt, int_le}
+use Rattle.std.specs.Prelude.{ℤ, Bool, [], ◌∷◌, get_or, not, Option, Some, None, Ok, int_lt, int_le}
 use Rattle.std.specs.Ordering.{int_eq}
 use Rattle.pfc_base.specs.declared.places.Place.{Place}
 use Rattle.pfc_tree.specs.declared.tree.Sign.{Sign}

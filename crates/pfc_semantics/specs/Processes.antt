@@ -1,11 +1,11 @@
 -- Processes: activation, the wait at `coend`, and their end.
-use Rattle.std.specs.Prelude.{ℕ, ◌+◌, ◌-◌, if◌then◌else◌, List, [], ◌∷◌, length, map, get_or, Ok, Err}
+use Rattle.std.specs.Prelude.{ℕ, ◌-◌, if◌then◌else◌, List, [], ◌∷◌, length, get_or, Ok, Err}
 use Rattle.pfc_base.specs.declared.faults.RunFault.TheVariants.{Active}
 use Rattle.pfc_types.specs.Scopes.{scope_at}
 use Rattle.pfc_state.specs.declared.waits.Why.TheVariants.{Coend}
-use Rattle.pfc_state.specs.Stands.{Stand, Is_created, is_unfinished}
-use Rattle.pfc_world.specs.Tables.{Table, at, some_created}
-use Rattle.pfc_world.specs.Transitions.{placed, blocked, all_started, begun, finished}
+use Rattle.pfc_state.specs.Stands.{Is_created, is_unfinished}
+use Rattle.pfc_world.specs.Tables.{at, some_created}
+use Rattle.pfc_world.specs.Transitions.{placed, blocked, all_started, finished}
 use Rattle.pfc_semantics.specs.Values.{Value}
 use Rattle.pfc_semantics.specs.Store.{Store, with_room, without}
 use Rattle.pfc_semantics.specs.Layouts.{laid_names}

@@ -1,8 +1,7 @@
 -- The blocks of a program: what is known of each body before anything runs.
 use Rattle.std.specs.Prelude.{ℕ, ◌+◌, ◌==◌, false, true, Bool, if◌then◌else◌, List, [], ◌∷◌, ◌++◌, take, drop, sum_by, position, Option, Some, None, unwrap_or}
-use Rattle.pfc_base.specs.declared.places.Place.{Place}
 use Rattle.pfc_tree.specs.trees.Exprs.{ExprTree}
-use Rattle.pfc_tree.specs.trees.Stmts.{StmtTrees, BodyTree, no_stmts, body}
+use Rattle.pfc_tree.specs.trees.Stmts.{StmtTrees, BodyTree, body}
 use Rattle.pfc_tree.specs.trees.Parts.{KindTree, PartTree, PartTrees, SubTree, ModuleTree, ProcessTree, ProgramTree, procedure, function, guarded, consts, types, vars, sub_part, monitor, resource, process_part, no_parts, more_parts, sub, the_module, process}
 use Rattle.pfc_types.specs.Types.{Forms}
 use Rattle.pfc_types.specs.Scopes.{Level, scope_at, here}
@@ -14,7 +13,7 @@ use Rattle.pfc_types.specs.rules.Bodies.{env_at, around_main, around_nothing, ar
 use Rattle.pfc_types.specs.rules.Whole.{finished}
 use Rattle.pfc_semantics.specs.Values.{Value}
 use Rattle.pfc_semantics.specs.Layouts.{Layout, main_layout, sub_layout_at, process_layout}
-use Rattle.pfc_semantics.specs.Objects.{Objects, Numbered, all_first, main_objects}
+use Rattle.pfc_semantics.specs.Objects.{Objects, all_first, main_objects}
 
 -- the guard of a guarded procedure, with the names in view there and the line of its `when`
 pub record Guard : Type 0 where
@@ -108,7 +107,7 @@ abbrev mutual
       let guard = guard_of (env_at s (level next count ∷ level i n ∷ outer) (around_guard i)) kind in
       parts_blocks s in_process next count around (next + 1) ps
       ++ block_of next i (env_at s (here s.blocks.scopes next around) (around_sub in_process kind)) (next + 1 + parts_scopes ps) b
-          (sub_layout_at s.blocks next) 0 guard ∷ []
+      (sub_layout_at s.blocks next) 0 guard ∷ []
 
   pub module_blocks : State → ℕ → ℕ → List Level → ℕ → ModuleTree → List Block
   module_blocks s i n outer next (the_module x exports ps b last p) = parts_blocks s false next 0 (level i n ∷ outer) (next + 1) ps
@@ -121,7 +120,7 @@ abbrev mutual
       let inner = next + 1 + parts_scopes ps in
       parts_blocks s true next count around (next + 1) ps
       ++ block_of next i (env_at s (here s.blocks.scopes next around) around_process) inner b
-          (process_layout own (take (body_scopes b) (drop inner s.blocks.scopes))) (body_scopes b) None ∷ []
+      (process_layout own (take (body_scopes b) (drop inner s.blocks.scopes))) (body_scopes b) None ∷ []
 
 -- an initialising body: its variables are main's
 abbrev pub init_block : State → ℕ → List Level → ℕ → Option BodyTree → List Block

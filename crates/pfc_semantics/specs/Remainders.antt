@@ -1,7 +1,7 @@
 -- What a process has still to do: source text that is left, innermost first.
 --
--- There are three sorts, by what they wait for: a statement that ends, a value, or a location, which a spot names. So a value never meets a statement, and nothing
--- is ever stuck. A remainder names variables by their spots; it knows no activation.
+-- There are three sorts, by what they wait for: a statement that ends, a value, or a location, which a spot names. So a value never
+-- meets a statement, and nothing is ever stuck. A remainder names variables by their spots; it knows no activation.
 use Rattle.std.specs.Prelude.{ℕ, ℤ, Bool, List, Option}
 use Rattle.pfc_base.specs.declared.places.Place.{Place}
 use Rattle.pfc_base.specs.declared.faults.RunFault.{RunFault}

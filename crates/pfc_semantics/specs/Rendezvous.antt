@@ -8,12 +8,11 @@ use Rattle.pfc_world.specs.Partners.{is_accepting}
 use Rattle.pfc_world.specs.Rendezvous.{is_uncalled, called, meeting_ended}
 use Rattle.pfc_semantics.specs.Values.{Value}
 use Rattle.pfc_semantics.specs.Store.{values_in, with_values}
-use Rattle.pfc_semantics.specs.Displays.{Frame, Spot, frame_of}
+use Rattle.pfc_semantics.specs.Displays.{Spot, frame_of}
 use Rattle.pfc_semantics.specs.Programs.{Program}
 use Rattle.pfc_semantics.specs.Remainders.{Context, Accepting, Offer, Open, Argument, Remainder, to_accept, perform, in_names, part_from}
 use Rattle.pfc_semantics.specs.Statements.{behind}
-use Rattle.pfc_semantics.specs.Rewriting.{going}
-use Rattle.pfc_semantics.specs.Configurations.{Hand, Config, Effect, activity_of, asking, empty_hand, goes_on, doing_next, showing, with_table, number_for, all_passed}
+use Rattle.pfc_semantics.specs.Configurations.{Hand, Config, Effect, activity_of, asking, empty_hand, goes_on, showing, with_table, number_for, all_passed}
 use Rattle.pfc_semantics.specs.Channels.{Side, side_of, behind_replica}
 
 -- ## The meeting
@@ -34,7 +33,7 @@ abbrev pub meeting_of : Context → Accepting → Open → ℕ → Remainder →
 meeting_of x a o caller k =
     behind_replica o.replica
     (in_names (within_accept x.env a.scope)
-      (perform (a.scope + 1) (more_stmts a.stmt no_stmts) (part_from caller a.line (in_names x.env (behind o.next o.stmts k)))))
+    (perform (a.scope + 1) (more_stmts a.stmt no_stmts) (part_from caller a.line (in_names x.env (behind o.next o.stmts k)))))
 
 -- The meeting of a process with a caller begins: the accept's parameters take the caller's values and references, and the process is at the
 -- accept's statement.

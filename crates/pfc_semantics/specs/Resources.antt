@@ -1,6 +1,6 @@
 -- Resources: guards, scans and requeues.
-use Rattle.std.specs.Prelude.{ℕ, ◌+◌, if◌then◌else◌, List, [], ◌∷◌, get_or, Option, Some, None, Ok, Err}
-use Rattle.pfc_state.specs.Stands.{Stand, Waits, ticket_of}
+use Rattle.std.specs.Prelude.{ℕ, List, [], ◌∷◌, get_or, Option, Some, None, Ok}
+use Rattle.pfc_state.specs.Stands.{ticket_of}
 use Rattle.pfc_world.specs.Tables.{at}
 use Rattle.pfc_world.specs.Partners.{next_barred}
 use Rattle.pfc_world.specs.Resources.{resource_entered, given_up, barred, passed_to, requeued}
@@ -8,7 +8,7 @@ use Rattle.pfc_semantics.specs.Store.{with_room, without}
 use Rattle.pfc_semantics.specs.Programs.{Guard, Block, Program, block_number}
 use Rattle.pfc_semantics.specs.Remainders.{Context, Bar, Way, Scan, Tried, Argument, Remainder, leave, own, in_names, try_guard, scan_on, try_other}
 use Rattle.pfc_semantics.specs.Rewriting.{going}
-use Rattle.pfc_semantics.specs.Configurations.{Mark, Caller, Hand, Activation, Activity, Config, Effect, plain, of_monitor, of_resource, barred_at, activity_of, with_activity, at_work, goes_on, showing, all_passed, resources_held, with_resources, body_of}
+use Rattle.pfc_semantics.specs.Configurations.{Mark, Caller, Hand, Activation, Config, Effect, of_resource, barred_at, activity_of, with_activity, at_work, goes_on, showing, all_passed, resources_held, with_resources, body_of}
 use Rattle.pfc_semantics.specs.Calls.{cells_above, unless_full, new_number, new_values, new_display, activated}
 
 -- ## Guards

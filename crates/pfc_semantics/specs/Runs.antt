@@ -15,7 +15,7 @@ use Rattle.pfc_semantics.specs.Configurations.{Activity, Config, FaultAt, start}
 use Rattle.pfc_semantics.specs.Time.{settled_config}
 use Rattle.pfc_semantics.specs.Selects.{choices}
 use Rattle.pfc_semantics.specs.Steps.{next_of}
-use Rattle.pfc_semantics.specs.Events.{Event, Step, step}
+use Rattle.pfc_semantics.specs.Events.{Event, step}
 
 -- ## How a run ends
 
@@ -75,11 +75,11 @@ run_from g limit (suc left) picking c =
     let behind = after_pick picking s.table.rows in
     unless_ended s
     (by_pick s behind
-      (λ p.
-        let m = choices g s p (next_of g s p) in
-        let t = step g s p (choice_among behind m) in
-        behind_event t.event (run_from g limit left (behind_choice behind m) t.config))
-      (picked picking s.table.rows))
+    (λ p.
+    let m = choices g s p (next_of g s p) in
+    let t = step g s p (choice_among behind m) in
+    behind_event t.event (run_from g limit left (behind_choice behind m) t.config))
+    (picked picking s.table.rows))
     (ending_at s)
 
 -- the run of a program, over an input, a seed of `random`, a way of picking, and at most so many actions

@@ -1,5 +1,5 @@
 -- Selects, and plain communication.
-use Rattle.std.specs.Prelude.{ℕ, ◌+◌, ◌*◌, ℤ, unsigned_abs, ◌==◌, Bool, true, false, ◌||◌, nat_le, if◌then◌else◌, List, [], ◌∷◌, length, Option, Some, None, slice_get, Ok, Err}
+use Rattle.std.specs.Prelude.{ℕ, ◌+◌, ◌*◌, unsigned_abs, ◌==◌, Bool, true, false, nat_le, if◌then◌else◌, List, [], ◌∷◌, length, Option, Some, None, slice_get, Ok, Err}
 use Rattle.std.specs.List.{list_any}
 use Rattle.pfc_base.specs.declared.faults.RunFault.TheVariants.{Late, Closed}
 use Rattle.pfc_state.specs.declared.waits.Arm.{Arm}

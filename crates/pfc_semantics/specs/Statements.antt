@@ -9,10 +9,10 @@ use Rattle.pfc_base.specs.declared.faults.RunFault.{RunFault}
 use Rattle.pfc_base.specs.declared.faults.RunFault.TheVariants.{Case}
 use Rattle.pfc_tree.specs.Symbols.{Text}
 use Rattle.pfc_tree.specs.declared.tree.Constant.{Constant}
-use Rattle.pfc_tree.specs.trees.Exprs.{ExprTree, FactorTree, DesigTree, SelectorTrees, ActualTree, ActualTrees, plain, sum, no_summands, product, no_multipliers, paren, applied as used, desig, no_selectors, more_selectors, actual, actual_width, no_actuals, more_actuals}
+use Rattle.pfc_tree.specs.trees.Exprs.{ExprTree, FactorTree, DesigTree, SelectorTrees, ActualTree, ActualTrees, plain, sum, no_summands, product, no_multipliers, paren, applied as used, desig, no_selectors, actual, actual_width, no_actuals, more_actuals}
 use Rattle.pfc_tree.specs.trees.Stmts.{StmtTree, StmtTrees, ArmTrees, empty, null, block, if_then, if_then_else, case_of, while_do, repeat_until, repeat_forever, for_do, cobegin, accepting, requeue, select, select_else, assign, send, receive, call, no_stmts, more_stmts, body, arm, no_arms, more_arms}
 use Rattle.pfc_types.specs.Types.{is_simple, process_form, form_of}
-use Rattle.pfc_types.specs.Scopes.{Names, meaning_of, meaning_in, scope_at}
+use Rattle.pfc_types.specs.Scopes.{meaning_of, meaning_in, scope_at}
 use Rattle.pfc_types.specs.Blocks.{Blocks, sub_at, module_at, process_at, entry_at}
 use Rattle.pfc_types.specs.rules.Constants.{Ordinal, constant_value, is_char}
 use Rattle.pfc_types.specs.rules.Expressions.{Env, find, as_desig, as_literal, expr_type, desig_type, selected}

@@ -3,7 +3,7 @@
 -- It knows no cells and no addresses. Main's activation has the number 0. Any other has the number, from 1, of the action that made
 -- it, so no number is ever used twice. An activation that has ended has no variables any more.
 use Rattle.std.specs.Prelude.{ℕ, pos, ◌==◌, if◌then◌else◌, List, [], ◌∷◌, ◌++◌, get_or, set}
-use Rattle.pfc_semantics.specs.Values.{Selector, Location, Value, ordinal, points, part, with_part, path_of}
+use Rattle.pfc_semantics.specs.Values.{Selector, Location, Value, ordinal, part, with_part, path_of}
 
 -- the variables of one activation, in the order of its block's layout
 pub record Room : Type 0 where

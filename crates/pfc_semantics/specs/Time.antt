@@ -1,6 +1,5 @@
 -- Time, and settling.
-use Rattle.std.specs.Prelude.{ℕ, ◌+◌, ◌*◌, ◌/◌, ℤ, pos, negsuc, zero, suc, Bool, nat_le, if◌then◌else◌, List, [], ◌∷◌, Ok, Err}
-use Rattle.pfc_base.specs.declared.faults.RunFault.{RunFault}
+use Rattle.std.specs.Prelude.{ℕ, ◌+◌, ◌*◌, ◌/◌, ℤ, pos, negsuc, zero, suc, nat_le, if◌then◌else◌, List, [], ◌∷◌, Ok, Err}
 use Rattle.pfc_base.specs.declared.faults.RunFault.TheVariants.{Below, Late}
 use Rattle.pfc_state.specs.declared.waits.Why.TheVariants.{Sleep}
 use Rattle.pfc_state.specs.Stands.{Stand, may_end}

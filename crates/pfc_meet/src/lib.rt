@@ -9,6 +9,8 @@
 mod partners;
 mod rendezvous;
 mod selects;
+mod terminating;
 
 pub use rendezvous::{Accepted, Called, Uncalled, accept, call_entry, end_accept};
 pub use selects::{Committed, matches, select_commit, select_wait};
+pub use terminating::terminate_all;

@@ -6,7 +6,9 @@
 #![tactic(auto)]
 
 mod channels;
+mod laws;
 mod semaphores;
 
 pub use channels::{Passed, receive, send};
+pub use laws::a_signal_frees_the_first_alone;
 pub use semaphores::{Semaphores, sem_initial, sem_signal, sem_wait};

@@ -1,9 +1,11 @@
 pub mod AfterSettling
 pub mod BestSoFar
 pub mod Changes
+pub mod ChildrenEnd
 pub mod FirstIs
 pub mod Kept
 pub mod Maps
+pub mod Nobody
 pub mod Offering
 pub mod Open
 pub mod Ranks

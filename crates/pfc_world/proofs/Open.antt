@@ -1,5 +1,5 @@
 -- Who is open to a communication: the first of those who wait for it in a plain statement and of those who offer it in a select.
-use Rattle.std.proofs.Common.{◌≡◌, ℕ, ◌<◌, ◌≤◌, Bool, true, false, nat_lt, Option, None, Some, List, arith, refl, sym, ap, ◌∙◌, subst, cond}
+use Rattle.std.proofs.Common.{◌≡◌, ℕ, ◌≤◌, Bool, true, false, nat_lt, Option, None, Some, List, arith, refl, sym, ap, ◌∙◌, subst, cond}
 use Rattle.std.specs.Prelude.{MatchOption}
 use Rattle.std.proofs.lemmas.Bool.Decides.{nat_tests}
 use Rattle.pfc_state.specs.declared.waits.Arm.{Arm}
@@ -25,7 +25,7 @@ same-ticket true ticket t h = h
 same-ticket false ticket t h = cc
 
 -- each key gives no number but the ticket
-at-gives : (why : Why) → GivesTickets (ticket_at why)
+pub at-gives : (why : Why) → GivesTickets (ticket_at why)
 at-gives why (Waits cause ticket arms) t h = same-ticket (same_why cause why) ticket t h
 at-gives why Is_idle t h = no-ticket _ t h
 at-gives why Is_created t h = no-ticket _ t h

@@ -392,7 +392,7 @@ impl World {
         any_unfinished(&self.rows[1..]) && all_may_end(&self.rows[1..])
     }
 
-    fn release(&mut self)
+    pub(crate) fn release(&mut self)
         ensures { self.new ≡ released self.old }
     {
         if self.is_released() {
@@ -409,7 +409,7 @@ impl World {
         row.finish(r);
     }
 
-    fn end(&mut self, p: u32)
+    pub(crate) fn end(&mut self, p: u32)
         requires { IsWaiting (at self.old.rows p) }
         ensures { self.new ≡ placed self.old p Is_done }
     {

@@ -7,7 +7,9 @@
 #![tactic(auto)]
 
 mod conditions;
+mod laws;
 mod monitors;
 
 pub use conditions::{delay, is_empty, resume};
+pub use laws::{a_free_monitor_is_wanted_by_nobody, the_latest_resumer_comes_before_any_entrant};
 pub use monitors::{Monitors, enter, leave};

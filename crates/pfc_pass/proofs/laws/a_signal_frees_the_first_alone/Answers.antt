@@ -1,4 +1,4 @@
-use Rattle.std.proofs.Common.{◌≡◌, ap, ◌∙◌}
+use Rattle.std.proofs.Common.{ap, ◌∙◌}
 use Rattle.std.proofs.lemmas.List.{get_or-set_other}
 use Rattle.pfc_state.specs.declared.waits.Why.TheVariants.{Semaphore}
 use Rattle.pfc_state.specs.Stands.{Is_idle, Is_ready, ticket_at}

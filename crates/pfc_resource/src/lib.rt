@@ -6,8 +6,12 @@
 //! knows no activation.
 #![tactic(auto)]
 
+mod laws;
 mod resources;
 mod scans;
 
+pub use laws::{
+    a_free_resource_is_wanted_by_nobody, barred_processes_are_tried_in_the_order_of_tickets,
+};
 pub use resources::{Resources, enter, leave};
 pub use scans::{Barred, bar, pass_to, requeue, scan_next};

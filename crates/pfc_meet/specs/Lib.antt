@@ -1,3 +1,4 @@
 pub mod Choices
 pub mod Matches
 pub mod Meetings
+pub mod Unpaired

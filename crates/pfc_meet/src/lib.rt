@@ -6,11 +6,15 @@
 //! one select and over no processes, evaluates no guard, moves no value, and makes no choice among matched alternatives.
 #![tactic(auto)]
 
+mod laws;
 mod partners;
 mod rendezvous;
 mod selects;
 mod terminating;
 
+pub use laws::{
+    a_partner_is_another_process, nobody_waits_for_one_who_waits_for_it, processes_terminate_once,
+};
 pub use rendezvous::{Accepted, Called, Uncalled, accept, call_entry, end_accept};
 pub use selects::{Committed, matches, select_commit, select_wait};
 pub use terminating::terminate_all;

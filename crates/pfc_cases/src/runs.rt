@@ -84,7 +84,7 @@ fn run_each<O: Sink>(
             written.extend_from_slice(decimal(alloc, number)?.bytes())?;
         }
         written.push(b' ')?;
-        add_shown(&mut written, &bytes)?;
+        add_shown(alloc, &mut written, &bytes)?;
         written.push(b'\n')?;
         write_all(sink, &written)?;
     }
@@ -102,9 +102,15 @@ fn run(alloc: Global, text: Vec<u8>, way: &Way) -> Result<(u8, Vec<u8>), Stop> {
     Ok((status, sink.written))
 }
 
-/// Adds bytes with `\n` for each line end.
-fn add_shown(written: &mut Vec<u8>, bytes: &[u8]) -> Result<(), Stop> {
-    for b in bytes {
+/// Adds bytes with `\n` for each line end; where there are more than 4,000, their number and the last 100.
+fn add_shown(alloc: Global, written: &mut Vec<u8>, bytes: &[u8]) -> Result<(), Stop> {
+    let mut shown = bytes;
+    if bytes.len() > 4_000 {
+        written.extend_from_slice(decimal(alloc, bytes.len() as i64)?.bytes())?;
+        written.extend_from_slice(b" bytes, at last ")?;
+        shown = &bytes[bytes.len() - 100..];
+    }
+    for b in shown {
         match *b {
             b'\n' => written.extend_from_slice(b"\\n")?,
             other => written.push(other)?,

@@ -252,7 +252,9 @@ true].y[1] := 'c'; q := (p[1, false]); q.x := p[1][true].x end.",
 fn checked(alloc: Global, tokens: &[Token]) -> Option<Checked>
     requires { length tokens.now ≤ 262144 }
 {
-    let tree = parse(alloc, tokens).ok()?;
+    let Ok(tree) = parse(alloc, tokens) else {
+        return None;
+    };
     match check(alloc, tree) {
         Ok(tree) => Some(tree),
         Err(_fault) => None,
@@ -264,7 +266,9 @@ fn tree_of(alloc: Global, text: &[u8]) -> Option<Checked> {
     if text.len() > 262_144 {
         return None;
     }
-    let scanned = scan(alloc, text).ok()?;
+    let Ok(scanned) = scan(alloc, text) else {
+        return None;
+    };
     checked(alloc, &scanned.tokens)
 }
 

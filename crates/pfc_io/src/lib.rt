@@ -11,8 +11,6 @@ mod memory_sink;
 mod output;
 mod shelf;
 mod sink;
-#[cfg(test)]
-mod tests;
 
 pub use disk::DiskShelf;
 pub use memory_shelf::MemoryShelf;

@@ -173,7 +173,7 @@ fn who_is_due_is_woken_without_a_move_of_the_clock(alloc: Global) -> Result<[boo
 fn nobody_may_be_left(alloc: Global) -> Result<bool, Memory> {
     let mut world = World::with_processes(alloc, 4, 0)?;
     let main = world.begin(0);
-    world.block(main, Why::Semaphore(2));
+    world.block(main, Why::Condition { number: 2, rank: 0 });
     Ok((world.settle(), world.now()) == (Settled::NobodyReady, 0))
 }
 

@@ -5,6 +5,7 @@ use pfc_base::{Memory, Token};
 use pfc_check::check;
 use pfc_code::{Image, print_code};
 use pfc_gen::{GenFault, generate};
+use pfc_meaning::unbuilt;
 use pfc_parse::parse;
 use pfc_scan::scan;
 use pfc_types::Checked;
@@ -274,7 +275,11 @@ fn tree_of(alloc: Global, text: &[u8]) -> Option<Checked> {
 
 /// The image of a text, None where it has none.
 fn image_of(alloc: Global, text: &str) -> Option<Image> {
-    match generate(alloc, &tree_of(alloc, text.as_bytes())?) {
+    let tree = tree_of(alloc, text.as_bytes())?;
+    if unbuilt(tree.tree()) {
+        return None;
+    }
+    match generate(alloc, &tree) {
         Ok(image) => Some(image),
         Err(_) => None,
     }
@@ -285,6 +290,9 @@ fn is_coded(alloc: Global, text: &str, listing: &str) -> bool {
     let Some(tree) = tree_of(alloc, text.as_bytes()) else {
         return false;
     };
+    if unbuilt(tree.tree()) {
+        return false;
+    }
     let Ok(image) = generate(alloc, &tree) else {
         return false;
     };
@@ -360,6 +368,9 @@ fn length_of_long(alloc: Global, n: u32) -> Result<Option<Result<usize, GenFault
     let Some(tree) = tree_of(alloc, &text) else {
         return Ok(None);
     };
+    if unbuilt(tree.tree()) {
+        return Ok(None);
+    }
     Ok(Some(match generate(alloc, &tree) {
         Ok(image) => Ok(image.code.len()),
         Err(fault) => Err(fault),

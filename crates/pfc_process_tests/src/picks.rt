@@ -1,5 +1,5 @@
 //! Picks over a table of four processes of which two are ready, and draws.
-ghost use Rattle.std.specs.Prelude.{◌≡◌, None, Some, [], ◌∷◌, length, IfOk};
+ghost use Rattle.std.specs.Prelude.{◌≡◌, ◌<◌, None, Some, [], ◌∷◌, IfOk};
 ghost use Rattle.pfc_state.specs.Stands.{Is_idle, Is_ready, Waits};
 
 use pfc_base::{Memory, RunFault};
@@ -42,13 +42,9 @@ fn script_of(alloc: Global, numbers: &[u32]) -> Result<Policy, Memory> {
 }
 
 /// Whether the picks come one behind the other, each with the number of the script's item, and then this choice among so many.
-fn are_picked(
-    world: &World,
-    policy: Policy,
-    picks: &[(Pick, u64)],
-    among: u32,
-    choice: u32,
-) -> bool {
+fn are_picked(world: &World, policy: Policy, picks: &[(Pick, u64)], among: u32, choice: u32) -> bool
+    requires { 0 < among }
+{
     let mut picker = Picker::new(policy);
     for (pick, item) in picks {
         if picker.pick(world) != *pick || picker.item() != *item {

@@ -1,6 +1,6 @@
 #!/bin/bash
 # Prints the processor seconds that each crate takes in the gate: its own proof, the proof of its tests, and its edits with
-# their seed; and the longest chain of own proofs among crates that stand on each other.
+# their seed; the longest chain of own proofs among crates that stand on each other; and what a user's first build proves.
 #
 #     bench/gate-costs.sh LOG [NAME..]       runs `rt ci NAME..`, notes its checks in LOG, and prints the table
 #     bench/gate-costs.sh --table LOG        prints the table of a log
@@ -46,6 +46,14 @@ table() {
             path[name] = (best == "" ? "" : path[best] " > ") name
             return depth[name] = longest + own[name]
         }
+        # the own proofs of a crate and of all below it
+        function whole(name,    uses, n, k, sum) {
+            if (name in counted || !(name in listed)) return 0
+            counted[name]
+            n = split(below[name], uses, " "); sum = own[name]
+            for (k = 1; k <= n; k++) sum += whole(uses[k])
+            return sum
+        }
         END {
             for (key in most) {
                 split(key, part, " ")
@@ -63,6 +71,7 @@ table() {
             }
             printf "%-20s %6d %6d %6d %6d\n", "together", a, b, c, a + b + c
             printf "longest chain: %d seconds: %s\n", longest, path[last]
+            printf "first build (own proofs of pfc and of all below it): %d seconds\n", whole("pfc")
         }' "$here/../crates.txt" "$1"
 }
 

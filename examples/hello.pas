@@ -1,0 +1,7 @@
+program hello;
+{ The smallest program that says something. }
+begin
+  writeln('hello');
+  write('one line, ');
+  writeln('two pieces')
+end.

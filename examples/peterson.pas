@@ -1,0 +1,28 @@
+program peterson;
+{ Mutual exclusion of two processes with shared variables alone (Peterson). }
+const turns = 10;
+var wants: array[1..2] of boolean;
+    turn, inside, count: integer;
+    broken: boolean;
+
+process type contender(me, other: integer);
+var i: integer;
+begin
+  for i := 1 to turns do begin
+    wants[me] := true;
+    turn := other;
+    while wants[other] and (turn = other) do null;
+    inside := inside + 1;
+    if inside <> 1 then broken := true;
+    count := count + 1;
+    inside := inside - 1;
+    wants[me] := false
+  end
+end;
+
+var p, q: contender;
+
+begin
+  cobegin p(1, 2); q(2, 1) coend;
+  writeln(count, ' times inside, broken: ', broken)
+end.

@@ -9,7 +9,6 @@ use Rattle.pfc_values.specs.Outputs.{is_open_line}
 use Rattle.pfc_sched.specs.Picks.{Picking}
 use Rattle.pfc_sched.specs.Words.{stream, word, after_word}
 use Rattle.pfc_report.specs.Reports.{words_of}
-use Rattle.pfc_semantics.specs.Events.{Event}
 use Rattle.pfc_semantics.specs.Runs.{Run, run, standings}
 use Rattle.pfc_samples.specs.Texts.{program_in}
 

@@ -5,14 +5,13 @@ use Rattle.std.specs.Str.{bytes_eq, str_to_ascii_lowercase}
 use Rattle.std.specs.Str.Parse.{digits_value}
 use Rattle.pfc_base.specs.declared.places.Place.{Place}
 use Rattle.pfc_base.specs.declared.tokens.Kind.{Kind}
-use Rattle.pfc_base.specs.declared.tokens.Kind.TheVariants.{Name, Word, Number}
+use Rattle.pfc_base.specs.declared.tokens.Kind.TheVariants.{Name, Word}
 use Rattle.pfc_base.specs.declared.tokens.Token.{Token as ScannedToken}
 use Rattle.pfc_base.specs.declared.faults.Refusal.{Refusal}
-use Rattle.pfc_scan.specs.declared.piece.Reading.{Reading}
 use Rattle.pfc_scan.specs.declared.piece.Reading.TheVariants.{Gap, Token, Refused}
-use Rattle.pfc_scan.specs.Pieces.{Reads, word_number, name_reading, numbered_reading, word_reading, number_reading, white, comment, word, number, real, literal, sign}
-use Rattle.pfc_scan.specs.Cutting.{Cutting, tokens, refusal, with_token, IsCutFrom, cause_of, opens_comment, after, ended, skipped, taken, barred, stuck}
-use Rattle.pfc_scan.specs.Scanning.{IsScanCode, HasScanCode, IsRefused, bad_byte, open_comment, open_literal, large_number, real_number, long_name}
+use Rattle.pfc_scan.specs.Pieces.{Reads, word_number, name_reading, numbered_reading, white, comment, word, number, real, literal, sign}
+use Rattle.pfc_scan.specs.Cutting.{Cutting, tokens, refusal, with_token, IsCutFrom, opens_comment, after, ended, skipped, taken, barred, stuck}
+use Rattle.pfc_scan.specs.Scanning.{IsScanCode, bad_byte, open_comment, open_literal, large_number, real_number, long_name}
 
 of_code : (c d : ℕ) → Refused c ≡ Refused d → IsScanCode d → IsScanCode c
 of_code c d e h = let same : d ≡ c = cc in subst IsScanCode same h

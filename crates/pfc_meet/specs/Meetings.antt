@@ -25,6 +25,15 @@ abbrev pub IsAccepted : Option ℕ → ℕ → Accepted → Type 0
 IsAccepted found p (Takes r caller) = (found ≡ Some caller) × (r.number ≡ p)
 IsAccepted found p Waits_for_a_call = found ≡ None
 
+-- who acts afterwards: the process that goes on, or nobody
+abbrev pub ActsAfterAccept : Accepted → Option ℕ → Type 0
+ActsAfterAccept (Takes r caller) acting = acting ≡ Some r.number
+ActsAfterAccept Waits_for_a_call acting = acting ≡ None
+
+abbrev pub ActsAfterCall : Result Called Uncalled → Option ℕ → Type 0
+ActsAfterCall (Err uncalled) acting = acting ≡ Some uncalled.r.number
+ActsAfterCall (Ok called) acting = acting ≡ None
+
 -- a process that stands so waits in a rendezvous
 abbrev pub IsInMeeting : Stand → Type 0
 IsInMeeting (Waits (Meeting owner) ticket arms) = Unit {0}

@@ -5,7 +5,7 @@ ghost use Rattle.pfc_world.specs.Partners.{caller};
 ghost use Rattle.pfc_world.specs.Rendezvous.{accepted, meeting_ended, taken};
 ghost use Rattle.pfc_world.specs.Tables.{at};
 ghost use Rattle.pfc_world.specs.Tickets.{IsNew};
-ghost use Rattle.pfc_meet.specs.Meetings.{IsAccepted, IsCall, IsInMeeting};
+ghost use Rattle.pfc_meet.specs.Meetings.{ActsAfterAccept, ActsAfterCall, IsAccepted, IsCall, IsInMeeting};
 
 use crate::partners::acceptance;
 use pfc_world::{Running, State, Why, World};
@@ -41,7 +41,8 @@ pub fn call_entry(world: &mut World, r: Running, owner: u32, entry: u32) -> Resu
     requires acts { world.old.acting ≡ Some r.number }
     requires fresh { IsNew world.old.rows world.old.done }
     requires known { owner < length world.old.rows }
-    ensures { IsCall world.old r.number owner entry result world.new }
+    ensures table { IsCall world.old r.number owner entry result world.new }
+    ensures acting { ActsAfterCall result world.new.acting }
 {
     if let State::Idle | State::Done = world.state(owner) {
         return Err(Uncalled { r });
@@ -68,6 +69,7 @@ pub fn accept(world: &mut World, r: Running, entry: u32) -> Accepted
     requires fresh { IsNew world.old.rows world.old.done }
     ensures table { world.new ≡ accepted world.old r.number entry }
     ensures answer { IsAccepted (caller world.old.rows r.number entry) r.number result }
+    ensures acting { ActsAfterAccept result world.new.acting }
 {
     let owner = r.number();
     match world.first_at(Why::Call { owner, entry }) {
@@ -98,6 +100,7 @@ pub(crate) fn take(world: &mut World, r: Running, caller: u32) -> Running
     requires waits { IsWaiting (at world.old.rows caller) }
     ensures number { result.number ≡ r.number }
     ensures table { world.new ≡ taken world.old r.number caller }
+    ensures acting { world.new.acting ≡ Some result.number }
 {
     // this also tells that the process that acts stands as ready
     let _processes = world.processes();

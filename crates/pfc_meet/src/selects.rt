@@ -52,6 +52,7 @@ pub fn select_commit(world: &mut World, r: Running, arms: &[Arm], k: u32) -> Com
     requires matched { k < length (matched world.old.rows r.number arms.now) }
     ensures table { world.new ≡ committed world.old r.number arms.now k }
     ensures answer { IsCommitted world.old.rows r.number arms.now k result }
+    ensures acting { world.new.acting ≡ Some result.r.number }
 {
     let chosen = match_at(world, r.number(), arms, k);
     Committed {
@@ -92,6 +93,7 @@ fn communicate(world: &mut World, r: Running, chosen: Match) -> Running
     requires waits { IsWaiting (at world.old.rows chosen.partner.process) }
     ensures number { result.number ≡ r.number }
     ensures table { world.new ≡ communicated_with (Some chosen.partner.process) world.old r.number chosen.alternative }
+    ensures acting { world.new.acting ≡ Some result.number }
 {
     match chosen.alternative {
         Arm::Accept(_) => take(world, r, chosen.partner.process),

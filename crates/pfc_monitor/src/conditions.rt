@@ -1,7 +1,7 @@
 //! Conditions.
-ghost use Rattle.std.specs.Prelude.{◌≡◌, ◌<◌, length, not, is_some, Some, slice_index};
+ghost use Rattle.std.specs.Prelude.{◌≡◌, ◌<◌, length, not, is_some, None, Some, slice_index};
 ghost use Rattle.pfc_state.specs.declared.waits.Why.{Why};
-ghost use Rattle.pfc_world.specs.Goings.{GoesWhere};
+ghost use Rattle.pfc_world.specs.Goings.{ActsAfter, GoesWhere};
 ghost use Rattle.pfc_world.specs.Holders.{held_in, holder_in};
 ghost use Rattle.pfc_world.specs.Monitors.{delayed, resumed};
 ghost use Rattle.pfc_world.specs.Partners.{condition_waiter, is_empty_condition, next_holder};
@@ -21,6 +21,7 @@ pub fn delay(world: &mut World, mons: &mut Monitors, r: Running, c: u32, rank: i
     ensures table { held_in world.new mons.new.holders ≡ delayed (held_in world.old mons.old.holders) r.number (slice_index mons.old.owners c) c rank }
     ensures conditions { mons.new.owners ≡ mons.old.owners }
     ensures next { result ≡ next_holder world.old.rows (slice_index mons.old.owners c) }
+    ensures acting { world.new.acting ≡ None }
 {
     let m = mons.monitor_of(c);
     let next = hand_over(world, mons, m);
@@ -39,6 +40,7 @@ pub fn resume(world: &mut World, mons: &mut Monitors, r: Running, c: u32) -> Aft
     ensures table { held_in world.new mons.new.holders ≡ resumed (held_in world.old mons.old.holders) r.number (slice_index mons.old.owners c) c }
     ensures conditions { mons.new.owners ≡ mons.old.owners }
     ensures answer { GoesWhere (not (is_some (condition_waiter world.old.rows c))) r.number result }
+    ensures acting { ActsAfter result world.new.acting }
 {
     let m = mons.monitor_of(c);
     let Some(q) = world.first_ranked(c) else {

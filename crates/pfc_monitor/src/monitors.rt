@@ -1,7 +1,7 @@
 //! Monitors: who holds each of them.
-ghost use Rattle.std.specs.Prelude.{◌≡◌, ◌<◌, length, not, is_some, None, Some, IfOk, IfSome, All, replicate, slice_index, slice_set};
+ghost use Rattle.std.specs.Prelude.{◌≡◌, ◌<◌, length, not, is_some, true, None, Some, IfOk, IfSome, All, replicate, slice_index, slice_set};
 ghost use Rattle.pfc_state.specs.Stands.{IsWaiting};
-ghost use Rattle.pfc_world.specs.Goings.{GoesWhere};
+ghost use Rattle.pfc_world.specs.Goings.{ActsAfter, GoesWhere};
 ghost use Rattle.pfc_world.specs.Holders.{held_in, holder_in};
 ghost use Rattle.pfc_world.specs.Monitors.{entered, handed_over};
 ghost use Rattle.pfc_world.specs.Partners.{next_holder};
@@ -44,6 +44,20 @@ impl Monitors {
         Ok(Monitors { holders, owners })
     }
 
+    /// Whether there is a monitor of this number.
+    pub fn has(&self, m: u32) -> bool
+        ensures { result ≡ true → m < length self.now.holders }
+    {
+        (m as usize) < self.holders.len()
+    }
+
+    /// Whether there is a condition of this number.
+    pub fn has_condition(&self, c: u32) -> bool
+        ensures { result ≡ true → c < length self.now.owners }
+    {
+        (c as usize) < self.owners.len()
+    }
+
     /// The process that holds the monitor; None where it is free.
     pub fn holder(&self, m: u32) -> Option<u32>
         requires { m < length self.now.holders }
@@ -79,6 +93,7 @@ pub fn enter(world: &mut World, mons: &mut Monitors, r: Running, m: u32) -> Afte
     ensures table { held_in world.new mons.new.holders ≡ entered (held_in world.old mons.old.holders) r.number m }
     ensures conditions { mons.new.owners ≡ mons.old.owners }
     ensures answer { GoesWhere (not (is_some (holder_in mons.old.holders m))) r.number result }
+    ensures acting { ActsAfter result world.new.acting }
 {
     if mons.holder(m).is_some() {
         world.block(r, Why::Enter(m));
@@ -97,6 +112,7 @@ pub fn leave(world: &mut World, mons: &mut Monitors, p: u32, m: u32) -> Option<u
     ensures table { held_in world.new mons.new.holders ≡ handed_over (held_in world.old mons.old.holders) m }
     ensures conditions { mons.new.owners ≡ mons.old.owners }
     ensures next { result ≡ next_holder world.old.rows m }
+    ensures acting { world.new.acting ≡ world.old.acting }
 {
     hand_over(world, mons, m)
 }

@@ -12,3 +12,8 @@ use Rattle.pfc_pass.specs.declared.channels.Passed.TheVariants.{Met, Waits as Ha
 abbrev pub IsMeeting : List Stand → Option ℕ → Arm → ℕ → Passed → Type 0
 IsMeeting rows found open_to p (Met r partner alternative) = (found ≡ Some partner) × (alternative ≡ alternative_met open_to (at rows partner)) × (r.number ≡ p)
 IsMeeting rows found open_to p Has_to_wait = found ≡ None
+
+-- who acts afterwards: the process that goes on, or nobody
+abbrev pub ActsAfter : Passed → Option ℕ → Type 0
+ActsAfter (Met r partner alternative) acting = acting ≡ Some r.number
+ActsAfter Has_to_wait acting = acting ≡ None

@@ -6,7 +6,7 @@ ghost use Rattle.pfc_world.specs.Firsts.{first};
 ghost use Rattle.pfc_world.specs.Partners.{receiver, sender, ticket_open_to};
 ghost use Rattle.pfc_world.specs.Tickets.{IsNew};
 ghost use Rattle.pfc_state.specs.declared.waits.Arm.{Arm};
-ghost use Rattle.pfc_pass.specs.Messages.{IsMeeting};
+ghost use Rattle.pfc_pass.specs.Messages.{ActsAfter, IsMeeting};
 
 use pfc_world::{Arm, Partner, Running, Why, World};
 
@@ -30,6 +30,7 @@ pub fn send(world: &mut World, r: Running, c: u32) -> Passed
     requires fresh { IsNew world.old.rows world.old.done }
     ensures table { world.new ≡ sent world.old r.number c }
     ensures answer { IsMeeting world.old.rows (receiver world.old.rows c) (Arm.Receive c) r.number result }
+    ensures acting { ActsAfter result world.new.acting }
 {
     pass(world, r, Arm::Receive(c), Why::Send(c))
 }
@@ -41,6 +42,7 @@ pub fn receive(world: &mut World, r: Running, c: u32) -> Passed
     requires fresh { IsNew world.old.rows world.old.done }
     ensures table { world.new ≡ received world.old r.number c }
     ensures answer { IsMeeting world.old.rows (sender world.old.rows c) (Arm.Send c) r.number result }
+    ensures acting { ActsAfter result world.new.acting }
 {
     pass(world, r, Arm::Send(c), Why::Receive(c))
 }
@@ -52,6 +54,7 @@ fn pass(world: &mut World, r: Running, open_to: Arm, why: Why) -> Passed
     requires plain { is_select why ≡ false }
     ensures table { world.new ≡ passed_with (first (ticket_open_to open_to) world.old.rows) world.old r.number why }
     ensures answer { IsMeeting world.old.rows (first (ticket_open_to open_to) world.old.rows) open_to r.number result }
+    ensures acting { ActsAfter result world.new.acting }
 {
     match world.first_open_to(open_to) {
         Some(

@@ -1,6 +1,6 @@
 //! Semaphores.
-ghost use Rattle.std.specs.Prelude.{◌≡◌, ◌<◌, ◌≤◌, ◌==◌, not, Some, length, replicate, IfOk, slice_index_or, slice_set};
-ghost use Rattle.pfc_world.specs.Goings.{GoesWhere};
+ghost use Rattle.std.specs.Prelude.{◌≡◌, ◌<◌, ◌≤◌, ◌==◌, not, true, Some, length, replicate, IfOk, slice_index_or, slice_set};
+ghost use Rattle.pfc_world.specs.Goings.{ActsAfter, GoesWhere};
 ghost use Rattle.pfc_world.specs.Semaphores.{counted, count_of, most_count, waited};
 ghost use Rattle.pfc_world.specs.Tickets.{IsNew};
 ghost use Rattle.pfc_pass.specs.Counts.{IsInitial, IsSignal};
@@ -38,6 +38,13 @@ impl Semaphores {
     {
         let counts = Vec::from_elem(alloc, 0, n as usize)?;
         Ok(Semaphores { counts })
+    }
+
+    /// Whether there is a semaphore of this number.
+    pub fn has(&self, s: u32) -> bool
+        ensures { result ≡ true → s < length self.now }
+    {
+        (s as usize) < self.counts.len()
     }
 
     fn count(&self, s: u32) -> u32
@@ -78,6 +85,7 @@ pub fn sem_wait(world: &mut World, sems: &mut Semaphores, r: Running, s: u32) ->
     requires known { s < length sems.old }
     ensures table { counted world.new sems.new ≡ waited (counted world.old sems.old) r.number s }
     ensures answer { GoesWhere (not (count_of (counted world.old sems.old) s == 0)) r.number result }
+    ensures acting { ActsAfter result world.new.acting }
 {
     let count = sems.count(s);
     if count == 0 {
@@ -93,7 +101,8 @@ pub fn sem_wait(world: &mut World, sems: &mut Semaphores, r: Running, s: u32) ->
 /// and the count is 2147483647.
 pub fn sem_signal(world: &mut World, sems: &mut Semaphores, s: u32) -> Result<Option<u32>, RunFault>
     requires { s < length sems.old }
-    ensures { IsSignal (counted world.old sems.old) s result (counted world.new sems.new) }
+    ensures table { IsSignal (counted world.old sems.old) s result (counted world.new sems.new) }
+    ensures acting { world.new.acting ≡ world.old.acting }
 {
     if let Some(q) = world.first_at(Why::Semaphore(s)) {
         world.wake(q);

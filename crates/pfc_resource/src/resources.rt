@@ -1,6 +1,6 @@
 //! Resources: who holds each of them.
 ghost use Rattle.std.specs.Prelude.{◌≡◌, ◌<◌, length, not, is_some, true, None, Some, IfOk, replicate, slice_set};
-ghost use Rattle.pfc_world.specs.Goings.{GoesWhere};
+ghost use Rattle.pfc_world.specs.Goings.{ActsAfter, GoesWhere};
 ghost use Rattle.pfc_world.specs.Holders.{held_in, holder_in};
 ghost use Rattle.pfc_world.specs.Partners.{next_entrant};
 ghost use Rattle.pfc_world.specs.Resources.{resource_entered, given_up};
@@ -35,6 +35,13 @@ impl Resources {
         Ok(Resources { holders })
     }
 
+    /// Whether there is a resource of this number.
+    pub fn has(&self, g: u32) -> bool
+        ensures { result ≡ true → g < length self.now }
+    {
+        (g as usize) < self.holders.len()
+    }
+
     /// The process that holds the resource; None where it is free.
     pub fn holder(&self, g: u32) -> Option<u32>
         requires { g < length self.now }
@@ -60,6 +67,7 @@ pub fn enter(world: &mut World, res: &mut Resources, r: Running, g: u32) -> Afte
     requires known { g < length res.old }
     ensures table { held_in world.new res.new ≡ resource_entered (held_in world.old res.old) r.number g }
     ensures answer { GoesWhere (not (is_some (holder_in res.old g))) r.number result }
+    ensures acting { ActsAfter result world.new.acting }
 {
     if res.holder(g).is_some() {
         world.block(r, Why::Entrant(g));
@@ -76,6 +84,7 @@ pub fn leave(world: &mut World, res: &mut Resources, g: u32) -> Option<u32>
     requires held { is_some (holder_in res.old g) ≡ true }
     ensures table { held_in world.new res.new ≡ given_up (held_in world.old res.old) g }
     ensures next { result ≡ next_entrant world.old.rows g }
+    ensures acting { world.new.acting ≡ world.old.acting }
 {
     give_up(world, res, g)
 }

@@ -35,6 +35,7 @@ pub fn bar(
     requires holds { holder_in res.old g ≡ Some r.number }
     ensures table { held_in world.new res.new ≡ barred (held_in world.old res.old) r.number g procedure }
     ensures next { result ≡ next_entrant world.old.rows g }
+    ensures acting { world.new.acting ≡ None }
 {
     let next = give_up(world, res, g);
     world.block(
@@ -79,7 +80,8 @@ pub fn pass_to(world: &mut World, res: &mut Resources, g: u32, p: u32)
     requires known { g < length res.old }
     requires held { is_some (holder_in res.old g) ≡ true }
     requires barred { IsBarredAt g (at world.old.rows p) }
-    ensures { held_in world.new res.new ≡ passed_to (held_in world.old res.old) g p }
+    ensures table { held_in world.new res.new ≡ passed_to (held_in world.old res.old) g p }
+    ensures acting { world.new.acting ≡ world.old.acting }
 {
     world.wake(p);
     res.hold(g, Some(p));
@@ -93,7 +95,8 @@ pub fn requeue(world: &mut World, res: &mut Resources, r: Running, g: u32, proce
     requires known { g < length res.old }
     requires holds { holder_in res.old g ≡ Some r.number }
     requires barred { IsBarredAt g (at world.old.rows to) }
-    ensures { held_in world.new res.new ≡ requeued (held_in world.old res.old) r.number g procedure to }
+    ensures table { held_in world.new res.new ≡ requeued (held_in world.old res.old) r.number g procedure to }
+    ensures acting { world.new.acting ≡ None }
 {
     world.wake(to);
     world.block(

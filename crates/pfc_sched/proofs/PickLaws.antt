@@ -6,7 +6,7 @@ use Rattle.pfc_world.specs.Tables.{at}
 use Rattle.pfc_sched.specs.declared.picking.Pick.{Pick}
 use Rattle.pfc_sched.specs.declared.picking.Pick.TheVariants.{Process, Nobody, NotReady, NoProcess, ScriptEnd}
 use Rattle.pfc_sched.specs.Words.{word, after_word}
-use Rattle.pfc_sched.specs.Ready.{ready_from, ready_numbers, at_or_after, turn_of}
+use Rattle.pfc_world.specs.Ready.{ready_from, ready_numbers, at_or_after, turn_of}
 use Rattle.pfc_sched.specs.Picks.{Picking, by_words, by_turn, by_list, named, picked_among, picked, after_picked, after_pick}
 use Rattle.pfc_sched.specs.Laws.{run_of_picks, script_pick, script_left, picks_in_order, IsPlain, recorded, PicksReady, PicksAlike, TakesInOrder, Replays}
 

@@ -5,7 +5,7 @@ use Rattle.pfc_state.specs.Stands.{Stand, is_ready}
 use Rattle.pfc_world.specs.Tables.{at}
 use Rattle.pfc_sched.specs.declared.picking.Pick.{Pick}
 use Rattle.pfc_sched.specs.declared.picking.Pick.TheVariants.{Process, Nobody, NotReady, NoProcess, ScriptEnd}
-use Rattle.pfc_sched.specs.Ready.{ready_numbers}
+use Rattle.pfc_world.specs.Ready.{ready_numbers}
 use Rattle.pfc_sched.specs.Picks.{Picking, by_words, by_turn, by_list, named, picked_among, picked, after_picked, after_pick}
 use Rattle.pfc_sched.specs.Laws.{run_of_picks, script_pick, script_left, picks_in_order, IsPlain, ArePlain, recorded, TakesInOrder, Replays}
 use Rattle.pfc_sched.proofs.PickLaws.{picks_ready}

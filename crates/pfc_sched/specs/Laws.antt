@@ -4,7 +4,7 @@ use Rattle.pfc_state.specs.Stands.{Stand, is_ready}
 use Rattle.pfc_world.specs.Tables.{at}
 use Rattle.pfc_sched.specs.declared.picking.Pick.{Pick}
 use Rattle.pfc_sched.specs.declared.picking.Pick.TheVariants.{Process, Nobody, NotReady, NoProcess, ScriptEnd}
-use Rattle.pfc_sched.specs.Ready.{ready_numbers}
+use Rattle.pfc_world.specs.Ready.{ready_numbers}
 use Rattle.pfc_sched.specs.Picks.{Picking, by_list, named, picked, after_pick}
 
 -- the picks over some standings, one after the other

@@ -4,7 +4,6 @@ pub mod Draws
 pub mod Laws
 pub mod Modes
 pub mod Picks
-pub mod Ready
 pub mod Script
 pub mod SoFar
 pub mod Words

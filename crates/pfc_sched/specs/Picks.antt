@@ -8,7 +8,7 @@ use Rattle.pfc_sched.specs.declared.picking.Policy.TheVariants.{Fair, Unfair, Sc
 use Rattle.pfc_sched.specs.declared.picking.Pick.{Pick}
 use Rattle.pfc_sched.specs.declared.picking.Pick.TheVariants.{Process, Nobody, NotReady, NoProcess, ScriptEnd}
 use Rattle.pfc_sched.specs.Words.{stream, word, after_word}
-use Rattle.pfc_sched.specs.Ready.{ready_numbers, turn_of}
+use Rattle.pfc_world.specs.Ready.{ready_numbers, turn_of}
 
 -- who picks: by words, after the process picked last, or by a list of which so many items were taken
 pub data Picking : Type 0 where

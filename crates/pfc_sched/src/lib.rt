@@ -8,7 +8,6 @@ mod drawing;
 pub mod laws;
 mod number_list;
 mod picking;
-mod ready;
 mod script_text;
 mod words;
 

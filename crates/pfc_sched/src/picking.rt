@@ -3,7 +3,6 @@ ghost use Rattle.std.specs.Prelude.{◌≡◌, ◌<◌, ◌≤◌, length};
 ghost use Rattle.pfc_sched.specs.Picks.{Picking, first_picking, picked, after_pick, chosen, after_choice, item_of, named};
 
 use crate::number_list::Picks;
-use crate::ready::ready_in;
 use crate::words::{next_word, words_of};
 use pfc_world::{State, World};
 use rand_pcg::Lcg64Xsh32;
@@ -83,14 +82,14 @@ impl Picker {
         ensures pick { result ≡ picked self.old world.now.rows }
         ensures after { self.new ≡ after_pick self.old world.now.rows }
     {
-        let ready = ready_in(world);
-        if ready.count() == 0 {
+        let ready = world.ready_count();
+        if ready == 0 {
             return Pick::Nobody;
         }
         match &mut self.mode {
-            Mode::Fair { words } => Pick::Process(ready.at(next_word(words) % ready.count())),
+            Mode::Fair { words } => Pick::Process(world.ready_at(next_word(words) % ready)),
             Mode::Unfair { last } => {
-                *last = ready.turn_of(*last);
+                *last = world.ready_from(*last);
                 Pick::Process(*last)
             }
             Mode::Script { picks, item } => {

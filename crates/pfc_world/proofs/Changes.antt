@@ -110,6 +110,12 @@ pub ready-within : (seats : List Seat) (a : Option ℕ) (d m room p : ℕ) (w : 
     → Now seats a d m room w → at w.rows p ≡ Is_ready → p < length seats
 ready-within seats a d m room p w now ready = within seats a d m room p w now (λ idle. let e : Is_ready ≡ Is_idle = sym ready ∙ idle in cc)
 
+-- who acts is a process of the table
+pub acting-within : (seats : List Seat) (a : Option ℕ) (d m room r : ℕ) (w : Table)
+    → Now seats a d m room w → w.acting ≡ Some r → r < length w.rows
+acting-within seats a d m room r w now acts =
+    subst (λ n. r < n) (sym (rows-length seats a d m room w now)) (now.tied.within r (ap (λ v. v.acting) now.is ∙ acts))
+
 waiting-known : (s : Stand) → IsWaiting s → s ≢ Is_idle
 waiting-known (Waits why ticket arms) h e = cc
 waiting-known Is_idle h e = absurd h

@@ -9,4 +9,5 @@ pub mod Nobody
 pub mod Offering
 pub mod Open
 pub mod Ranks
+pub mod ReadySets
 pub mod Starts

@@ -3,9 +3,11 @@ pub mod Coend
 pub mod Firsts
 pub mod Goings
 pub mod Holders
+pub mod Indexes
 pub mod Monitors
 pub mod Partnering
 pub mod Partners
+pub mod Ready
 pub mod Rendezvous
 pub mod Resources
 pub mod Rows

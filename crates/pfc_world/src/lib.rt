@@ -9,6 +9,7 @@
 mod answers;
 mod laws;
 mod partners;
+mod rows;
 mod terminating;
 mod walks;
 mod world;

@@ -30,12 +30,6 @@ pub(crate) struct Holder {
     pub(crate) ticket: u64,
 }
 
-pub(crate) fn any_ready(rows: &[Row]) -> bool
-    ensures { result ≡ list_any (λ seat. is_ready seat.stand) rows.now }
-{
-    rows.iter().any(|row| row.is_ready())
-}
-
 pub(crate) fn any_created(rows: &[Row]) -> bool
     ensures { result ≡ list_any (λ seat. is_created seat.stand) rows.now }
 {

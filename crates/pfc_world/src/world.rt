@@ -1,22 +1,21 @@
 //! The table of processes.
-ghost use Rattle.std.specs.Prelude.{◌≡◌, ℕ, ◌+◌, ◌*◌, ◌^◌, ◌<◌, ◌≤◌, true, false, None, Some, Option, [], length, map, IfOk, IfSome, MatchOption};
+ghost use Rattle.std.specs.Prelude.{◌≡◌, ℕ, ◌+◌, ◌*◌, ◌^◌, ◌<◌, ◌≤◌, true, false, None, Some, Option, [], length, get_or, slice_index, map, IfOk, IfSome, MatchOption};
 ghost use Rattle.pfc_state.specs.declared.waits.Why.{Why};
 ghost use Rattle.pfc_state.specs.Stands.{Is_ready, Waits, Is_done, IsWaiting, state_of, ticket_of, arms_of, may_end, ticket_at, ticket_on, ticket_offering, ticket_barred};
 ghost use Rattle.pfc_state.specs.Waits.{is_select, place_of_arm};
 ghost use Rattle.pfc_world.specs.Coend.{IsAtCoend};
 ghost use Rattle.pfc_world.specs.Firsts.{first, last, offer_at, first_offer, first_ranked, least_rank, IsFirst, IsFirstRanked, IsLast, IsNobody};
 ghost use Rattle.pfc_world.specs.Settling.{earliest, woken_now, moved_to, settled, children_may_end, may_all_end, IsLeftBy};
+ghost use Rattle.pfc_world.specs.Indexes.{IsReadySet};
+ghost use Rattle.pfc_world.specs.Ready.{ready_numbers, turn_of};
 ghost use Rattle.pfc_world.specs.Tables.{at, start_table, some_ready, some_created};
 ghost use Rattle.pfc_world.specs.Tickets.{AreTickets, IsNew};
 ghost use Rattle.pfc_world.specs.Transitions.{begun, rested, placed, blocked, is_released, released, ended, finished, all_started, ticked, IsCreation};
 
-use crate::walks::{
-    Sought, all_may_end, all_over, any_created, any_ready, any_unfinished, earliest_of, first_of,
-    last_of, least_rank_of, start_all, wake_all,
-};
+use crate::rows::Rows;
 use crate::{After, Arm, Offer, Running, Settled, State, Why};
 use pfc_base::{Memory, RunFault};
-use pfc_state::Row;
+use pfc_lists::Numbers;
 use std::alloc::Global;
 use std::marker::Model;
 
@@ -25,22 +24,19 @@ use std::marker::Model;
 /// clock, and the room for alternatives; and a process that acts stands there as ready.
 #[derive(Drop)]
 pub struct World {
-    rows: Vec<Row>,
-    acting: Option<u32>,
-    done: u64,
-    moment: u64,
-    room: u32,
+    rows: Rows,
+    ready: Numbers,
 }
 
 impl Model for World {
     ghost use Rattle.pfc_world.specs.Tables.{Table};
-    ghost use Rattle.pfc_world.specs.Rows.{table_of, AreTied};
+    ghost use Rattle.pfc_world.specs.Indexes.{IsReadySet};
 
     ghost Value = { Table };
 
-    ghost view = { λ w. table_of w.rows.items w.acting w.done w.moment w.room };
+    ghost view = { λ w. w.rows };
 
-    ghost invariant = { λ w. AreTied w.rows.items w.acting w.done w.room };
+    ghost invariant = { λ w. IsReadySet w.rows.rows w.ready };
 }
 
 impl World {
@@ -52,20 +48,10 @@ impl World {
         ensures world { IfOk result (λ world. world ≡ start_table n arms) }
         ensures fresh { IfOk result (λ world. IsNew world.rows world.done) }
     {
-        let mut rows = Vec::with_capacity(alloc, n as usize)?;
-        for p in 0..n {
-            rows.push(Row::new(alloc, p, arms)?)?;
-        }
-        let main = &mut rows[0];
-        main.create();
-        main.start_created();
-        Ok(World {
-            rows,
-            acting: None,
-            done: 0,
-            moment: 0,
-            room: arms,
-        })
+        let rows = Rows::with_processes(alloc, n, arms)?;
+        let mut ready = Numbers::new(alloc, n)?;
+        ready.put(0, true);
+        Ok(World { rows, ready })
     }
 
     /// The number of processes, main included: from 1 to 1,024.
@@ -75,7 +61,7 @@ impl World {
         ensures few { result ≤ 1024 }
         ensures acting { (p : ℕ) → self.now.acting ≡ Some p → at self.now.rows p ≡ Is_ready }
     {
-        self.rows.len() as u32
+        self.rows.processes()
     }
 
     /// The number of actions done, from 0 to 10^18.
@@ -84,21 +70,21 @@ impl World {
         ensures few { result ≤ 10 ^ 18 }
         ensures tickets { AreTickets self.now.rows self.now.done }
     {
-        self.done
+        self.rows.done()
     }
 
     /// The clock: a moment from 0 on, one more after each action.
     pub fn now(&self) -> u64
         ensures { result ≡ self.now.moment }
     {
-        self.moment
+        self.rows.now()
     }
 
     /// How many alternatives a process may offer in a select.
     pub fn room(&self) -> u32
         ensures { result ≡ self.now.room }
     {
-        self.room
+        self.rows.room()
     }
 
     /// The standing of a process.
@@ -111,8 +97,7 @@ impl World {
         ensures waits { (why : Why) → result ≡ State.Waiting why → IsWaiting (at self.now.rows p) }
         ensures ends { (due : Option ℕ) → result ≡ State.Waiting (Why.Select due true) → may_end (at self.now.rows p) ≡ true }
     {
-        let row = &self.rows[p as usize];
-        row.state()
+        self.rows.state(p)
     }
 
     /// The number of the action that began the wait of a process, from 1; None where it does not wait.
@@ -120,8 +105,7 @@ impl World {
         requires { p < length self.now.rows }
         ensures { result ≡ ticket_of (at self.now.rows p) }
     {
-        let row = &self.rows[p as usize];
-        row.ticket()
+        self.rows.ticket(p)
     }
 
     /// The alternatives that a process offers: none unless it waits in a select.
@@ -129,8 +113,7 @@ impl World {
         requires { p < length self.now.rows }
         ensures { result.now ≡ arms_of (at self.now.rows p) }
     {
-        let row = &self.rows[p as usize];
-        row.arms()
+        self.rows.arms(p)
     }
 
     /// The process acts. Nobody else does, and the process is ready.
@@ -140,9 +123,7 @@ impl World {
         ensures number { result.number ≡ p }
         ensures world { self.new ≡ begun self.old p }
     {
-        self.acting = Some(p);
-        let row = &mut self.rows[p as usize];
-        row.begin()
+        self.rows.begin(p)
     }
 
     /// The process that acts has acted, and may act again.
@@ -150,9 +131,7 @@ impl World {
         requires { self.old.acting ≡ Some r.number }
         ensures { self.new ≡ rested self.old }
     {
-        self.acting = None;
-        let row = &mut self.rows[r.number() as usize];
-        row.rest(r);
+        self.rows.rest(r);
     }
 
     /// The process that acts waits, in no select, with the number of the present action as its ticket.
@@ -162,10 +141,9 @@ impl World {
         requires fresh { IsNew self.old.rows self.old.done }
         ensures { self.new ≡ blocked self.old r.number why [] }
     {
-        self.acting = None;
-        let ticket = self.done + 1;
-        let row = &mut self.rows[r.number() as usize];
-        row.block(r, why, ticket);
+        let p = r.number();
+        self.rows.block(r, why);
+        self.ready.put(p, false);
     }
 
     /// The process that acts waits in a select, with the number of the present action as its ticket: for
@@ -177,10 +155,9 @@ impl World {
         requires fresh { IsNew self.old.rows self.old.done }
         ensures { self.new ≡ blocked self.old r.number (Why.Select due terminate) arms.now }
     {
-        self.acting = None;
-        let since = self.done + 1;
-        let row = &mut self.rows[r.number() as usize];
-        row.block_select(r, arms, due, terminate, since);
+        let p = r.number();
+        self.rows.block_select(r, arms, due, terminate);
+        self.ready.put(p, false);
     }
 
     /// The process that acts has finished; main is ready where it waits at `coend` and no child is
@@ -199,8 +176,8 @@ impl World {
         ensures world { self.new ≡ placed self.old p Is_ready }
         ensures fresh { IsNew self.old.rows self.old.done → IsNew self.new.rows self.new.done }
     {
-        let row = &mut self.rows[p as usize];
-        row.wake();
+        self.rows.wake(p);
+        self.ready.put(p, true);
     }
 
     /// A process that waits in a select with `terminate` finishes there; main is ready where it waits at
@@ -218,12 +195,7 @@ impl World {
         requires { p < length self.old.rows }
         ensures { IsCreation self.old p result self.new }
     {
-        let row = &mut self.rows[p as usize];
-        if row.is_unfinished() {
-            return Err(RunFault::Active);
-        }
-        row.create();
-        Ok(())
+        self.rows.create(p)
     }
 
     /// The process that acts is at `coend`: where some process is created, all created ones are ready,
@@ -248,8 +220,7 @@ impl World {
         ensures world { self.new ≡ ticked self.old }
         ensures fresh { IsNew self.new.rows self.new.done }
     {
-        self.done += 1;
-        self.moment += 1;
+        self.rows.tick();
     }
 
     /// Who is due is ready; where nobody is ready then, the clock goes to the earliest due moment.
@@ -287,7 +258,7 @@ impl World {
         ensures waits { IfSome result (λ p. IsWaiting (at self.now.rows p)) }
         ensures within { IfSome result (λ p. p < length self.now.rows) }
     {
-        first_of(&self.rows, Sought::At(why))
+        self.rows.first_at(why)
     }
 
     /// The process of greatest ticket whose wait is exactly this one.
@@ -297,7 +268,7 @@ impl World {
         ensures waits { IfSome result (λ p. IsWaiting (at self.now.rows p)) }
         ensures within { IfSome result (λ p. p < length self.now.rows) }
     {
-        last_of(&self.rows, Sought::At(why))
+        self.rows.last_at(why)
     }
 
     /// The process of least rank among those that wait on the condition, and at that rank the one of least
@@ -308,13 +279,7 @@ impl World {
         ensures waits { IfSome result (λ p. IsWaiting (at self.now.rows p)) }
         ensures within { IfSome result (λ p. p < length self.now.rows) }
     {
-        match self.least_rank(condition) {
-            Some(rank) => self.first_at(Why::Condition {
-                number: condition,
-                rank,
-            }),
-            None => None,
-        }
+        self.rows.first_ranked(condition)
     }
 
     /// The process of least ticket among those that wait in a select with this alternative, and its first
@@ -325,10 +290,16 @@ impl World {
         ensures waits { IfSome result (λ offer. IsWaiting (at self.now.rows offer.process)) }
         ensures within { IfSome result (λ offer. offer.process < length self.now.rows) }
     {
-        match first_of(&self.rows, Sought::Offering(arm)) {
-            Some(p) => self.offer_at(p, arm),
-            None => None,
-        }
+        self.rows.first_offer(arm)
+    }
+
+    /// The first place of the alternative, from 0, among those that the process offers in a select; None where it offers
+    /// no such alternative.
+    pub fn offer_at(&self, p: u32, arm: Arm) -> Option<Offer>
+        requires { p < length self.now.rows }
+        ensures { result ≡ offer_at p (place_of_arm arm (arms_of (at self.now.rows p))) }
+    {
+        self.rows.offer_at(p, arm)
     }
 
     /// The process of least ticket above `after` among those that are barred at the resource; any ticket
@@ -339,63 +310,63 @@ impl World {
         ensures waits { IfSome result (λ p. IsWaiting (at self.now.rows p)) }
         ensures within { IfSome result (λ p. p < length self.now.rows) }
     {
-        first_of(&self.rows, Sought::BarredAt { resource, after })
+        self.rows.next_barred(resource, after)
     }
 }
 
 impl World {
-    /// The first place of the alternative, from 0, among those that the process offers in a select; None where it offers
-    /// no such alternative.
-    pub fn offer_at(&self, p: u32, arm: Arm) -> Option<Offer>
-        requires { p < length self.now.rows }
-        ensures { result ≡ offer_at p (place_of_arm arm (arms_of (at self.now.rows p))) }
+    /// How many processes are ready.
+    pub fn ready_count(&self) -> u32
+        ensures { result ≡ length (ready_numbers self.now.rows) }
     {
-        let row = &self.rows[p as usize];
-        match row.place_of_arm(arm) {
-            Some(place) => Some(Offer {
-                process: p,
-                arm: place,
-            }),
-            None => None,
+        self.ready.count()
+    }
+
+    /// The ready process at a place, counted from 0, in the order of numbers.
+    pub fn ready_at(&self, place: u32) -> u32
+        requires { place < length (ready_numbers self.now.rows) }
+        ensures { result ≡ slice_index (ready_numbers self.now.rows) place }
+    {
+        self.ready.at(place)
+    }
+
+    /// The first ready process from this number on, or else the first of all ready ones.
+    pub fn ready_from(&self, last: u32) -> u32
+        requires { 0 < length (ready_numbers self.now.rows) }
+        ensures { result ≡ turn_of last (ready_numbers self.now.rows) }
+    {
+        let before = self.ready.below(last);
+        if before < self.ready.count() {
+            self.ready.at(before)
+        } else {
+            self.ready.at(0)
         }
     }
+}
 
-    fn least_rank(&self, condition: u32) -> Option<i32>
-        ensures { result ≡ least_rank condition self.now.rows }
-    {
-        least_rank_of(&self.rows, condition)
-    }
-
+impl World {
     fn some_ready(&self) -> bool
         ensures { result ≡ some_ready self.now.rows }
     {
-        any_ready(&self.rows)
+        self.ready.count() > 0
     }
 
-    fn some_created(&self) -> bool
-        ensures { result ≡ some_created self.now.rows }
+    fn earliest(&self) -> Option<u64>
+        ensures { result ≡ earliest self.now.rows }
     {
-        any_created(&self.rows)
-    }
-
-    /// Whether main waits at `coend` and no child is unfinished.
-    fn is_released(&self) -> bool
-        ensures { result ≡ is_released self.now.rows }
-    {
-        let main = &self.rows[0];
-        main.is_at_coend() && all_over(&self.rows[1..])
+        self.rows.earliest()
     }
 
     fn children_may_end(&self) -> bool
         ensures { result ≡ children_may_end self.now.rows }
     {
-        any_unfinished(&self.rows[1..]) && all_may_end(&self.rows[1..])
+        self.rows.children_may_end()
     }
 
     pub(crate) fn release(&mut self)
         ensures { self.new ≡ released self.old }
     {
-        if self.is_released() {
+        if self.rows.is_released() {
             self.wake(0);
         }
     }
@@ -404,42 +375,54 @@ impl World {
         requires { self.old.acting ≡ Some r.number }
         ensures { self.new ≡ rested (placed self.old r.number Is_done) }
     {
-        self.acting = None;
-        let row = &mut self.rows[r.number() as usize];
-        row.finish(r);
+        let p = r.number();
+        self.rows.give_up(r);
+        self.ready.put(p, false);
     }
 
     pub(crate) fn end(&mut self, p: u32)
         requires { IsWaiting (at self.old.rows p) }
         ensures { self.new ≡ placed self.old p Is_done }
     {
-        let row = &mut self.rows[p as usize];
-        row.end();
+        self.rows.end(p);
+    }
+
+    fn some_created(&self) -> bool
+        ensures { result ≡ some_created self.now.rows }
+    {
+        self.rows.some_created()
     }
 
     fn start_created(&mut self)
         ensures { self.new ≡ all_started self.old }
     {
-        start_all(&mut self.rows);
+        self.rows.start_created();
+        show_ready(&self.rows, &mut self.ready);
     }
 
     fn wake_due(&mut self)
         ensures { self.new ≡ woken_now self.old }
     {
-        wake_all(&mut self.rows, self.moment);
-    }
-
-    fn earliest(&self) -> Option<u64>
-        ensures { result ≡ earliest self.now.rows }
-    {
-        earliest_of(&self.rows)
+        self.rows.wake_due();
+        show_ready(&self.rows, &mut self.ready);
     }
 
     fn move_to(&mut self, moment: u64)
         requires { self.old.acting ≡ None }
         ensures { self.new ≡ moved_to (Some moment) self.old }
     {
-        self.moment = moment;
+        self.rows.set_clock(moment);
         self.wake_due();
+    }
+}
+
+/// Puts the numbers of the ready processes into the set, which holds no number past the processes.
+fn show_ready(rows: &Rows, ready: &mut Numbers)
+    requires room { length rows.now.rows ≤ length ready.old }
+    requires past { (k : ℕ) → length rows.now.rows ≤ k → get_or ready.old k false ≡ false }
+    ensures { IsReadySet rows.now.rows ready.new }
+{
+    for p in 0..rows.processes() {
+        ready.put(p, rows.is_ready(p));
     }
 }

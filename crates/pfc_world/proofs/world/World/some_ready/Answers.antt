@@ -1,13 +1,8 @@
-use Rattle.std.proofs.Common.{ap, ◌∙◌}
-use Rattle.std.specs.List.{list_any}
-use Rattle.pfc_state.specs.Stands.{is_ready}
+use Rattle.std.proofs.Common.{nat_lt, ap, ◌∙◌}
 use Rattle.pfc_world.specs.Tables.{some_ready}
-use Rattle.pfc_world.proofs.Maps.{list_any-stands}
+use Rattle.pfc_world.proofs.ReadySets.{ready-some}
 use Rattle.pfc_world.proofs.world.World.some_ready.Goals as goal
 
 pub returns : goal.returns
 returns c =
-    c.any_ready.ensures
-    ∙ ap (λ v. list_any (λ seat. is_ready seat.stand) v) c.deref.ensures.value
-    ∙ list_any-stands is_ready c.self.inside.rows.items
-    ∙ ap (λ v. some_ready v.rows) c.self.view_is
+    ap (λ n. nat_lt 0 n) c.count.ensures ∙ ready-some c.self.inside.rows.rows c.self.inside.ready c.self.invariant ∙ ap (λ w. some_ready w.rows) c.self.view_is

@@ -116,6 +116,12 @@ pub acting-within : (seats : List Seat) (a : Option ℕ) (d m room r : ℕ) (w :
 acting-within seats a d m room r w now acts =
     subst (λ n. r < n) (sym (rows-length seats a d m room w now)) (now.tied.within r (ap (λ v. v.acting) now.is ∙ acts))
 
+-- who acts shows as ready
+pub acting-ready : (seats : List Seat) (a : Option ℕ) (d m room r : ℕ) (w : Table)
+    → Now seats a d m room w → w.acting ≡ Some r → at w.rows r ≡ Is_ready
+acting-ready seats a d m room r w now acts =
+    ap (λ v. at v.rows r) (sym now.is) ∙ now.tied.acts r (ap (λ v. v.acting) now.is ∙ acts)
+
 waiting-known : (s : Stand) → IsWaiting s → s ≢ Is_idle
 waiting-known (Waits why ticket arms) h e = cc
 waiting-known Is_idle h e = absurd h

@@ -2,7 +2,9 @@ pub mod AfterSettling
 pub mod BestSoFar
 pub mod Changes
 pub mod ChildrenEnd
+pub mod Earliest
 pub mod FirstIs
+pub mod Indexes
 pub mod Kept
 pub mod Maps
 pub mod Nobody

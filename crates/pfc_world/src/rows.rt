@@ -1,7 +1,7 @@
 //! The rows of the table: what each process stands at, who acts, the number of actions done, and the clock.
-ghost use Rattle.std.specs.Prelude.{◌≡◌, ℕ, ◌+◌, ◌*◌, ◌^◌, ◌<◌, ◌≤◌, true, false, None, Some, Option, [], length, map, IfOk, IfSome, MatchOption};
+ghost use Rattle.std.specs.Prelude.{◌≡◌, ℕ, ◌+◌, ◌*◌, ◌^◌, ◌<◌, ◌≤◌, true, false, None, Some, Option, [], length, map, is_some, IfOk, IfSome, MatchOption};
 ghost use Rattle.pfc_state.specs.declared.waits.Why.{Why};
-ghost use Rattle.pfc_state.specs.Stands.{Is_ready, Waits, Is_done, IsWaiting, is_ready, state_of, ticket_of, arms_of, may_end, ticket_at, ticket_on, ticket_offering, ticket_barred};
+ghost use Rattle.pfc_state.specs.Stands.{Is_ready, Waits, Is_done, IsWaiting, is_ready, due_of, state_of, ticket_of, arms_of, may_end, ticket_at, ticket_on, ticket_offering, ticket_barred};
 ghost use Rattle.pfc_state.specs.Waits.{is_select, place_of_arm};
 ghost use Rattle.pfc_world.specs.Coend.{IsAtCoend};
 ghost use Rattle.pfc_world.specs.Firsts.{first, last, offer_at, first_offer, first_ranked, least_rank, IsFirst, IsFirstRanked, IsLast, IsNobody};
@@ -124,6 +124,15 @@ impl Rows {
         row.is_ready()
     }
 
+    /// Whether the wait of a process ends by itself at a due moment.
+    pub(crate) fn is_due(&self, p: u32) -> bool
+        requires { p < length self.now.rows }
+        ensures { result ≡ is_some (due_of (at self.now.rows p)) }
+    {
+        let row = &self.rows[p as usize];
+        row.due().is_some()
+    }
+
     /// The number of the action that began the wait of a process, from 1; None where it does not wait.
     pub(crate) fn ticket(&self, p: u32) -> Option<u64>
         requires { p < length self.now.rows }
@@ -171,6 +180,7 @@ impl Rows {
         requires fresh { IsNew self.old.rows self.old.done }
         ensures table { self.new ≡ blocked self.old r.number why [] }
         ensures within { r.number < length self.old.rows }
+        ensures acted { at self.old.rows r.number ≡ Is_ready }
     {
         self.acting = None;
         let ticket = self.done + 1;
@@ -193,6 +203,7 @@ impl Rows {
         requires fresh { IsNew self.old.rows self.old.done }
         ensures table { self.new ≡ blocked self.old r.number (Why.Select due terminate) arms.now }
         ensures within { r.number < length self.old.rows }
+        ensures acted { at self.old.rows r.number ≡ Is_ready }
     {
         self.acting = None;
         let since = self.done + 1;
@@ -342,6 +353,7 @@ impl Rows {
         requires { self.old.acting ≡ Some r.number }
         ensures table { self.new ≡ rested (placed self.old r.number Is_done) }
         ensures within { r.number < length self.old.rows }
+        ensures acted { at self.old.rows r.number ≡ Is_ready }
     {
         self.acting = None;
         let row = &mut self.rows[r.number() as usize];

@@ -84,7 +84,7 @@ pub(crate) fn earliest_of(rows: &[Row]) -> Option<u64>
     soonest
 }
 
-fn sooner_due(soonest: Option<u64>, due: Option<u64>) -> Option<u64>
+pub(crate) fn sooner_due(soonest: Option<u64>, due: Option<u64>) -> Option<u64>
     ensures { result ≡ lesser soonest due }
 {
     match (soonest, due) {

@@ -1,8 +1,8 @@
 //! The table of processes.
 ghost use Rattle.std.specs.Prelude.{◌≡◌, ℕ, ◌+◌, ◌*◌, ◌^◌, ◌<◌, ◌≤◌, true, false, None, Some, Option, [], length, get_or, slice_index, map, IfOk, IfSome, MatchOption};
 ghost use Rattle.pfc_state.specs.declared.waits.Why.{Why};
-ghost use Rattle.pfc_state.specs.Stands.{Is_ready, Waits, Is_done, IsWaiting, state_of, ticket_of, arms_of, may_end, ticket_at, ticket_on, ticket_offering, ticket_barred};
-ghost use Rattle.pfc_state.specs.Waits.{is_select, place_of_arm};
+ghost use Rattle.pfc_state.specs.Stands.{Is_ready, Waits, Is_done, IsWaiting, is_due, state_of, ticket_of, arms_of, may_end, ticket_at, ticket_on, ticket_offering, ticket_barred};
+ghost use Rattle.pfc_state.specs.Waits.{is_select, place_of_arm, due_of_wait};
 ghost use Rattle.pfc_world.specs.Coend.{IsAtCoend};
 ghost use Rattle.pfc_world.specs.Firsts.{first, last, offer_at, first_offer, first_ranked, least_rank, IsFirst, IsFirstRanked, IsLast, IsNobody};
 ghost use Rattle.pfc_world.specs.Settling.{earliest, woken_now, moved_to, settled, children_may_end, may_all_end, IsLeftBy};
@@ -13,6 +13,7 @@ ghost use Rattle.pfc_world.specs.Tickets.{AreTickets, IsNew};
 ghost use Rattle.pfc_world.specs.Transitions.{begun, rested, placed, blocked, is_released, released, ended, finished, all_started, ticked, IsCreation};
 
 use crate::rows::Rows;
+use crate::walks::sooner_due as sooner;
 use crate::{After, Arm, Offer, Running, Settled, State, Why};
 use pfc_base::{Memory, RunFault};
 use pfc_lists::Numbers;
@@ -26,17 +27,19 @@ use std::marker::Model;
 pub struct World {
     rows: Rows,
     ready: Numbers,
+    /// the earliest due moment that is pending
+    next_due: Option<u64>,
 }
 
 impl Model for World {
     ghost use Rattle.pfc_world.specs.Tables.{Table};
-    ghost use Rattle.pfc_world.specs.Indexes.{IsReadySet};
+    ghost use Rattle.pfc_world.specs.Indexes.{IsIndexed};
 
     ghost Value = { Table };
 
     ghost view = { λ w. w.rows };
 
-    ghost invariant = { λ w. IsReadySet w.rows.rows w.ready };
+    ghost invariant = { λ w. IsIndexed w.rows.rows w.ready w.next_due };
 }
 
 impl World {
@@ -51,7 +54,11 @@ impl World {
         let rows = Rows::with_processes(alloc, n, arms)?;
         let mut ready = Numbers::new(alloc, n)?;
         ready.put(0, true);
-        Ok(World { rows, ready })
+        Ok(World {
+            rows,
+            ready,
+            next_due: None,
+        })
     }
 
     /// The number of processes, main included: from 1 to 1,024.
@@ -144,6 +151,7 @@ impl World {
         let p = r.number();
         self.rows.block(r, why);
         self.ready.put(p, false);
+        self.next_due = sooner(self.next_due, due_of(why));
     }
 
     /// The process that acts waits in a select, with the number of the present action as its ticket: for
@@ -158,6 +166,7 @@ impl World {
         let p = r.number();
         self.rows.block_select(r, arms, due, terminate);
         self.ready.put(p, false);
+        self.next_due = sooner(self.next_due, due);
     }
 
     /// The process that acts has finished; main is ready where it waits at `coend` and no child is
@@ -176,8 +185,12 @@ impl World {
         ensures world { self.new ≡ placed self.old p Is_ready }
         ensures fresh { IsNew self.old.rows self.old.done → IsNew self.new.rows self.new.done }
     {
+        let was_due = self.rows.is_due(p);
         self.rows.wake(p);
         self.ready.put(p, true);
+        if was_due {
+            self.next_due = self.rows.earliest();
+        }
     }
 
     /// A process that waits in a select with `terminate` finishes there; main is ready where it waits at
@@ -354,7 +367,7 @@ impl World {
     fn earliest(&self) -> Option<u64>
         ensures { result ≡ earliest self.now.rows }
     {
-        self.rows.earliest()
+        self.next_due
     }
 
     fn children_may_end(&self) -> bool
@@ -384,7 +397,11 @@ impl World {
         requires { IsWaiting (at self.old.rows p) }
         ensures { self.new ≡ placed self.old p Is_done }
     {
+        let was_due = self.rows.is_due(p);
         self.rows.end(p);
+        if was_due {
+            self.next_due = self.rows.earliest();
+        }
     }
 
     fn some_created(&self) -> bool
@@ -403,8 +420,12 @@ impl World {
     fn wake_due(&mut self)
         ensures { self.new ≡ woken_now self.old }
     {
+        if !is_due(self.next_due, self.now()) {
+            return;
+        }
         self.rows.wake_due();
         show_ready(&self.rows, &mut self.ready);
+        self.next_due = self.rows.earliest();
     }
 
     fn move_to(&mut self, moment: u64)
@@ -424,5 +445,26 @@ fn show_ready(rows: &Rows, ready: &mut Numbers)
 {
     for p in 0..rows.processes() {
         ready.put(p, rows.is_ready(p));
+    }
+}
+
+/// The moment at which a wait ends by itself.
+fn due_of(why: Why) -> Option<u64>
+    ensures { result ≡ due_of_wait why }
+{
+    match why {
+        Why::Sleep(moment) => Some(moment),
+        Why::Select { due, .. } => due,
+        _ => None,
+    }
+}
+
+/// Whether a due moment has come.
+fn is_due(due: Option<u64>, now: u64) -> bool
+    ensures { result ≡ is_due now due }
+{
+    match due {
+        Some(due) => due <= now,
+        None => false,
     }
 }

@@ -1,6 +1,6 @@
 use Rattle.std.proofs.Common.{refl}
 use Rattle.pfc_state.specs.Stands.{Is_done}
-use Rattle.pfc_world.proofs.Changes.{Now, acting-within, leaves}
+use Rattle.pfc_world.proofs.Changes.{Now, acting-within, acting-ready, leaves}
 use Rattle.pfc_world.proofs.rows.Rows.give_up.Goals as goal
 
 pub invariant_of-self : goal.invariant_of-self
@@ -17,3 +17,8 @@ pub returns-clause-within : goal.returns-clause-within
 returns-clause-within c =
     let h : Now c.self.inside.rows.items c.self.inside.acting c.self.inside.done c.self.inside.moment c.self.inside.room c.args.self.now = record { tied = c.self.invariant; is = c.self.view_is } in
     acting-within _ _ _ _ _ c.args.r.number _ h c.requires
+
+pub returns-clause-acted : goal.returns-clause-acted
+returns-clause-acted c =
+    let h : Now c.self.inside.rows.items c.self.inside.acting c.self.inside.done c.self.inside.moment c.self.inside.room c.args.self.now = record { tied = c.self.invariant; is = c.self.view_is } in
+    acting-ready _ _ _ _ _ c.args.r.number _ h c.requires

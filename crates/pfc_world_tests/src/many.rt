@@ -1,0 +1,249 @@
+//! Tables of 1,024 processes: the order in which waits end, ranks, due moments, and random transitions beside a
+//! plain list of tickets.
+ghost use Rattle.std.specs.Prelude.{◌≡◌, ◌<◌, ◌*◌, ◌^◌, true, false, None};
+ghost use Rattle.pfc_state.specs.Stands.{Is_ready};
+ghost use Rattle.pfc_world.specs.Tables.{at};
+ghost use Rattle.pfc_state.specs.Waits.{is_select};
+
+use pfc_base::Memory;
+use pfc_world::{After, State, Why, World};
+use std::alloc::Global;
+use std::test::Fail;
+
+const MOST: u32 = 1024;
+
+const LATEST: u64 = 1_000_000;
+
+const SEMAPHORE: Why = Why::Semaphore(0);
+
+/// A table in which nobody acts.
+#[derive(Drop)]
+struct Trial {
+    world: World,
+    ghost rests: { world.acting ≡ None },
+}
+
+impl Trial {
+    /// All children are ready, and main waits at `coend`.
+    fn new(alloc: Global) -> Result<Trial, Memory> {
+        let world = World::with_processes(alloc, MOST, 4)?;
+        let mut trial = Trial { world };
+        for p in 1..MOST {
+            trial.create(p);
+        }
+        trial.start();
+        Ok(trial)
+    }
+
+    fn create(&mut self, p: u32) {
+        if p < self.world.processes() {
+            let _ = self.world.create(p);
+        }
+    }
+
+    fn may_act(&self, p: u32) -> bool
+        ensures ready { result ≡ true → at self.now.world.rows p ≡ Is_ready }
+        ensures done { result ≡ true → self.now.world.done < 10 ^ 18 }
+        ensures moment { result ≡ true → self.now.world.moment < 2 * 10 ^ 18 }
+    {
+        p < self.world.processes()
+            && self.world.state(p) == State::Ready
+            && self.world.done() < LATEST
+            && self.world.now() < LATEST
+    }
+
+    fn start(&mut self) {
+        if self.may_act(0) {
+            self.world.tick();
+            let main = self.world.begin(0);
+            match self.world.coend(main) {
+                After::Goes(r) => self.world.rest(r),
+                After::Waits => {}
+            }
+        }
+    }
+
+    /// The process waits, in an action of its own, where it is ready.
+    fn wait(&mut self, p: u32, why: Why)
+        requires { is_select why ≡ false }
+    {
+        if self.may_act(p) {
+            self.world.tick();
+            let r = self.world.begin(p);
+            self.world.block(r, why);
+        }
+    }
+
+    /// The wait of the process is over, where it waits.
+    fn free(&mut self, p: u32) {
+        if p < self.world.processes() {
+            if let State::Waiting(_why) = self.world.state(p) {
+                self.world.wake(p);
+            }
+        }
+    }
+
+    fn settle(&mut self) {
+        let _ = self.world.settle();
+    }
+
+    /// The first ready process, or main where nobody is ready.
+    fn first_ready(&self) -> u32 {
+        if self.world.ready_count() > 0 {
+            self.world.ready_at(0)
+        } else {
+            0
+        }
+    }
+}
+
+#[test]
+fn waits_end_in_order(rt: HostRuntime) -> Result<(), Fail> {
+    let mut trial = Trial::new(rt.alloc())?;
+    for p in 1..MOST {
+        trial.wait(p, SEMAPHORE);
+    }
+    let mut held = trial.world.ready_count() == 0;
+    trial.free(500);
+    trial.free(1023);
+    for want in 1..MOST {
+        let first = trial.world.first_at(SEMAPHORE);
+        held = held && (want == 500 || want == 1023 || first == Some(want));
+        if first == Some(want) {
+            trial.free(want);
+        }
+    }
+    held = held
+        && trial.world.first_at(SEMAPHORE).is_none()
+        && trial.world.ready_count() == MOST - 1;
+    assert!(rt; held);
+    Ok(())
+}
+
+/// Ranks that are equal, rise, fall, and come again and again.
+fn rank_of(kind: u32, p: u32) -> i32 {
+    let p = (p % 2048) as i32;
+    match kind {
+        0 => 7,
+        1 => p,
+        2 => -p,
+        _ => p * 37 % 11 - 5,
+    }
+}
+
+#[test]
+fn ranks_come_before_tickets(rt: HostRuntime) -> Result<(), Fail> {
+    let mut trial = Trial::new(rt.alloc())?;
+    let mut held = true;
+    for kind in 0..4 {
+        for p in 1..MOST {
+            trial.wait(
+                p,
+                Why::Condition {
+                    number: kind,
+                    rank: rank_of(kind, p),
+                },
+            );
+        }
+        let mut before = (-5000, 0);
+        for _i in 1..MOST {
+            let next = match trial.world.first_ranked(kind) {
+                Some(p) => (rank_of(kind, p), p),
+                None => (-6000, 0),
+            };
+            held = held && before < next;
+            trial.free(next.1);
+            before = next;
+        }
+        held = held
+            && trial.world.first_ranked(kind).is_none()
+            && trial.world.ready_count() == MOST - 1;
+    }
+    assert!(rt; held);
+    Ok(())
+}
+
+/// The moment for which a child sleeps: four sleep for each.
+fn moment_of(p: u32) -> u64 {
+    u64::from(2000 + 10 * (p % 2048 * 7 % 250))
+}
+
+#[test]
+fn moments_come_in_order(rt: HostRuntime) -> Result<(), Fail> {
+    let mut trial = Trial::new(rt.alloc())?;
+    for p in 1..1001 {
+        trial.wait(p, Why::Sleep(moment_of(p)));
+    }
+    for p in 1001..MOST {
+        trial.wait(p, SEMAPHORE);
+    }
+    let mut held = true;
+    for k in 0..250 {
+        trial.settle();
+        held = held && trial.world.now() == 2000 + 10 * k && trial.world.ready_count() == 4;
+        for _i in 0..4 {
+            let p = trial.first_ready();
+            held = held && moment_of(p) == 2000 + 10 * k;
+            trial.wait(p, SEMAPHORE);
+        }
+    }
+    assert!(rt; held);
+    Ok(())
+}
+
+/// A wait, as the plain list has it.
+#[derive(Clone, Copy)]
+struct PlainWait {
+    place: u32,
+    ticket: u64,
+}
+
+/// The process of least ticket at a place, by the plain list, or that of the greatest.
+fn sought(waits: &[Option<PlainWait>; 64], place: u32, last: bool) -> Option<u32> {
+    let mut best: Option<PlainWait> = None;
+    let mut found = None;
+    for (p, wait) in waits.iter().enumerate() {
+        if let Some(wait) = *wait {
+            let better = match best {
+                Some(best) => (wait.ticket > best.ticket) == last,
+                None => true,
+            };
+            if wait.place == place && better {
+                best = Some(wait);
+                found = Some(p as u32);
+            }
+        }
+    }
+    found
+}
+
+#[test]
+fn random_waits_are_those_of_a_plain_list(rt: HostRuntime) -> Result<(), Fail> {
+    let mut trial = Trial::new(rt.alloc())?;
+    let mut waits: [Option<PlainWait>; 64] = [None; 64];
+    let mut word: u64 = 1;
+    let mut held = true;
+    for _i in 0..3000 {
+        word = word.wrapping_mul(75) % 65537;
+        let p = (word % 64) as u32;
+        let place = (word / 64 % 3) as u32;
+        if p > 0 && waits[p as usize].is_none() {
+            trial.wait(p, Why::Semaphore(place));
+            waits[p as usize] = Some(PlainWait {
+                place,
+                ticket: trial.world.done() + 1,
+            });
+        } else if p > 0 {
+            trial.free(p);
+            waits[p as usize] = None;
+        }
+        for place in 0..3 {
+            held = held
+                && trial.world.first_at(Why::Semaphore(place)) == sought(&waits, place, false);
+            held = held
+                && trial.world.last_at(Why::Semaphore(place)) == sought(&waits, place, true);
+        }
+    }
+    assert!(rt; held);
+    Ok(())
+}

@@ -142,3 +142,12 @@ else_where_spreads_leave_nothing = refl
 received_into_the_spreads_variable : ran (codes "program z; var c: array[1..2] of channel of integer; k: integer; process p; begin c[2] ! 9 end; process q; begin select for k := 1 to 2 replicate c[k] ? k; write(k) end end; begin cobegin p; q coend end.") [] 1 (by_turn 0) 1000 ≡ shows (codes "2") Finished []
 unfolding ran
 received_into_the_spreads_variable = refl
+
+-- a process waits at the channel that its own view has, whoever meets it
+channel_by_reference : ran (codes "program w; type k = channel of integer; var a, c: k; procedure get(var d: k; var v: integer); begin d ? v end; process p; var v: integer; begin get(c, v); write(v) end; process q; begin sleep(1); c ! 5 end; begin cobegin p; q coend; writeln end.") [] 1 (by_turn 0) 1000 ≡ shows (codes "5\n") Finished []
+unfolding ran
+channel_by_reference = refl
+
+channel_by_reference_in_a_select : ran (codes "program w; type k = channel of integer; var a, c: k; procedure get(var d: k; var v: integer); begin select d ? v or a ? v end end; process p; var v: integer; begin get(c, v); write(v) end; process q; begin sleep(1); c ! 5 end; begin cobegin p; q coend; writeln end.") [] 1 (by_turn 0) 1000 ≡ shows (codes "5\n") Finished []
+unfolding ran
+channel_by_reference_in_a_select = refl

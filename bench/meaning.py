@@ -173,6 +173,8 @@ def main(args):
                 wrong.append(cases[name])
                 print("differs: %s: %s" % (cases[name], bad[name][:300]), flush=True)
         print("%d agree, %d differ, %d too long, of %d" % (agree, len(wrong), len(long), min(start + batch, len(samples))), flush=True)
+    if long:
+        print("too long: " + ", ".join(long))
     if not keep:
         shutil.rmtree(work)
     sys.exit(1 if wrong else 0)

@@ -157,7 +157,10 @@ static STATES: [(State, &str); 18] = [
         "waiting in a select",
     ),
     (State::Waiting(Why::Enter(0)), "waiting to enter a monitor"),
-    (State::Waiting(Why::Condition { number: 0, rank: 0 }), "waiting on a condition"),
+    (
+        State::Waiting(Why::Condition { number: 0, rank: 0 }),
+        "waiting on a condition",
+    ),
     (State::Waiting(Why::Resumer(0)), "waiting after resume"),
     (
         State::Waiting(Why::Entrant(0)),

@@ -1,5 +1,6 @@
-pub mod Joining
-pub mod Form
-pub mod Last
-pub mod Simulation
-pub mod Sound
+pub mod Courses
+pub mod Fair
+pub mod Images
+pub mod One
+pub mod Outcomes
+pub mod Replies

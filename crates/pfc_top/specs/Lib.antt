@@ -1,9 +1,6 @@
-pub mod Bytes
-pub mod Code
-pub mod Form
-pub mod Items
-pub mod Machine
-pub mod Ran
-pub mod Reader
 pub mod Answers
+pub mod Compiling
 pub mod Outcome
+pub mod Running
+pub mod Runs
+pub mod Settings

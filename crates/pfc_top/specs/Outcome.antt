@@ -6,6 +6,7 @@ use Rattle.std.specs.Io.KnownBytes.{Appends}
 use Rattle.pfc_io.specs.Files.{File, bytes_of, IsMissing, IsLong}
 use Rattle.pfc_io.specs.Writes.{AppendsFront}
 use Rattle.pfc_top.specs.Answers.{IsAnswerTo}
+use Rattle.pfc_top.specs.Settings.{Settings, plain}
 
 -- a status and the bytes that are written with it
 pub record Outcome : Type 0 where
@@ -35,22 +36,23 @@ file_asked (program ∷ (file ∷ [])) = Some file
 file_asked (program ∷ (file ∷ (more ∷ rest))) = None
 
 -- the outcome of a held text: above its limit status 9, else the answer to it
-abbrev pub IsOutcomeOfHeld : List ℕ → Outcome → Type 0
-IsOutcomeOfHeld text outcome = ((text_limit < length text) × (outcome ≡ outcome_of 9 [])) ⊎ ((length text ≤ text_limit) × IsAnswerTo text outcome.status outcome.bytes)
+abbrev pub IsOutcomeOfHeld : List ℕ → Settings → Outcome → Type 0
+IsOutcomeOfHeld text settings outcome =
+    ((text_limit < length text) × (outcome ≡ outcome_of 9 [])) ⊎ ((length text ≤ text_limit) × IsAnswerTo text settings outcome.status outcome.bytes)
 
 -- the outcome of FILE: status 6 where it is not held
-abbrev pub IsOutcomeOfFile : Option (List ℕ) → Outcome → Type 0
-IsOutcomeOfFile None outcome = outcome ≡ outcome_of 6 []
-IsOutcomeOfFile (Some text) outcome = IsOutcomeOfHeld text outcome
+abbrev pub IsOutcomeOfFile : Option (List ℕ) → Settings → Outcome → Type 0
+IsOutcomeOfFile None settings outcome = outcome ≡ outcome_of 6 []
+IsOutcomeOfFile (Some text) settings outcome = IsOutcomeOfHeld text settings outcome
 
 -- the outcome of the options: status 2 where the words give none
-abbrev pub IsOutcomeOfOptions : Option (List ℕ) → List File → Outcome → Type 0
-IsOutcomeOfOptions None files outcome = outcome ≡ outcome_of 2 usage_lines
-IsOutcomeOfOptions (Some file) files outcome = IsOutcomeOfFile (bytes_of file files) outcome
+abbrev pub IsOutcomeOfOptions : Option (List ℕ) → List File → Settings → Outcome → Type 0
+IsOutcomeOfOptions None files settings outcome = outcome ≡ outcome_of 2 usage_lines
+IsOutcomeOfOptions (Some file) files settings outcome = IsOutcomeOfFile (bytes_of file files) settings outcome
 
 -- the outcome of the words and the files
 abbrev pub IsOutcome : List (List ℕ) → List File → Outcome → Type 0
-IsOutcome words files outcome = IsOutcomeOfOptions (file_asked words) files outcome
+IsOutcome words files outcome = IsOutcomeOfOptions (file_asked words) files plain outcome
 
 -- the status and the appended bytes are an outcome of the words and the files
 abbrev pub Gives : List (List ℕ) → List File → ℕ → Option (List ℕ) → Option (List ℕ) → Type 0
@@ -60,9 +62,9 @@ Gives words files status old new = (bytes : List ℕ) × IsOutcome words files (
 abbrev pub GivesFront : List (List ℕ) → List File → Option (List ℕ) → Option (List ℕ) → Type 0
 GivesFront words files old new = (outcome : Outcome) × IsOutcome words files outcome × AppendsFront old new outcome.bytes
 
--- the statuses of a text that was loaded: finished, refused, fault
+-- the statuses of a text that was loaded: finished, refused, fault, deadlock, limit
 abbrev pub IsAnswered : ℕ → Type 0
-IsAnswered status = (status ≡ 0) ⊎ (status ≡ 1) ⊎ (status ≡ 3)
+IsAnswered status = (status ≡ 0) ⊎ (status ≡ 1) ⊎ (status ≡ 3) ⊎ (status ≡ 4) ⊎ (status ≡ 5)
 
 -- every status
 abbrev pub IsStatus : ℕ → Type 0

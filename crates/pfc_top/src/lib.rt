@@ -1,13 +1,13 @@
 //! The top call: words, files and a sink in, a status out.
+//!
+//! It promises that the status and the bytes are those of the source text itself: its first fault, or the run that its
+//! constructs make. It scans, parses, checks, compiles and runs by the crates below, and has no meaning of its own.
 #![tactic(auto)]
 
-mod answers;
-mod code;
-mod items;
-mod machine;
-mod operands;
-mod reader;
-mod report_of_run;
+mod answering;
+mod compiling;
+mod running;
 mod top;
+mod writing;
 
 pub use top::pfc;

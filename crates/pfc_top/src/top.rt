@@ -6,9 +6,9 @@ ghost use Rattle.pfc_io.specs.Files.{File, IsMissing, IsLong};
 ghost use Rattle.pfc_io.specs.Writes.{AppendsFront};
 ghost use Rattle.pfc_top.specs.Outcome.{Outcome, IsOutcome, Gives, GivesFront, IsStatus, IsAskedMissing, IsAskedLong, file_asked, texts_of};
 
-use crate::answers::answer_to;
-use pfc_base::Memory;
-use pfc_io::{LoadFault, Shelf, Sink, write_all};
+use crate::answering::answer;
+use crate::writing::{NO_MEMORY, say};
+use pfc_io::{LoadFault, Shelf, Sink};
 use std::alloc::Global;
 
 /// The most bytes of a text.
@@ -17,10 +17,6 @@ const TEXT_LIMIT: usize = 262_144;
 const REFUSED_WORDS: u8 = 2;
 
 const LOAD_FAILED: u8 = 6;
-
-const WRITE_FAILED: u8 = 7;
-
-const NO_MEMORY: u8 = 8;
 
 const TOO_LONG: u8 = 9;
 
@@ -32,7 +28,7 @@ const USAGE: &str = "-- words refused\nusage: pfc FILE\n";
 /// sink: the output of the run and the line of its ending, or the line of the text's refusal, or the lines for
 /// refused words. The status is
 ///
-/// * 0 where the run finished, and 3 where it met a fault;
+/// * 0 where the run finished, 3 where it met a fault, 4 where nobody could go on, and 5 at its limit of actions;
 /// * 1 where the text is refused, and 2 where the words are;
 /// * 6 where the shelf does not give the file, and 9 where the file is longer; then nothing is written;
 /// * 7 where the sink takes no more, and 8 where memory is wanting.
@@ -76,10 +72,7 @@ pub fn pfc<F: Shelf, O: Sink>(alloc: Global, words: &[String], shelf: &mut F, si
         Err(LoadFault::TooLong) => return TOO_LONG,
         Err(LoadFault::Memory) => return NO_MEMORY,
     };
-    match answer_to(alloc, &text) {
-        Ok(answer) => say(sink, &answer.bytes, answer.status),
-        Err(Memory) => NO_MEMORY,
-    }
+    answer(alloc, &text, sink)
 }
 
 fn file_of(words: &[String]) -> Option<&str>
@@ -88,16 +81,5 @@ fn file_of(words: &[String]) -> Option<&str>
     match words {
         [_, file] => Some(file.as_str()),
         _ => None,
-    }
-}
-
-fn say<O: Sink>(sink: &mut O, bytes: &[u8], status: u8) -> u8
-    ensures whole { result ≢ 7 → (result ≡ status) × Appends (O.written sink.old) (O.written sink.new) bytes.now }
-    ensures cut { result ≡ 7 → (status ≡ 7) ⊎ Rose (O.faults sink.old) (O.faults sink.new) }
-    ensures front { AppendsFront (O.written sink.old) (O.written sink.new) bytes.now }
-{
-    match write_all(sink, bytes) {
-        Ok(()) => status,
-        Err(_) => WRITE_FAILED,
     }
 }

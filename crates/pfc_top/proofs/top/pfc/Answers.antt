@@ -1,38 +1,41 @@
-use Rattle.std.proofs.Common.{◌≡◌, rules, ℕ, List, Option, subst, sym}
-use Rattle.std.specs.Io.KnownBytes.{Appends}
-use Rattle.pfc_io.specs.Files.{File}
+use Rattle.std.proofs.Common.{◌≡◌, ◌≤◌, rules, ℕ, List, Option, length, sym, subst}
 use Rattle.pfc_io.specs.Writes.{AppendsFront}
-use Rattle.pfc_top.specs.Outcome.{outcome_of, usage_lines, IsOutcome, texts_of}
+use Rattle.pfc_top.specs.Outcome.{outcome_of, usage_lines, texts_of}
+use Rattle.pfc_top.proofs.Outcomes.{held_outcome, held_answer, held_of}
 use Rattle.pfc_top.proofs.top.pfc.Goals as goal
 
 front_of : (old new : Option (List ℕ)) (bs cs : List ℕ) → bs ≡ cs → AppendsFront old new bs → AppendsFront old new cs
 front_of old new bs cs same front = subst (λ (x : List ℕ). AppendsFront old new x) same front
 
-appended_of : (old new : Option (List ℕ)) (bs cs : List ℕ) → bs ≡ cs → Appends old new bs → Appends old new cs
-appended_of old new bs cs same appended = subst (λ (x : List ℕ). Appends old new x) same appended
-
-outcome_at : (words : List (List ℕ)) (files : List File) (bytes : List ℕ) (result status : ℕ) → result ≡ status → IsOutcome words files (outcome_of status bytes) → IsOutcome words files (outcome_of result bytes)
-outcome_at words files bytes result status same h = subst (λ (x : ℕ). IsOutcome words files (outcome_of x bytes)) (sym same) h
+short_of : (bs cs : List ℕ) → bs ≡ cs → length cs ≤ 262144 → length bs ≤ 262144
+short_of bs cs same few = subst (λ (x : List ℕ). length x ≤ 262144) (sym same) few
 
 pub returns-in_default-clause-cut : goal.returns-in_default-clause-cut
 returns-in_default-clause-cut g c = λ files told cut. (outcome_of 2 usage_lines, search rules, front_of _ _ _ _ c.as_bytes.ensures.value c.say.ensures.front)
 
-pub returns-in-Ok-answer_to-clause-cut : goal.returns-in-Ok-answer_to-clause-cut
-returns-in-Ok-answer_to-clause-cut g c = λ files told cut. (outcome_of c.in-Ok-answer_to.answer.status c.in-Ok-answer_to.answer.bytes.items, search rules, front_of _ _ _ _ c.deref-in-Ok-answer_to.ensures.value c.say-in-Ok-answer_to.ensures.front)
-
-pub returns-in-Ok-answer_to-clause-outcome : goal.returns-in-Ok-answer_to-clause-outcome
-returns-in-Ok-answer_to-clause-outcome g c = λ files told unfailed uncut memory.
-    let said = c.say-in-Ok-answer_to.ensures.whole uncut in (
-      c.in-Ok-answer_to.answer.bytes.items,
-      outcome_at (texts_of c.args.words.now) files c.in-Ok-answer_to.answer.bytes.items c.say-in-Ok-answer_to.result c.in-Ok-answer_to.answer.status said.0 (search rules),
-      appended_of _ _ _ _ c.deref-in-Ok-answer_to.ensures.value said.1,
+pub returns-clause-headline : goal.returns-clause-headline
+returns-clause-headline g c = λ files told unfailed uncut memory.
+    let (bytes, answer, appended) = c.answer.ensures.whole (λ h. uncut (c.answer.ensures.cut h)) memory in (
+      bytes,
+      held_outcome (texts_of c.args.words.now) files c.in-Some.file.now c.deref.result.now (sym c.in-Some.ensures)
+          (held_of _ files c.in-Some.file.now c.in-Ok.text.items c.deref.result.now told c.in-Ok.ensures.given c.deref.ensures.value)
+          (short_of _ _ c.deref.ensures.value c.in-Ok.ensures.bounded) c.answer.result bytes answer,
+      appended,
     )
 
-pub returns-in-Ok-answer_to-clause-headline : goal.returns-in-Ok-answer_to-clause-headline
-returns-in-Ok-answer_to-clause-headline g c = λ files told unfailed uncut memory.
-    let written = λ (h : c.say-in-Ok-answer_to.result ≡ 7). uncut (search rules) in
-    let said = c.say-in-Ok-answer_to.ensures.whole written in (
-      c.in-Ok-answer_to.answer.bytes.items,
-      outcome_at (texts_of c.args.words.now) files c.in-Ok-answer_to.answer.bytes.items c.say-in-Ok-answer_to.result c.in-Ok-answer_to.answer.status said.0 (search rules),
-      appended_of _ _ _ _ c.deref-in-Ok-answer_to.ensures.value said.1,
+pub returns-clause-cut : goal.returns-clause-cut
+returns-clause-cut g c = λ files told cut.
+    let (status, bytes, answer, front) = c.answer.ensures.part cut in (
+      outcome_of status bytes,
+      held_outcome (texts_of c.args.words.now) files c.in-Some.file.now c.deref.result.now (sym c.in-Some.ensures)
+          (held_of _ files c.in-Some.file.now c.in-Ok.text.items c.deref.result.now told c.in-Ok.ensures.given c.deref.ensures.value)
+          (short_of _ _ c.deref.ensures.value c.in-Ok.ensures.bounded) status bytes answer,
+      front,
     )
+
+pub returns-clause-no_memory : goal.returns-clause-no_memory
+returns-clause-no_memory g c = λ files outcome told memory is.
+    c.answer.ensures.front memory outcome.status outcome.bytes
+    (held_answer (texts_of c.args.words.now) files c.in-Some.file.now c.deref.result.now (sym c.in-Some.ensures)
+    (held_of _ files c.in-Some.file.now c.in-Ok.text.items c.deref.result.now told c.in-Ok.ensures.given c.deref.ensures.value)
+    (short_of _ _ c.deref.ensures.value c.in-Ok.ensures.bounded) outcome is)

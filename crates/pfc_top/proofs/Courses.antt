@@ -1,0 +1,136 @@
+-- The run of an image is that of its tree, and what is written of it.
+use Rattle.std.proofs.Common.{◌≡◌, ◌⊎◌, inl, inr, ℕ, ◌-◌, List, ◌++◌, Option, refl, sym, ap, ◌∙◌, subst, arith}
+use Rattle.std.specs.Io.KnownBytes.{Appends}
+use Rattle.std.proofs.KnownBytes.{Appends-trans}
+use Rattle.pfc_io.specs.Writes.{AppendsFront}
+use Rattle.pfc_io.proofs.Written.{AppendsFront-append, AppendsFront-after}
+use Rattle.pfc_state.specs.declared.endings.Ending.{Ending}
+use Rattle.pfc_state.specs.declared.endings.Ending.TheVariants.{Finished, Fault, Deadlock, Limit, Script, SinkFailed, Memory}
+use Rattle.pfc_code.specs.Images.{PlainImage}
+use Rattle.pfc_tree.specs.trees.Parts.{ProgramTree}
+use Rattle.pfc_sched.specs.Picks.{Picking, first_picking}
+use Rattle.pfc_sched.specs.declared.picking.Policy.TheVariants.{Fair}
+use Rattle.pfc_meaning.specs.Configurations.{Config, start, main_env}
+use Rattle.pfc_meaning.specs.Runs.{Final, run_from}
+use Rattle.pfc_relation.specs.Programs.{program_of}
+use Rattle.pfc_relation.specs.Standing.{IsChecked}
+use Rattle.pfc_relation.proofs.Starting.{tree_checked}
+use Rattle.pfc_drive.specs.Courses.{run_left, Completes, IsBrokenOff, IsCourse}
+use Rattle.pfc_drive.specs.Programs.{IsProgram}
+use Rattle.pfc_drive.specs.States.{State}
+use Rattle.pfc_drive.proofs.Beginnings.{tree_is_program}
+use Rattle.pfc_report.specs.Reports.{HasReport}
+use Rattle.pfc_top.specs.Compiling.{IsImage}
+use Rattle.pfc_top.specs.Running.{IsRunStatus}
+use Rattle.pfc_top.specs.Runs.{run_of, report_of, written_by, status_of}
+use Rattle.pfc_top.specs.Settings.{Settings, plain}
+use Rattle.pfc_top.proofs.Fair.{IsOwn, IsFree, run_own}
+
+-- ## What the run asks for
+
+module _ (tree : ProgramTree) (settings : Settings) (image : PlainImage) (is : IsImage tree image) where
+  pub image_program : IsProgram (program_of tree) image
+  image_program = subst (λ (i : PlainImage). IsProgram (program_of tree) i) (sym is.same) (tree_is_program tree is.runnable.few)
+
+  pub image_checked : IsChecked (program_of tree)
+  image_checked = tree_checked tree is.runnable.whole is.runnable.built
+
+-- any other ending than these two has a report
+pub has_report : (ending : Ending) → (ending ≡ SinkFailed → ⊥) → (ending ≡ Memory → ⊥) → HasReport ending
+has_report Finished failed none = tt
+has_report (Fault process line fault) failed none = tt
+has_report Deadlock failed none = tt
+has_report (Limit n) failed none = tt
+has_report (Script item why) failed none = tt
+has_report SinkFailed failed none = absurd (failed refl)
+has_report Memory failed none = absurd (none refl)
+
+-- ## What the run comes to
+
+module _ (tree : ProgramTree) (settings : Settings) where
+  -- the run from the start on
+  abbrev from_start : Final
+  from_start = run_left (program_of tree) settings.limit (first_picking settings.policy) (start tree settings.input settings.seed)
+
+  same_run : from_start ≡ run_of tree settings
+  same_run = ap (λ (n : ℕ). run_from (main_env tree) settings.limit n (first_picking settings.policy) (start tree settings.input settings.seed)) (let all : settings.limit - 0 ≡ settings.limit = omega arith in all)
+
+  own_status : (ending : Ending) → IsOwn ending → IsRunStatus (status_of ending)
+  own_status Finished h = inl refl
+  own_status (Fault process line fault) h = inr (inl refl)
+  own_status Deadlock h = inr (inr (inl refl))
+  own_status (Limit n) h = inr (inr (inr refl))
+  own_status (Script item why) h = absurd h
+  own_status SinkFailed h = absurd h
+  own_status Memory h = absurd h
+
+  -- where no list names the processes
+  pub status_of_run : IsFree (first_picking settings.policy) → (status : ℕ) → status ≡ status_of (run_of tree settings).ending → IsRunStatus status
+  status_of_run free status is =
+      subst (λ (s : ℕ). IsRunStatus s) (sym is)
+      (own_status (run_of tree settings).ending (run_own (main_env tree) settings.limit settings.limit (first_picking settings.policy) (start tree settings.input settings.seed) free))
+
+  -- the start of the run
+  abbrev from : Config
+  from = start tree settings.input settings.seed
+
+  -- a course with a report is whole, and the course of the run from its start is the run
+  pub completed : (ending : Ending) (session : State) (old mid : Option (List ℕ)) → HasReport ending → IsCourse (program_of tree) from_start from session ending old mid
+      → Completes (program_of tree) (run_of tree settings) from session ending old mid
+  completed ending session old mid h course = at ending h (subst (λ (f : Final). IsCourse (program_of tree) f from session ending old mid) same_run course)
+    where
+      at : (ending : Ending) → HasReport ending → IsCourse (program_of tree) (run_of tree settings) from session ending old mid
+          → Completes (program_of tree) (run_of tree settings) from session ending old mid
+      at Finished h course = course
+      at (Fault process line fault) h course = course
+      at Deadlock h course = course
+      at (Limit n) h course = course
+      at (Script item why) h course = course
+      at SinkFailed h course = absurd h
+      at Memory h course = absurd h
+
+  module _ (ending : Ending) (session : State) (old mid new : Option (List ℕ)) (p : Completes (program_of tree) (run_of tree settings) from session ending old mid) where
+    -- its output, and then the report
+    pub written_whole : Appends mid new (report_of tree (run_of tree settings)) → Appends old new (written_by tree (run_of tree settings))
+    written_whole report =
+        subst (λ (bytes : List ℕ). Appends old new (bytes ++ report_of tree (run_of tree settings))) (sym p.output)
+        (Appends-trans old mid new p.bytes (report_of tree (run_of tree settings)) p.written report)
+
+    pub written_front : AppendsFront mid new (report_of tree (run_of tree settings)) → AppendsFront old new (written_by tree (run_of tree settings))
+    written_front report =
+        subst (λ (bytes : List ℕ). AppendsFront old new (bytes ++ report_of tree (run_of tree settings))) (sym p.output)
+        (AppendsFront-after old mid new p.bytes (report_of tree (run_of tree settings)) p.written report)
+
+  -- a run that was broken off
+  pub broken_front : (old new : Option (List ℕ)) → IsBrokenOff from_start from old new → AppendsFront old new (written_by tree (run_of tree settings))
+  broken_front old new h =
+      let p : IsBrokenOff (run_of tree settings) from old new = subst (λ (f : Final). IsBrokenOff f from old new) same_run h in
+      subst (λ (bytes : List ℕ). AppendsFront old new (bytes ++ report_of tree (run_of tree settings))) (sym p.output)
+      (AppendsFront-append old new p.bytes (report_of tree (run_of tree settings)) p.front)
+
+  -- the course as `run` gives it
+  pub course_from : (limit : ℕ) (picking : Picking) (session : State) (ending : Ending) (old new : Option (List ℕ)) → limit ≡ settings.limit → picking ≡ first_picking settings.policy
+      → IsCourse (program_of tree) (run_left (program_of tree) limit picking from) from session ending old new → IsCourse (program_of tree) from_start from session ending old new
+  course_from limit picking session ending old new most picks course =
+      subst (λ (p : Picking). IsCourse (program_of tree) (run_left (program_of tree) settings.limit p from) from session ending old new) picks
+      (subst (λ (n : ℕ). IsCourse (program_of tree) (run_left (program_of tree) n picking from) from session ending old new) most course)
+
+  -- the status of a run that was reported, or not
+  pub status_cases : IsFree (first_picking settings.policy) → (status : ℕ) (ending : Ending) → ending ≡ (run_of tree settings).ending → (status ≡ status_of ending) ⊎ (status ≡ 7) ⊎ (status ≡ 8)
+      → IsRunStatus status ⊎ (status ≡ 7) ⊎ (status ≡ 8)
+  status_cases free status ending ends (inl same) = inl (status_of_run free status (same ∙ ap status_of ends))
+  status_cases free status ending ends (inr other) = inr other
+
+-- ## How every run is asked for
+
+pub plain_limit : 1000000 ≡ plain.limit
+unfolding plain
+plain_limit = refl
+
+pub plain_policy : first_picking (Fair 1) ≡ first_picking plain.policy
+unfolding plain
+plain_policy = refl
+
+pub plain_free : IsFree (first_picking plain.policy)
+unfolding plain
+plain_free = tt

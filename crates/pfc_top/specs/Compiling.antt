@@ -1,0 +1,63 @@
+-- What the way from a text to its image comes to.
+use Rattle.std.specs.Prelude.{◌≡◌, ◌≤◌, ℕ, false, List, None}
+use Rattle.pfc_base.specs.declared.places.Place.{Place}
+use Rattle.pfc_base.specs.declared.tokens.Token.{Token}
+use Rattle.pfc_code.specs.Images.{PlainImage}
+use Rattle.pfc_scan.specs.Cutting.{IsCut, tokens}
+use Rattle.pfc_tree.specs.Grammar.{IsSmall}
+use Rattle.pfc_tree.specs.trees.Parts.{ProgramTree}
+use Rattle.pfc_tree.specs.forget.Parts.{forget_program}
+use Rattle.pfc_grammar.specs.Outcomes.{IsTreeOf}
+use Rattle.pfc_types.specs.rules.Whole.{first_fault}
+use Rattle.pfc_meaning.specs.Unbuilt.{unbuilt}
+use Rattle.pfc_gen.specs.Images.{image_of}
+use Rattle.pfc_report.specs.Refusals.{refusal_line_text}
+use Rattle.pfc_top.specs.Answers.{most_instructions, instruction_count, not_built_line, IsLevel, IsAnswerTo, IsAnswerToTokens, IsAnswerToTree}
+use Rattle.pfc_top.specs.Settings.{Settings}
+use Rattle.pfc_top.specs.declared.compiling.Uncompiled.{Uncompiled}
+use Rattle.pfc_top.specs.declared.compiling.Uncompiled.TheVariants.{Refused, NotBuilt, Memory}
+
+-- ## An image
+
+-- a program that is run: no rule is broken in it, it is built, and it is not too large
+pub record IsRunnable (tree : ProgramTree) : Type 0 where
+  pub small : IsSmall (forget_program tree)
+  pub whole : first_fault tree ≡ None
+  pub built : unbuilt tree ≡ false
+  pub few : instruction_count tree ≤ most_instructions
+
+-- the image of a tree
+pub record IsImage (tree : ProgramTree) (image : PlainImage) : Type 0 where
+  pub runnable : IsRunnable tree
+  pub same : image ≡ image_of tree
+
+-- the image of the tree that tokens write
+pub record AreCompiled (ts : List Token) (image : PlainImage) : Type 0 where
+  pub tree : ProgramTree
+  pub written : IsTreeOf ts tree
+  pub level : IsLevel tree
+  pub is : IsImage tree image
+
+-- the image of a text
+pub record IsCompiled (text : List ℕ) (image : PlainImage) : Type 0 where
+  pub ts : List Token
+  pub end : Place
+  pub cut : IsCut text (tokens ts end)
+  pub compiled : AreCompiled ts image
+
+-- ## No image
+
+-- the text of these answers has no image, unless memory is wanting: it is refused by one line, whatever is asked for
+abbrev pub RefusedFor : (Settings → ℕ → List ℕ → Type 0) → Uncompiled → Type 0
+RefusedFor answers (Refused r) = (settings : Settings) → answers settings 1 (refusal_line_text r)
+RefusedFor answers NotBuilt = (settings : Settings) → answers settings 1 not_built_line
+RefusedFor answers Memory = Unit {0}
+
+abbrev pub IsUncompiled : List ℕ → Uncompiled → Type 0
+IsUncompiled text why = RefusedFor (IsAnswerTo text) why
+
+abbrev pub AreUncompiled : List Token → Place → Uncompiled → Type 0
+AreUncompiled ts end why = RefusedFor (IsAnswerToTokens ts end) why
+
+abbrev pub IsWithout : ProgramTree → Uncompiled → Type 0
+IsWithout tree why = RefusedFor (IsAnswerToTree tree) why

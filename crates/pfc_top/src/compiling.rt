@@ -1,0 +1,114 @@
+//! From a text to the image of its program, or to its first fault.
+ghost use Rattle.std.specs.Prelude.{◌≡◌, ◌≤◌, false, length, IfOk, IfErr};
+ghost use Rattle.pfc_code.specs.Images.{plain_image};
+ghost use Rattle.pfc_meaning.specs.Unbuilt as meaning;
+ghost use Rattle.pfc_tree.specs.Grammar.{IsSmall};
+ghost use Rattle.pfc_tree.specs.Readings.{tree_shape};
+ghost use Rattle.pfc_tree.specs.views.Parts.{tree_view};
+ghost use Rattle.pfc_top.specs.Answers.{place_at as place_of_token};
+ghost use Rattle.pfc_top.specs.Compiling.{IsCompiled, IsUncompiled, AreCompiled, AreUncompiled, IsImage, IsWithout};
+
+use pfc_base::{Place, Refusal, Token};
+use pfc_check::{CheckFault, check};
+use pfc_code::Image;
+use pfc_gen::{GenFault, generate};
+use pfc_meaning::unbuilt;
+use pfc_parse::{SyntaxFault, parse};
+use pfc_scan::{ScanFault, scan};
+use pfc_tree::Tree;
+use pfc_types::Checked;
+use std::alloc::Global;
+
+/// The code of a token that is not expected.
+const UNEXPECTED: u16 = 201;
+
+/// The code of a token that stands too deep.
+const TOO_DEEP: u16 = 202;
+
+/// The code of a program with too many instructions.
+const TOO_LARGE: u16 = 501;
+
+/// Why a text has no image.
+#[derive(Clone, Copy)]
+pub(crate) enum Uncompiled {
+    /// It has this fault first.
+    Refused(Refusal),
+    /// It has no fault, and holds what is not built yet.
+    NotBuilt,
+    /// Memory is wanting.
+    Memory,
+}
+
+/// The image of a text of at most 262,144 bytes.
+pub(crate) fn compile(alloc: Global, text: &[u8]) -> Result<Image, Uncompiled>
+    requires { length text.now ≤ 262144 }
+    ensures image { IfOk result (λ image. IsCompiled text.now (plain_image image)) }
+    ensures none { IfErr result (λ why. IsUncompiled text.now why) }
+{
+    match scan(alloc, text) {
+        Ok(scanned) => compile_tokens(alloc, &scanned.tokens, scanned.end),
+        Err(ScanFault::Refused(refusal)) => Err(Uncompiled::Refused(refusal)),
+        Err(ScanFault::Memory) => Err(Uncompiled::Memory),
+    }
+}
+
+/// The image of the program that tokens write, behind which the text ends at `end`.
+fn compile_tokens(alloc: Global, tokens: &[Token], end: Place) -> Result<Image, Uncompiled>
+    requires { length tokens.now ≤ 262144 }
+    ensures image { IfOk result (λ image. AreCompiled tokens.now (plain_image image)) }
+    ensures none { IfErr result (λ why. AreUncompiled tokens.now end why) }
+{
+    match parse(alloc, tokens) {
+        Ok(tree) => compile_tree(alloc, tree),
+        Err(SyntaxFault::Unexpected { at }) => Err(refused_at(tokens, end, UNEXPECTED, at)),
+        Err(SyntaxFault::Deep { at }) => Err(refused_at(tokens, end, TOO_DEEP, at)),
+        Err(SyntaxFault::Memory) => Err(Uncompiled::Memory),
+    }
+}
+
+/// The refusal of the token number `at`, or of the end for the number of the tokens.
+fn refused_at(tokens: &[Token], end: Place, code: u16, at: u32) -> Uncompiled
+    ensures { result ≡ Uncompiled.Refused (record { code = code; place = place_of_token tokens.now end at }) }
+{
+    let place = match tokens.get(at as usize) {
+        Some(token) => token.place,
+        None => end,
+    };
+    Uncompiled::Refused(Refusal { code, place })
+}
+
+/// The image of a small tree.
+fn compile_tree(alloc: Global, tree: Tree) -> Result<Image, Uncompiled>
+    requires { IsSmall (tree_shape tree) }
+    ensures image { IfOk result (λ image. IsImage (tree_view tree) (plain_image image)) }
+    ensures none { IfErr result (λ why. IsWithout (tree_view tree) why) }
+{
+    match check(alloc, tree) {
+        Ok(checked) => compile_checked(alloc, &checked),
+        Err(
+            CheckFault::Refused {
+                refusal,
+                tree: _tree,
+            },
+        ) => Err(Uncompiled::Refused(refusal)),
+        Err(CheckFault::Memory { tree: _tree }) => Err(Uncompiled::Memory),
+    }
+}
+
+/// The image of a checked tree.
+fn compile_checked(alloc: Global, checked: &Checked) -> Result<Image, Uncompiled>
+    ensures image { IfOk result (λ image. IsImage (tree_view checked.now.0) (plain_image image)) }
+    ensures none { IfErr result (λ why. IsWithout (tree_view checked.now.0) why) }
+{
+    if unbuilt(checked.tree()) {
+        return Err(Uncompiled::NotBuilt);
+    }
+    match generate(alloc, checked) {
+        Ok(image) => Ok(image),
+        Err(GenFault::TooLarge) => Err(Uncompiled::Refused(Refusal {
+            code: TOO_LARGE,
+            place: Place { line: 1, column: 1 },
+        })),
+        Err(GenFault::Memory) => Err(Uncompiled::Memory),
+    }
+}

@@ -3,7 +3,8 @@ use Rattle.std.specs.Prelude.{◌≡◌, [], ◌∷◌, ◌++◌, codes, refl}
 use Rattle.pfc_base.specs.declared.faults.RunFault.TheVariants.{Division, Index, InputEnd, NoInteger, Below, Width}
 use Rattle.pfc_state.specs.declared.endings.Ending.TheVariants.{Finished, Fault, Deadlock, Limit, Script}
 use Rattle.pfc_state.specs.declared.endings.ScriptWhy.TheVariants.{NoProcess}
-use Rattle.pfc_sched.specs.Picks.{by_turn, by_list}
+use Rattle.pfc_sched.specs.Picks.{by_turn, by_list, by_words}
+use Rattle.pfc_sched.specs.Words.{stream}
 use Rattle.pfc_samples.specs.Shows.{ran, shows, stands}
 
 -- before its first action a process has the line of its body's `begin`
@@ -151,3 +152,12 @@ channel_by_reference = refl
 channel_by_reference_in_a_select : ran (codes "program w; type k = channel of integer; var a, c: k; procedure get(var d: k; var v: integer); begin select d ? v or a ? v end end; process p; var v: integer; begin get(c, v); write(v) end; process q; begin sleep(1); c ! 5 end; begin cobegin p; q coend; writeln end.") [] 1 (by_turn 0) 1000 ≡ shows (codes "5\n") Finished []
 unfolding ran
 channel_by_reference_in_a_select = refl
+
+-- two alternatives of one select at the same channel are two among which the pick chooses
+first_of_two_alternatives_at_one_channel : ran (codes "program s; var c: channel of integer; process a; begin c ! 7 end; process b; var x, y: integer; begin select c ? x; write('x') or c ? y; write('y') end end; begin cobegin a; b coend; writeln end.") [] 1 (by_words (stream 8 1)) 1000 ≡ shows (codes "x\n") Finished []
+unfolding ran
+first_of_two_alternatives_at_one_channel = refl
+
+second_of_two_alternatives_at_one_channel : ran (codes "program s; var c: channel of integer; process a; begin c ! 7 end; process b; var x, y: integer; begin select c ? x; write('x') or c ? y; write('y') end end; begin cobegin a; b coend; writeln end.") [] 1 (by_words (stream 2 1)) 1000 ≡ shows (codes "y\n") Finished []
+unfolding ran
+second_of_two_alternatives_at_one_channel = refl

@@ -10,9 +10,10 @@ of proofs, in a copy of the repository, and `rt check` computes them. What it ca
 counted apart. Cases with a limit above --actions, whose expected run is long, or with a text above --bytes are left out, and
 with --every N all but each N-th.
 """
-import json, os, re, shutil, subprocess, sys, tempfile
+import re, sys
 
-root = os.path.dirname(os.path.dirname(os.path.abspath(__file__)))
+from computed import cases_of, compute, numbers, option, text
+
 FAULTS = ["Overflow", "Division", "Index", "Range", "Case", "Stack", "InputEnd", "NoInteger", "Active", "Negative", "Count",
           "NotActive", "Closed", "Below", "Late", "Width"]
 HEAD = """-- Samples made by a script.
@@ -24,22 +25,6 @@ use Rattle.pfc_sched.specs.Picks.{Picking, by_turn, by_list, by_words}
 use Rattle.pfc_sched.specs.Words.{stream}
 use Rattle.pfc_samples.specs.Shows.{told_of, untraced, tells, stands}
 """ % ", ".join(f if f != "Count" else "Count" for f in FAULTS)
-
-
-def text(data):
-    """The bytes as a list: pieces of printable text, and the others by their numbers."""
-    pieces = []
-    for m in re.finditer(r"[ !#-\[\]-~\n]+|[^ !#-\[\]-~\n]+", data, re.S):
-        s = m.group(0)
-        if re.match(r"[ !#-\[\]-~\n]", s):
-            pieces.append('codes "%s"' % s.replace("\n", "\\n"))
-        else:
-            pieces.append("(" + " ∷ ".join([str(ord(c)) for c in s] + ["[]"]) + ")")
-    return "(" + " ++ ".join(pieces) + ")" if pieces else "[]"
-
-
-def numbers(items):
-    return "(" + " ∷ ".join([str(n) for n in items] + ["[]"]) + ")"
 
 
 def expected(output):
@@ -105,15 +90,6 @@ def sample(name, case, with_trace):
     return "%s : %s ≡ %s\nunfolding told_of\n%s = refl\n" % (name, run if traced else "untraced " + run, want, name)
 
 
-def option(args, name, default):
-    if name in args:
-        k = args.index(name)
-        v = args[k + 1]
-        del args[k:k + 2]
-        return v
-    return default
-
-
 def main(args):
     batch, actions = int(option(args, "--batch", 40)), int(option(args, "--actions", 100000000))
     most, first, every = int(option(args, "--bytes", 100000)), int(option(args, "--first", 10 ** 9)), int(option(args, "--every", 1))
@@ -122,62 +98,20 @@ def main(args):
     args = [a for a in args if a != "--trace"]
     if not args:
         sys.exit(__doc__)
-    groups = args[1:] or sorted(f[:-6] for f in os.listdir(args[0]) if f.endswith(".jsonl"))
-    samples, cases = [], {}
-    for g in groups:
-        taken = 0
-        for k, line in enumerate(open(os.path.join(args[0], g + ".jsonl"))):
-            case = json.loads(line)
-            words = case["words"]
-            limit = int(words[words.index("--limit") + 1]) if "--limit" in words else 1000000
-            trace = case.get("walk --trace", [0, ""])[1].count("\n")
-            if limit > actions or len(case["files"][words[0]]) > most or trace > actions or k % every or taken >= first:
-                continue
-            name = "case_%d" % len(samples)
-            s = sample(name, case, traced)
-            if s:
-                samples.append(s)
-                cases[name] = case["case"]
-                taken += 1
-    work = keep or tempfile.mkdtemp()
-    lab = os.path.join(work, "copy")
-    if not os.path.isdir(lab):
-        shutil.copytree(root, lab, ignore=shutil.ignore_patterns(".git"))
-    proofs = os.path.join(lab, "crates/pfc_samples/proofs")
-    agree, wrong, long = 0, [], []
-    for start in range(0, len(samples), batch):
-        part = samples[start:start + batch]
-        for f in os.listdir(proofs):
-            p = os.path.join(proofs, f)
-            shutil.rmtree(p) if os.path.isdir(p) else os.remove(p)
-        open(os.path.join(proofs, "Lib.antt"), "w").write("pub mod Cases\n")
-        open(os.path.join(proofs, "Cases.antt"), "w").write(HEAD + "\n" + "\n".join(part))
-        p = subprocess.run(["rt", "check", "--jobs", "1"], cwd=os.path.join(lab, "crates/pfc_samples"), capture_output=True, text=True)
-        out = p.stdout + p.stderr
-        lines = open(os.path.join(proofs, "Cases.antt")).read().split("\n")
-        bad = {}
-        for m in re.finditer(r"proofs/Cases\.antt:(\d+):\d+: error: (.*)", out):
-            k = int(m.group(1)) - 1
-            while k > 0 and not re.match(r"case_\d+ :", lines[k]):
-                k -= 1
-            bad.setdefault(lines[k].split(" ")[0], m.group(2))
-        if p.returncode and not bad:
-            sys.exit(out[-3000:])
-        for s in part:
-            name = s.split(" ")[0]
-            if name not in bad:
-                agree += 1
-            elif "steps" in bad[name] or "memory" in bad[name]:
-                long.append(cases[name])
-            else:
-                wrong.append(cases[name])
-                print("differs: %s: %s" % (cases[name], bad[name][:300]), flush=True)
-        print("%d agree, %d differ, %d too long, of %d" % (agree, len(wrong), len(long), min(start + batch, len(samples))), flush=True)
-    if long:
-        print("too long: " + ", ".join(long))
-    if not keep:
-        shutil.rmtree(work)
-    sys.exit(1 if wrong else 0)
+    samples, cases, taken = [], {}, {}
+    for group, k, case in cases_of(args[0], args[1:]):
+        words = case["words"]
+        limit = int(words[words.index("--limit") + 1]) if "--limit" in words else 1000000
+        trace = case.get("walk --trace", [0, ""])[1].count("\n")
+        if limit > actions or len(case["files"][words[0]]) > most or trace > actions or k % every or taken.get(group, 0) >= first:
+            continue
+        name = "case_%d" % len(samples)
+        s = sample(name, case, traced)
+        if s:
+            samples.append(s)
+            cases[name] = case["case"]
+            taken[group] = taken.get(group, 0) + 1
+    sys.exit(compute("pfc_samples", HEAD, samples, cases, batch, keep))
 
 
 main(sys.argv[1:])

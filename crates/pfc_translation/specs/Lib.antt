@@ -1,0 +1,10 @@
+pub mod Addresses
+pub mod Calls
+pub mod Codes
+pub mod Expressions
+pub mod Images
+pub mod Objects
+pub mod Operands
+pub mod Selects
+pub mod Sites
+pub mod Statements

@@ -1,0 +1,2 @@
+//! Samples of the image of a program.
+#![tactic(auto)]

@@ -5,7 +5,7 @@ use Rattle.pfc_state.specs.declared.endings.Ending.{Ending}
 use Rattle.pfc_state.specs.declared.endings.Ending.TheVariants.{Finished, Fault, Deadlock, Limit, Script, SinkFailed, Memory}
 use Rattle.pfc_types.specs.rules.Expressions.{Env}
 use Rattle.pfc_world.specs.Tables.{at, some_ready}
-use Rattle.pfc_sched.specs.Ready.{ready_numbers}
+use Rattle.pfc_world.specs.Ready.{ready_numbers}
 use Rattle.pfc_sched.specs.Picks.{Picking, by_words, by_turn, by_list, picked_among, picked, after_picked, after_pick}
 use Rattle.pfc_sched.specs.declared.picking.Pick.{Pick}
 use Rattle.pfc_sched.specs.declared.picking.Pick.TheVariants.{Process, Nobody, NotReady, NoProcess, ScriptEnd}

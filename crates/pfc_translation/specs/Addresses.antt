@@ -1,5 +1,5 @@
--- Steps from a variable to its parts: types, and cells.
-use Rattle.std.specs.Prelude.{ℕ, pos, take, sum_by, option_map, Option, Some}
+-- Where a variable and its parts lie: its address, and types and cells on the way to a part.
+use Rattle.std.specs.Prelude.{ℕ, pos, take, sum_by, option_map, if◌then◌else◌, Option, Some}
 use Rattle.pfc_tree.specs.Symbols.{Text}
 use Rattle.pfc_tree.specs.trees.Exprs.{ExprTrees, no_exprs, more_exprs}
 use Rattle.pfc_types.specs.Types.{Forms, cells_in, array_form}
@@ -13,7 +13,6 @@ use Rattle.pfc_semantics.specs.Displays.{Spot}
 use Rattle.pfc_semantics.specs.Expressions.{form_in, place_among}
 use Rattle.pfc_translation.specs.Sites.{Site, links_to, cell_of, refers}
 use Rattle.pfc_translation.specs.Codes.{Code, one}
-use Rattle.std.specs.Prelude.{if◌then◌else◌}
 
 -- a variable's address: its own cell, or for a reference parameter the reference that its cell holds
 abbrev pub base_code : Site → Spot → Code

@@ -5,7 +5,7 @@
 # as bytes. Each count is less that of the same refusal of a short text. It needs rt and valgrind.
 set -e
 here="$(cd "$(dirname "$0")" && pwd)"
-program="$here/../crates/pfc/out/pfc"
+program="$here/../out/pfc"
 work="$(mktemp -d)"
 trap 'rm -rf "$work"' EXIT
 printf 'program a; begin end.' > "$work/short.pas"

@@ -5,7 +5,7 @@
 # those of an empty program; times are the least of five. It needs rt, valgrind, python3 and cc.
 set -e
 here="$(cd "$(dirname "$0")" && pwd)"
-program="$here/../crates/pfc/out/pfc"
+program="$here/../out/pfc"
 work="$(mktemp -d)"
 trap 'rm -rf "$work"' EXIT
 cd "$work"

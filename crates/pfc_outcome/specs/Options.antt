@@ -29,6 +29,13 @@ pub record Asked : Type 0 where
 abbrev pub greatest : ℕ
 greatest = 18446744073709551615
 
+-- the greatest limit of actions, and the greatest size of a made text
+abbrev pub most_actions : ℕ
+most_actions = 100000000
+
+abbrev pub most_made : ℕ
+most_made = 31
+
 -- an option that takes a word, and one that takes none
 abbrev pub with_word : Text → Rule
 with_word name = record (new_rule name) { long = Some name; action = Some Set }
@@ -50,21 +57,21 @@ pfc_command =
     file_rule)
     (with_number (codes "seed") 0 greatest))
     (flag (codes "unfair")))
-    (with_number (codes "limit") 1 100000000))
+    (with_number (codes "limit") 1 most_actions))
     (with_word (codes "input")))
     (with_word (codes "script")))
     (flag (codes "list")))
     (flag (codes "code")))
-    (with_number (codes "make") 1 31)
+    (with_number (codes "make") 1 most_made)
 
 -- ---- the options of the words
 
--- the number that a word writes, as the command reads it: decimal digits, of at most 64 bits, where a plus may stand first
-abbrev pub number_of : Text → Option ℕ
-number_of word = if accepts false (parser.Unsigned 0 greatest) word then Some (digits_value 10 (without_leading_plus word)) else None
+-- the number that a word writes, as an option of this range takes it: decimal digits, where a plus may stand first
+abbrev pub number_of : ℕ → ℕ → Text → Option ℕ
+number_of least most word = if accepts false (parser.Unsigned least most) word then Some (digits_value 10 (without_leading_plus word)) else None
 
-abbrev pub number_at : Text → List Row → Option ℕ
-number_at name rows = option_and_then number_of (first_of name rows)
+abbrev pub number_at : Text → ℕ → ℕ → List Row → Option ℕ
+number_at name least most rows = option_and_then (number_of least most) (first_of name rows)
 
 -- a flag is set where its value is the word `true`
 abbrev pub is_true_word : Option Text → Bool
@@ -92,9 +99,9 @@ abbrev pub asked_with : List Row → Option Source → Option Asked
 asked_with rows None = None
 asked_with rows (Some source) = Some (record {
   source = source;
-  seed = unwrap_or (number_at (codes "seed") rows) usual_seed;
+  seed = unwrap_or (number_at (codes "seed") 0 greatest rows) usual_seed;
   unfair = is_set (codes "unfair") rows;
-  limit = unwrap_or (number_at (codes "limit") rows) usual_limit;
+  limit = unwrap_or (number_at (codes "limit") 1 most_actions rows) usual_limit;
   input = first_of (codes "input") rows;
   script = first_of (codes "script") rows;
   list = is_set (codes "list") rows;
@@ -102,7 +109,7 @@ asked_with rows (Some source) = Some (record {
 })
 
 abbrev pub asked_by : List Row → Option Asked
-asked_by rows = asked_with rows (source_of (first_of (codes "file") rows) (number_at (codes "make") rows))
+asked_by rows = asked_with rows (source_of (first_of (codes "file") rows) (number_at (codes "make") 1 most_made rows))
 
 -- where the command takes the words
 abbrev pub taken : Kinds → List Row → Option Asked

@@ -1,5 +1,5 @@
 //! The made text: a bounded buffer with so many producers and as many consumers.
-ghost use Rattle.std.specs.Prelude.{◌≡◌, IfOk};
+ghost use Rattle.std.specs.Prelude.{◌≡◌, ◌≤◌, IfOk, length};
 ghost use Rattle.pfc_outcome.specs.Making.{made_text};
 
 use pfc_base::Memory;
@@ -65,9 +65,10 @@ end.
 ";
 
 /// The program of a monitor's bounded buffer of eight items with `size` producers and as many consumers, each of 500 items.
-/// What it writes is `total` and `size` times 125,250.
-pub fn make_text(alloc: Global, size: u32) -> Result<Vec<u8>, Memory>
-    ensures { IfOk result (λ text. text.items ≡ made_text size) }
+/// It has at most 262,144 bytes. What it writes is `total` and `size` times 125,250.
+pub fn make_text(alloc: Global, size: u64) -> Result<Vec<u8>, Memory>
+    ensures text { IfOk result (λ text. text.items ≡ made_text size) }
+    ensures short { IfOk result (λ text. length text.items ≤ 262144) }
 {
     let text = format!(in alloc;
         "{BUFFER}{size}{CONSUMERS}{size}{PRODUCERS_LOOP}{size}{CONSUMERS_LOOP}{size}{TOTAL}"

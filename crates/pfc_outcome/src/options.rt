@@ -1,7 +1,7 @@
 //! The options of the command line.
-ghost use Rattle.std.specs.Prelude.{◌≡◌, ◌≢◌, IfOk, option_map, codes, false, None};
+ghost use Rattle.std.specs.Prelude.{◌≡◌, ◌≢◌, ◌≤◌, IfOk, IfSome, option_map, codes, false, None};
 ghost use Rattle.clap.specs.Words.{app_of, first_of, found_of, kind_of, rows_of, rule_of, with_rule};
-ghost use Rattle.pfc_outcome.specs.Options.{asked_by, file_rule, flag, is_set, number_at, number_of, options_of, pfc_command, source_of, with_number, with_word};
+ghost use Rattle.pfc_outcome.specs.Options.{asked_by, file_rule, flag, is_set, most_actions, most_made, number_at, number_of, options_of, pfc_command, source_of, with_number, with_word};
 ghost use Rattle.pfc_outcome.specs.Asked.{asked_of, plain_source, texts_of};
 
 use clap::builder::ValueParser;
@@ -15,6 +15,12 @@ const USUAL_SEED: u64 = 1;
 
 /// The limit of actions where the words give none.
 const USUAL_LIMIT: u64 = 1_000_000;
+
+/// The greatest limit of actions.
+const MOST_ACTIONS: u64 = 100_000_000;
+
+/// The greatest size of a made text.
+const MOST_MADE: u64 = 31;
 
 /// The text to be run.
 #[derive(Clone, Copy)]
@@ -50,7 +56,8 @@ pub struct Options<'a> {
 /// one of FILE and `--make` is given. The first word is the program's name.
 #[tactic(none)]
 pub fn read_words<'a>(alloc: Global, words: &'a [String]) -> Result<Option<Options<'a>>, Memory>
-    ensures { IfOk result (λ options. option_map asked_of options ≡ options_of (texts_of words.entry.now)) }
+    ensures options { IfOk result (λ options. option_map asked_of options ≡ options_of (texts_of words.entry.now)) }
+    ensures within { IfOk result (λ options. IfSome options (λ asked. asked.limit ≤ most_actions)) }
 {
     let command = command(alloc)?;
     match command.try_get_matches_from(words) {
@@ -80,12 +87,12 @@ fn command<'a>(alloc: Global) -> Result<Command<'a>, AllocError>
     let command = with(command, file(alloc))?;
     let command = with(command, number(alloc, "seed", 0, u64::MAX))?;
     let command = with(command, flag(alloc, "unfair"))?;
-    let command = with(command, number(alloc, "limit", 1, 100_000_000))?;
+    let command = with(command, number(alloc, "limit", 1, MOST_ACTIONS))?;
     let command = with(command, word(alloc, "input"))?;
     let command = with(command, word(alloc, "script"))?;
     let command = with(command, flag(alloc, "list"))?;
     let command = with(command, flag(alloc, "code"))?;
-    with(command, number(alloc, "make", 1, 31))
+    with(command, number(alloc, "make", 1, MOST_MADE))
 }
 
 /// The command with one more argument.
@@ -126,13 +133,14 @@ fn number<'a>(alloc: Global, name: &'a str, least: u64, greatest: u64) -> Arg<'a
 
 /// The options in the matches of the command.
 fn options_in<'a>(matches: &ArgMatches<'a>) -> Option<Options<'a>>
-    ensures { option_map asked_of result ≡ asked_by (rows_of (found_of matches.now)) }
+    ensures options { option_map asked_of result ≡ asked_by (rows_of (found_of matches.now)) }
+    ensures within { IfSome result (λ asked. asked.limit ≤ most_actions) }
 {
     Some(Options {
         source: source_in(matches)?,
-        seed: number_in(matches, "seed").unwrap_or(USUAL_SEED),
+        seed: number_in(matches, "seed", 0, u64::MAX).unwrap_or(USUAL_SEED),
         unfair: is_set(matches, "unfair"),
-        limit: number_in(matches, "limit").unwrap_or(USUAL_LIMIT),
+        limit: number_in(matches, "limit", 1, MOST_ACTIONS).unwrap_or(USUAL_LIMIT),
         input: word_in(matches, "input"),
         script: word_in(matches, "script"),
         list: is_set(matches, "list"),
@@ -143,9 +151,12 @@ fn options_in<'a>(matches: &ArgMatches<'a>) -> Option<Options<'a>>
 /// FILE or the size of a made text, where exactly one of them is given.
 fn source_in<'a>(matches: &ArgMatches<'a>) -> Option<Source<'a>>
     ensures { option_map plain_source result
-        ≡ source_of (first_of (codes "file") (rows_of (found_of matches.now))) (number_at (codes "make") (rows_of (found_of matches.now))) }
+        ≡ source_of (first_of (codes "file") (rows_of (found_of matches.now))) (number_at (codes "make") 1 most_made (rows_of (found_of matches.now))) }
 {
-    match (word_in(matches, "file"), number_in(matches, "make")) {
+    match (
+        word_in(matches, "file"),
+        number_in(matches, "make", 1, MOST_MADE),
+    ) {
         (Some(file), None) => Some(Source::File(file)),
         (None, Some(size)) => Some(Source::Made(size)),
         (Some(_), Some(_)) | (None, None) => None,
@@ -168,15 +179,24 @@ fn is_set<'a>(matches: &ArgMatches<'a>, name: &str) -> bool
     }
 }
 
-fn number_in<'a>(matches: &ArgMatches<'a>, name: &str) -> Option<u64>
-    ensures { result ≡ number_at name.now (rows_of (found_of matches.now)) }
+/// The number of an option, where one is given, from `least` to `most`.
+fn number_in<'a>(matches: &ArgMatches<'a>, name: &str, least: u64, most: u64) -> Option<u64>
+    ensures number { result ≡ number_at name.now least most (rows_of (found_of matches.now)) }
+    ensures within { IfSome result (λ n. n ≤ most) }
 {
-    number_of(word_in(matches, name)?)
+    number_of(word_in(matches, name)?, least, most)
 }
 
-/// The number that a word writes in decimal, of at most 64 bits; a plus may stand first.
-fn number_of(word: &str) -> Option<u64>
-    ensures { result ≡ number_of word.now }
+/// The number from `least` to `most` that a word writes in decimal; a plus may stand first.
+fn number_of(word: &str, least: u64, most: u64) -> Option<u64>
+    ensures number { result ≡ number_of least most word.now }
+    ensures within { IfSome result (λ n. n ≤ most) }
 {
-    word.parse::<u64>().ok()
+    let Ok(n) = word.parse::<u64>() else {
+        return None;
+    };
+    if n < least || most < n {
+        return None;
+    }
+    Some(n)
 }

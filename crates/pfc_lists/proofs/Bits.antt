@@ -9,7 +9,8 @@ use Rattle.std.proofs.lemmas.Simd.{ones-mask_l_cons}
 use Rattle.std.proofs.Math.Nat.{div-div-eq-div-mul, div-one, pow-suc, pow-succ', mod-add-div}
 use Rattle.std.proofs.Math.Pow.{pow_pos}
 use Rattle.std.specs.Int.{bit_at}
-use Rattle.pfc_lists.specs.Bits.{bits, flags, numbers_from, numbers}
+use Rattle.std.specs.Int.Count.{count_trailing_zeros, under}
+use Rattle.pfc_lists.specs.Bits.{bits, numbers_from}
 
 pub bits-none : (w : ℕ) → bits 0 w ≡ []
 unfolding bits
@@ -171,3 +172,21 @@ one-number n w b lt = ap (λ v. get_or (numbers_from n v) b 0) one ∙ go (w % 2
     go true zero lt = refl
     go true (suc b) lt = absurd (omega (arith, lt))
     go false b lt = absurd (omega (arith, lt))
+
+-- the lowest number, by the zeros below the lowest one
+pub lowest-number : (k n w : ℕ) → 0 < length (numbers_from n (bits k w)) → get_or (numbers_from n (bits k w)) 0 0 ≡ n + count_trailing_zeros k w
+unfolding count_trailing_zeros
+lowest-number zero n w lt = absurd (let none : length (numbers_from n (bits 0 w)) ≡ 0 = ap (λ v. length (numbers_from n v)) (bits-none w) in omega (arith, lt, none))
+lowest-number (suc k) n w lt =
+    let low : w % 2 < 2 = mod_below w 2 (omega arith) in
+    ap (λ v. get_or (numbers_from n v) 0 0) (bits-more k w)
+    ∙ go (lowest-number k (n + 1) (w / 2)) (w % 2) low (subst (λ v. 0 < length (numbers_from n v)) (bits-more k w) lt)
+  where
+    rest : List Bool
+    rest = bits k (w / 2)
+
+    go : (0 < length (numbers_from (n + 1) rest) → get_or (numbers_from (n + 1) rest) 0 0 ≡ n + 1 + count_trailing_zeros k (w / 2))
+        → (r : ℕ) → r < 2 → 0 < length (numbers_from n ((r == 1) ∷ rest)) → get_or (numbers_from n ((r == 1) ∷ rest)) 0 0 ≡ n + under r (count_trailing_zeros k (w / 2))
+    go next zero less there = let ih : get_or (numbers_from (n + 1) rest) 0 0 ≡ n + 1 + count_trailing_zeros k (w / 2) = next there in omega (arith, ih)
+    go next (suc zero) less there = omega arith
+    go next (suc (suc r)) less there = absurd (omega (arith, less))

@@ -50,8 +50,30 @@ pub(crate) fn ones(word: u64) -> u32
     word.count_ones()
 }
 
-/// The number of a set bit, of which so many are lower, where the lowest bit has this number.
+/// The number of a set bit, of which so many are lower, where the lowest bit has this number. The lowest of all, which is the only
+/// one where one process is ready, is found in one look.
 pub(crate) fn number_of_bit(word: u64, before: u32, lowest: u32) -> u32
+    requires found { before < length (numbers_from lowest (bits 64 word)) }
+    requires small { lowest < 2 ^ 30 }
+    ensures { result ≡ get_or (numbers_from lowest (bits 64 word)) before 0 }
+{
+    if before == 0 {
+        return number_of_lowest(word, lowest);
+    }
+    number_among(word, before, lowest)
+}
+
+/// The number of the lowest bit that is set.
+fn number_of_lowest(word: u64, lowest: u32) -> u32
+    requires found { 0 < length (numbers_from lowest (bits 64 word)) }
+    requires small { lowest < 2 ^ 30 }
+    ensures { result ≡ get_or (numbers_from lowest (bits 64 word)) 0 0 }
+{
+    lowest + word.trailing_zeros()
+}
+
+/// The number of a set bit, half of the bits being left behind six times.
+fn number_among(word: u64, before: u32, lowest: u32) -> u32
     requires found { before < length (numbers_from lowest (bits 64 word)) }
     requires small { lowest < 2 ^ 30 }
     ensures { result ≡ get_or (numbers_from lowest (bits 64 word)) before 0 }

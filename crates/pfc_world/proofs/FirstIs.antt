@@ -24,7 +24,7 @@ behind : (key : Stand → Option ℕ) (s : Stand) (rest : List Stand) (P : ℕ �
     → ((q u : ℕ) → key (at (s ∷ rest) q) ≡ Some u → P u) → (q u : ℕ) → key (at rest q) ≡ Some u → P u
 behind key s rest P h q u e = h (suc q) u e
 
-least-none : (key : Stand → Option ℕ) (rows : List Stand) → ((q : ℕ) → key (at rows q) ≡ None) → least key rows ≡ None
+pub least-none : (key : Stand → Option ℕ) (rows : List Stand) → ((q : ℕ) → key (at rows q) ≡ None) → least key rows ≡ None
 least-none key [] h = refl
 least-none key (s ∷ rest) h = ap (λ o. lesser o (least key rest)) (h 0) ∙ least-none key rest (λ q. h (suc q))
 
@@ -39,7 +39,7 @@ lesser-least key (s ∷ rest) t h = go (key s) (least key rest) (h 0) (lesser-le
     go (Some u) None below ih = let le : t ≤ u = below u refl in ap (λ n. Some n) (grind arith)
     go (Some u) (Some v) below ih = let le : t ≤ u = below u refl in let e : min t v ≡ t = cc in ap (λ n. Some n) (grind arith)
 
-least-is : (key : Stand → Option ℕ) (rows : List Stand) (p t : ℕ)
+pub least-is : (key : Stand → Option ℕ) (rows : List Stand) (p t : ℕ)
     → key Is_idle ≡ None → key (at rows p) ≡ Some t → ((q u : ℕ) → key (at rows q) ≡ Some u → t ≤ u) → least key rows ≡ Some t
 least-is key [] p t idle own h = let e : None ≡ Some t = sym idle ∙ own in cc
 least-is key (s ∷ rest) zero t idle own h = ap (λ o. lesser o (least key rest)) own ∙ lesser-least key rest t (λ q. h (suc q))

@@ -1,43 +1,212 @@
 -- What is kept beside the rows, as one process stands at something else.
-use Rattle.std.proofs.Common.{◌≡◌, ◌≢◌, ℕ, zero, suc, ◌+◌, ◌-◌, ◌<◌, ◌≤◌, Bool, true, false, Option, None, Some, Ok, Err, Result, List, [], ◌∷◌, length, get_or, set, replicate, inl, inr, arith, refl, sym, ap, ◌∙◌, subst, is_some}
-use Rattle.std.proofs.lemmas.List.{length-set, get_or-set_same, get_or-set_other, get_or-replicate, get_or_past, length-replicate}
+use Rattle.std.proofs.Common.{◌≡◌, ◌≢◌, ℕ, zero, suc, ◌+◌, ◌-◌, ◌<◌, ◌≤◌, Bool, true, false, Option, None, Some, List, [], ◌∷◌, length, get_or, set, map, replicate, inl, inr, arith, refl, sym, ap, ◌∙◌, subst, is_some}
+use Rattle.std.proofs.lemmas.List.{length-set, length-map, map-set, get_or-set_same, get_or-set_other, get_or-replicate, get_or_past, length-replicate, set-get_or}
 use Rattle.std.proofs.lemmas.Bool.{cases_lt}
-use Rattle.pfc_base.specs.declared.faults.RunFault.{RunFault}
-use Rattle.pfc_state.specs.Stands.{Stand, Is_idle, Is_created, Is_ready, Waits, Is_done, IsWaiting, is_ready, is_unfinished, due_of}
-use Rattle.pfc_world.specs.Indexes.{IsReadySet, IsIndexed}
-use Rattle.pfc_world.specs.Settling.{earliest}
-use Rattle.pfc_world.specs.Tables.{Table, at}
-use Rattle.pfc_world.specs.Transitions.{IsCreation}
-use Rattle.pfc_world.proofs.Earliest.{earliest-kept}
+use Rattle.std.proofs.Math.ListN.{get_or-map}
+use Rattle.pfc_links.specs.declared.links.Member.{Member}
+use Rattle.pfc_links.specs.Members.{member_at, in_list}
+use Rattle.pfc_moments.specs.Moments.{moment_at}
+use Rattle.pfc_state.specs.declared.waits.Why.{Why}
+use Rattle.pfc_state.specs.declared.waits.Why.TheVariants.{Select}
+use Rattle.pfc_state.specs.declared.waits.Arm.{Arm}
+use Rattle.pfc_state.specs.Stands.{Stand, Is_idle, Is_created, Is_ready, Waits, Is_done, IsWaiting, is_ready, is_unfinished, may_end, due_of, ticket_of, started}
+use Rattle.pfc_world.specs.declared.index.Index.{Index}
+use Rattle.pfc_world.specs.Indexes.{IsReadySet, IsIndexed, Admits, BeginsWait, IsListed, EndsWait, number, count_of}
+use Rattle.pfc_world.specs.Lists.{list_count, member_of}
+use Rattle.pfc_world.specs.Tables.{at}
+use Rattle.pfc_world.specs.Tickets.{AreTickets, IsNew}
+use Rattle.pfc_world.proofs.Counting.{count-set, count-most, count-one, count-map, count-idle}
 use Rattle.pfc_world.proofs.ReadySets.{ready-set, ready-kept}
 
--- the set and the earliest due moment are changed as the process is
-pub placed-index : (old new : List Stand) (ready ready' : List Bool) (due due' : Option ℕ) (p : ℕ) (s : Stand) (b : Bool)
-    → p < length old → new ≡ set old p s → ready' ≡ set ready p b → is_ready s ≡ b → IsIndexed old ready due → due' ≡ earliest (set old p s)
-    → IsIndexed new ready' due'
-placed-index old new ready ready' due due' p s b lt is made shown h soon = record {
-  bits = subst (λ v. IsReadySet v ready') (sym is) (subst (λ v. IsReadySet (set old p s) v) (sym made) (ready-set old ready p s b lt shown h.bits));
-  soonest = soon ∙ ap earliest (sym is);
+-- all of it is changed as the process is
+record IsChanged (old new : Index) (rows : List Stand) (p : ℕ) (s : Stand) : Type 0 where
+  bits : IsReadySet (set rows p s) new.ready
+  members : new.waits.members ≡ set old.waits.members p (member_of s)
+  lists : new.waits.lists ≡ old.waits.lists
+  dues : new.dues ≡ set old.dues p (due_of s)
+  unfinished : new.unfinished + number (is_unfinished (at rows p)) ≡ old.unfinished + number (is_unfinished s)
+  ending : new.ending + number (may_end (at rows p)) ≡ old.ending + number (may_end s)
+
+same-count : (a b c d x y : ℕ) → a + x ≡ c + y → c ≡ d → b + x ≡ d + y → a ≡ b
+same-count a b c d x y e f g = omega (arith, e, f, g)
+
+changed-index : (rows new : List Stand) (p : ℕ) (s : Stand) (ix ix' : Index) → p < length rows → new ≡ set rows p s → IsIndexed rows ix → IsChanged ix ix' rows p s → IsIndexed new ix'
+changed-index rows new p s ix ix' lt is h c = subst (λ v. IsIndexed v ix') (sym is) (record {
+  some = rw length-set h.some;
+  few = rw length-set h.few;
+  bits = c.bits;
+  waits = c.members ∙ ap (λ v. set v p (member_of s)) h.waits ∙ sym (map-set member_of rows p s);
+  lists = c.lists ∙ h.lists;
+  dues = c.dues ∙ ap (λ v. set v p (due_of s)) h.dues ∙ sym (map-set due_of rows p s);
+  unfinished = same-count ix'.unfinished (count_of is_unfinished (set rows p s)) ix.unfinished (count_of is_unfinished rows) (number (is_unfinished (at rows p))) (number (is_unfinished s)) c.unfinished h.unfinished (count-set is_unfinished rows p s lt);
+  ending = same-count ix'.ending (count_of may_end (set rows p s)) ix.ending (count_of may_end rows) (number (may_end (at rows p))) (number (may_end s)) c.ending h.ending (count-set may_end rows p s lt);
+})
+
+-- what the index says of a process
+pub member-is : (rows : List Stand) (ix : Index) (p : ℕ) → IsIndexed rows ix → member_at ix.waits.members p ≡ member_of (at rows p)
+member-is rows ix p h = ap (λ v. member_at v p) h.waits ∙ get_or-map member_of rows p Is_idle
+
+pub moment-is : (rows : List Stand) (ix : Index) (p : ℕ) → IsIndexed rows ix → moment_at ix.dues p ≡ due_of (at rows p)
+moment-is rows ix p h = ap (λ v. moment_at v p) h.dues ∙ get_or-map due_of rows p Is_idle
+
+pub members-room : (rows : List Stand) (ix : Index) → IsIndexed rows ix → length ix.waits.members ≡ length rows
+members-room rows ix h = ap length h.waits ∙ length-map rows member_of
+
+dues-room : (rows : List Stand) (ix : Index) → IsIndexed rows ix → length ix.dues ≡ length rows
+dues-room rows ix h = ap length h.dues ∙ length-map rows due_of
+
+abbrev ticket_in : Option Member → Option ℕ
+ticket_in (Some m) = Some m.ticket
+ticket_in None = None
+
+pub member-ticket : (s : Stand) (list t : ℕ) → member_of s ≡ in_list list t → ticket_of s ≡ Some t
+member-ticket (Waits why ticket arms) list t h = ap ticket_in h
+member-ticket Is_idle list t h = cc
+member-ticket Is_created list t h = cc
+member-ticket Is_ready list t h = cc
+member-ticket Is_done list t h = cc
+
+-- a process that acts may be put into a list, with the ticket of the present action
+pub admits : (rows : List Stand) (ix : Index) (p done t : ℕ) → p < length rows → at rows p ≡ Is_ready → AreTickets rows done → IsNew rows done → t ≡ done + 1 → IsIndexed rows ix
+    → Admits ix p t
+admits rows ix p done t lt ready tickets fresh is h = record {
+  ready = let room : length rows ≤ length ix.ready = h.bits.room in omega (arith, room, lt);
+  waits = let room : length ix.waits.members ≡ length rows = members-room rows ix h in omega (arith, room, lt);
+  lists = h.lists;
+  dues = let room : length ix.dues ≡ length rows = dues-room rows ix h in omega (arith, room, lt);
+  free = member-is rows ix p h ∙ ap member_of ready;
+  undue = moment-is rows ix p h ∙ ap due_of ready;
+  from_one = omega (arith, is);
+  last = λ list q u own. last q u (member-ticket (at rows q) list u (sym (member-is rows ix q h) ∙ own));
+  ending = let le : count_of may_end rows ≤ length rows = count-most may_end rows in let e : ix.ending ≡ count_of may_end rows = h.ending in let few : length rows ≤ 1024 = h.few in omega (arith, le, e, few);
 }
+  where
+    last : (q u : ℕ) → ticket_of (at rows q) ≡ Some u → u < t
+    last q u own =
+        let le : u ≤ done + 1 = tickets.upto q u own in
+        let apart : u ≢ done + 1 = λ e. fresh q (own ∙ ap (λ n. Some n) e) in
+        omega (arith, le, apart, is)
 
--- nothing is changed where the process is as ready and as due as before
-pub kept-index : (old new : List Stand) (ready : List Bool) (due : Option ℕ) (p : ℕ) (s : Stand)
-    → new ≡ set old p s → is_ready s ≡ is_ready (at old p) → due_of s ≡ due_of (at old p) → IsIndexed old ready due → IsIndexed new ready due
-kept-index old new ready due p s is shown same h = record {
-  bits = subst (λ v. IsReadySet v ready) (sym is) (ready-kept old ready p s shown h.bits);
-  soonest = h.soonest ∙ sym (earliest-kept old p s same) ∙ ap earliest (sym is);
-}
+-- the alternatives of a wait are not looked at
+ends-same : (why : Why) (t : ℕ) (arms : List Arm) → may_end (Waits why t arms) ≡ may_end (Waits why 0 [])
+ends-same (Select due terminate) t arms = refl
+ends-same _ t arms = refl
 
-pub none-of : (o : Option ℕ) → is_some o ≡ false → o ≡ None
-none-of None h = refl
-none-of (Some n) h = cc
+-- a process that acted waits
+pub begun-index : (rows new : List Stand) (p t : ℕ) (why : Why) (arms : List Arm) (ix ix' : Index) → p < length rows → at rows p ≡ Is_ready → new ≡ set rows p (Waits why t arms)
+    → IsIndexed rows ix → BeginsWait ix ix' p why t → IsIndexed new ix'
+begun-index rows new p t why arms ix ix' lt ready is h b = changed-index rows new p (Waits why t arms) ix ix' lt is h (record {
+  bits = subst (λ v. IsReadySet (set rows p (Waits why t arms)) v) (sym b.ready) (ready-set rows ix.ready p (Waits why t arms) false lt refl h.bits);
+  members = b.members;
+  lists = b.lists;
+  dues = b.dues;
+  unfinished = ap (λ n. n + number (is_unfinished (at rows p))) b.unfinished ∙ ap (λ s. ix.unfinished + number (is_unfinished s)) ready;
+  ending =
+      let none : number (may_end (at rows p)) ≡ 0 = ap (λ s. number (may_end s)) ready in
+      let some : ix'.ending ≡ ix.ending + number (may_end (Waits why 0 [])) = b.ending ∙ ap (λ v. ix.ending + number v) (ends-same why t []) in
+      let same : number (may_end (Waits why t arms)) ≡ number (may_end (Waits why 0 [])) = ap number (ends-same why t arms) in
+      omega (arith, none, some, same);
+})
 
-pub waiting-unready : (s : Stand) → IsWaiting s → false ≡ is_ready s
+waiting-member : (s : Stand) → IsWaiting s → is_some (member_of s) ≡ true
+waiting-member (Waits why ticket arms) h = refl
+waiting-member Is_idle h = absurd h
+waiting-member Is_created h = absurd h
+waiting-member Is_ready h = absurd h
+waiting-member Is_done h = absurd h
+
+waiting-unfinished : (s : Stand) → IsWaiting s → is_unfinished s ≡ true
+waiting-unfinished (Waits why ticket arms) h = refl
+waiting-unfinished Is_idle h = absurd h
+waiting-unfinished Is_created h = absurd h
+waiting-unfinished Is_ready h = absurd h
+waiting-unfinished Is_done h = absurd h
+
+waiting-unready : (s : Stand) → IsWaiting s → false ≡ is_ready s
 waiting-unready (Waits why ticket arms) h = refl
 waiting-unready Is_idle h = absurd h
 waiting-unready Is_created h = absurd h
 waiting-unready Is_ready h = absurd h
 waiting-unready Is_done h = absurd h
+
+-- who waits is in a list
+pub is-listed : (rows : List Stand) (ix : Index) (p : ℕ) (ends : Bool) → p < length rows → IsWaiting (at rows p) → ends ≡ may_end (at rows p) → IsIndexed rows ix → IsListed ix p ends
+is-listed rows ix p ends lt waits is h = record {
+  ready = let room : length rows ≤ length ix.ready = h.bits.room in omega (arith, room, lt);
+  waits = let room : length ix.waits.members ≡ length rows = members-room rows ix h in omega (arith, room, lt);
+  member = ap is_some (member-is rows ix p h) ∙ waiting-member (at rows p) waits;
+  dues = let room : length ix.dues ≡ length rows = dues-room rows ix h in omega (arith, room, lt);
+  unfinished =
+      let one : number (is_unfinished (at rows p)) ≤ count_of is_unfinished rows = count-one is_unfinished rows p lt in
+      let is_one : number (is_unfinished (at rows p)) ≡ 1 = ap number (waiting-unfinished (at rows p) waits) in
+      let e : ix.unfinished ≡ count_of is_unfinished rows = h.unfinished in omega (arith, one, is_one, e);
+  ending =
+      let one : number (may_end (at rows p)) ≤ count_of may_end rows = count-one may_end rows p lt in
+      let is_one : number ends ≡ number (may_end (at rows p)) = ap number is in
+      let e : ix.ending ≡ count_of may_end rows = h.ending in omega (arith, one, is_one, e);
+}
+
+-- who waited is ready
+pub woken-index : (rows new : List Stand) (p : ℕ) (ends : Bool) (ix ix' : Index) → p < length rows → IsWaiting (at rows p) → ends ≡ may_end (at rows p) → new ≡ set rows p Is_ready
+    → IsIndexed rows ix → EndsWait ix ix' p ends → ix'.ready ≡ set ix.ready p true → ix'.unfinished ≡ ix.unfinished → IsIndexed new ix'
+woken-index rows new p ends ix ix' lt waits may is h e ready unfinished = changed-index rows new p Is_ready ix ix' lt is h (record {
+  bits = subst (λ v. IsReadySet (set rows p Is_ready) v) (sym ready) (ready-set rows ix.ready p Is_ready true lt refl h.bits);
+  members = e.members;
+  lists = e.lists;
+  dues = e.dues;
+  unfinished = ap (λ n. n + number (is_unfinished (at rows p))) unfinished ∙ ap (λ b. ix.unfinished + number b) (waiting-unfinished (at rows p) waits);
+  ending = let same : number ends ≡ number (may_end (at rows p)) = ap number may in let left : ix'.ending + number ends ≡ ix.ending = e.ending in omega (arith, same, left);
+})
+
+-- who waited is over
+pub ended-index : (rows new : List Stand) (p : ℕ) (ends : Bool) (ix ix' : Index) → p < length rows → IsWaiting (at rows p) → ends ≡ may_end (at rows p) → new ≡ set rows p Is_done
+    → IsIndexed rows ix → EndsWait ix ix' p ends → ix'.ready ≡ ix.ready → ix'.unfinished + 1 ≡ ix.unfinished → IsIndexed new ix'
+ended-index rows new p ends ix ix' lt waits may is h e ready unfinished = changed-index rows new p Is_done ix ix' lt is h (record {
+  bits = subst (λ v. IsReadySet (set rows p Is_done) v) (sym ready) (ready-kept rows ix.ready p Is_done (waiting-unready (at rows p) waits) h.bits);
+  members = e.members;
+  lists = e.lists;
+  dues = e.dues;
+  unfinished = let one : number (is_unfinished (at rows p)) ≡ 1 = ap number (waiting-unfinished (at rows p) waits) in omega (arith, one, unfinished);
+  ending = let same : number ends ≡ number (may_end (at rows p)) = ap number may in let left : ix'.ending + number ends ≡ ix.ending = e.ending in omega (arith, same, left);
+})
+
+-- nothing is kept of who neither waits nor is due
+unlisted : (rows : List Stand) (ix : Index) (p : ℕ) → IsIndexed rows ix → member_of (at rows p) ≡ None → set ix.waits.members p None ≡ ix.waits.members
+unlisted rows ix p h none = kept ix.waits.members (member-is rows ix p h ∙ none)
+  where
+    kept : (ms : List (Option Member)) → member_at ms p ≡ None → set ms p None ≡ ms
+    kept ms e = ap (λ v. set ms p v) (sym e) ∙ set-get_or ms p None
+
+undue : (rows : List Stand) (ix : Index) (p : ℕ) → IsIndexed rows ix → due_of (at rows p) ≡ None → set ix.dues p None ≡ ix.dues
+undue rows ix p h none = kept ix.dues (moment-is rows ix p h ∙ none)
+  where
+    kept : (ms : List (Option ℕ)) → moment_at ms p ≡ None → set ms p None ≡ ms
+    kept ms e = ap (λ v. set ms p v) (sym e) ∙ set-get_or ms p None
+
+abbrev with_counts : Index → List Bool → ℕ → Index
+with_counts ix ready unfinished = record ix { ready = ready; unfinished = unfinished }
+
+-- who is counted as unfinished is one of them
+pub some-unfinished : (rows : List Stand) (ix : Index) (p : ℕ) → p < length rows → at rows p ≡ Is_ready → IsIndexed rows ix → 0 < ix.unfinished
+some-unfinished rows ix p lt ready h =
+    let one : number (is_unfinished (at rows p)) ≤ count_of is_unfinished rows = count-one is_unfinished rows p lt in
+    let is_one : number (is_unfinished (at rows p)) ≡ 1 = ap (λ s. number (is_unfinished s)) ready in
+    let e : ix.unfinished ≡ count_of is_unfinished rows = h.unfinished in omega (arith, one, is_one, e)
+
+-- a process that acted has finished
+pub finished-index : (rows new : List Stand) (p n : ℕ) (ix : Index) (ready : List Bool) → p < length rows → at rows p ≡ Is_ready → new ≡ set rows p Is_done
+    → IsIndexed rows ix → ready ≡ set ix.ready p false → n ≡ ix.unfinished - 1 → IsIndexed new (with_counts ix ready n)
+finished-index rows new p n ix ready lt was is h made count = changed-index rows new p Is_done ix (with_counts ix ready n) lt is h (record {
+  bits = subst (λ v. IsReadySet (set rows p Is_done) v) (sym made) (ready-set rows ix.ready p Is_done false lt refl h.bits);
+  members = sym (unlisted rows ix p h (ap member_of was));
+  lists = refl;
+  dues = sym (undue rows ix p h (ap due_of was));
+  unfinished =
+      let one : number (is_unfinished (at rows p)) ≡ 1 = ap (λ s. number (is_unfinished s)) was in
+      let some : 0 < ix.unfinished = some-unfinished rows ix p lt was h in
+      omega (arith, one, some, count);
+  ending = ap (λ s. ix.ending + number (may_end s)) was;
+})
 
 over-unready : (s : Stand) → is_unfinished s ≡ false → false ≡ is_ready s
 over-unready Is_idle h = refl
@@ -46,18 +215,38 @@ over-unready Is_created h = cc
 over-unready Is_ready h = cc
 over-unready (Waits why ticket arms) h = cc
 
-over-undue : (s : Stand) → is_unfinished s ≡ false → None ≡ due_of s
+over-undue : (s : Stand) → is_unfinished s ≡ false → due_of s ≡ None
 over-undue Is_idle h = refl
 over-undue Is_done h = refl
 over-undue Is_created h = cc
 over-undue Is_ready h = cc
 over-undue (Waits why ticket arms) h = cc
 
-pub creation-index : (old new : Table) (p : ℕ) (r : Result (Unit {0}) RunFault) (ready : List Bool) (due : Option ℕ)
-    → IsCreation old p r new → IsIndexed old.rows ready due → IsIndexed new.rows ready due
-creation-index old new p (Ok done) ready due made h =
-    kept-index old.rows new.rows ready due p Is_created (ap (λ w. w.rows) made.1) (over-unready (at old.rows p) made.0) (over-undue (at old.rows p) made.0) h
-creation-index old new p (Err fault) ready due made h = subst (λ w. IsIndexed w.rows ready due) (sym made.2) h
+over-free : (s : Stand) → is_unfinished s ≡ false → member_of s ≡ None
+over-free Is_idle h = refl
+over-free Is_done h = refl
+over-free Is_created h = cc
+over-free Is_ready h = cc
+over-free (Waits why ticket arms) h = cc
+
+over-stays : (s : Stand) → is_unfinished s ≡ false → may_end s ≡ false
+over-stays Is_idle h = refl
+over-stays Is_done h = refl
+over-stays Is_created h = cc
+over-stays Is_ready h = cc
+over-stays (Waits why ticket arms) h = cc
+
+-- a process is activated
+pub created-index : (rows new : List Stand) (p n : ℕ) (ix : Index) → p < length rows → is_unfinished (at rows p) ≡ false → new ≡ set rows p Is_created
+    → IsIndexed rows ix → n ≡ ix.unfinished + 1 → IsIndexed new (with_counts ix ix.ready n)
+created-index rows new p n ix lt was is h count = changed-index rows new p Is_created ix (with_counts ix ix.ready n) lt is h (record {
+  bits = ready-kept rows ix.ready p Is_created (over-unready (at rows p) was) h.bits;
+  members = sym (unlisted rows ix p h (over-free (at rows p) was));
+  lists = refl;
+  dues = sym (undue rows ix p h (over-undue (at rows p) was));
+  unfinished = let none : number (is_unfinished (at rows p)) ≡ 0 = ap number was in omega (arith, none, count);
+  ending = let none : number (may_end (at rows p)) ≡ 0 = ap number (over-stays (at rows p) was) in omega (arith, none);
+})
 
 -- main is ready, and nobody else
 pub started-set : (n : ℕ) (ready ready' : List Bool) → 0 < n → n < length ready → ((k : ℕ) → get_or ready k false ≡ false) → ready' ≡ set ready 0 true
@@ -79,3 +268,99 @@ started-set n ready ready' some room none made = subst (λ v. IsReadySet (Is_rea
       room = let long : length (replicate (n - 1) Is_idle) ≡ n - 1 = length-replicate (n - 1) Is_idle in rw length-set (omega (arith, long, room, some));
       each = each;
     }
+
+idle-members : (n : ℕ) → replicate n None ≡ map member_of (replicate n Is_idle)
+idle-members zero = refl
+idle-members (suc n) = ap (λ v. None ∷ v) (idle-members n)
+
+idle-dues : (n : ℕ) → replicate n None ≡ map due_of (replicate n Is_idle)
+idle-dues zero = refl
+idle-dues (suc n) = ap (λ v. None ∷ v) (idle-dues n)
+
+-- the index of a table that is made
+pub first-index : (n : ℕ) (ix : Index) → 0 < n → n ≤ 1024 → IsReadySet (Is_ready ∷ replicate (n - 1) Is_idle) ix.ready → ix.waits.members ≡ replicate n None → ix.waits.lists ≡ list_count
+    → ix.dues ≡ replicate n None → ix.unfinished ≡ 1 → ix.ending ≡ 0 → IsIndexed (Is_ready ∷ replicate (n - 1) Is_idle) ix
+first-index n ix some few bits members lists dues unfinished ending =
+    let e : n ≡ suc (n - 1) = omega (arith, some) in
+    let long : length (replicate (n - 1) Is_idle) ≡ n - 1 = length-replicate (n - 1) Is_idle in
+    record {
+      some = omega arith;
+      few = omega (arith, long, e, few);
+      bits = bits;
+      waits = members ∙ ap (λ k. replicate k None) e ∙ ap (λ v. None ∷ v) (idle-members (n - 1));
+      lists = lists;
+      dues = dues ∙ ap (λ k. replicate k None) e ∙ ap (λ v. None ∷ v) (idle-dues (n - 1));
+      unfinished = unfinished ∙ ap (λ k. suc k) (sym (count-idle is_unfinished refl (n - 1)));
+      ending = ending ∙ sym (count-idle may_end refl (n - 1));
+    }
+
+started-member : (s : Stand) → member_of (started s) ≡ member_of s
+started-member Is_idle = refl
+started-member Is_created = refl
+started-member Is_ready = refl
+started-member (Waits why ticket arms) = refl
+started-member Is_done = refl
+
+started-due : (s : Stand) → due_of (started s) ≡ due_of s
+started-due Is_idle = refl
+started-due Is_created = refl
+started-due Is_ready = refl
+started-due (Waits why ticket arms) = refl
+started-due Is_done = refl
+
+started-unfinished : (s : Stand) → is_unfinished (started s) ≡ is_unfinished s
+started-unfinished Is_idle = refl
+started-unfinished Is_created = refl
+started-unfinished Is_ready = refl
+started-unfinished (Waits why ticket arms) = refl
+started-unfinished Is_done = refl
+
+started-end : (s : Stand) → may_end (started s) ≡ may_end s
+started-end Is_idle = refl
+started-end Is_created = refl
+started-end Is_ready = refl
+started-end (Waits why ticket arms) = refl
+started-end Is_done = refl
+
+map-same : {A : Type 0} (f : Stand → A) → ((s : Stand) → f (started s) ≡ f s) → (rows : List Stand) → map f (map started rows) ≡ map f rows
+map-same f same [] = refl
+map-same f same (s ∷ rest) = ap (λ v. v ∷ map f (map started rest)) (same s) ∙ ap (λ v. f s ∷ v) (map-same f same rest)
+
+abbrev with_ready : Index → List Bool → Index
+with_ready ix ready = record ix { ready = ready }
+
+-- whoever was created is ready
+pub all-started-index : (rows new : List Stand) (ix : Index) (ready : List Bool) → new ≡ map started rows → IsReadySet new ready → IsIndexed rows ix → IsIndexed new (with_ready ix ready)
+all-started-index rows new ix ready is bits h = record {
+  some = subst (λ v. 0 < length v) (sym is) (rw length-map h.some);
+  few = subst (λ v. length v ≤ 1024) (sym is) (rw length-map h.few);
+  bits = bits;
+  waits = h.waits ∙ sym (map-same member_of started-member rows) ∙ ap (map member_of) (sym is);
+  lists = h.lists;
+  dues = h.dues ∙ sym (map-same due_of started-due rows) ∙ ap (map due_of) (sym is);
+  unfinished = h.unfinished ∙ sym (count-map is_unfinished started started-unfinished rows) ∙ ap (count_of is_unfinished) (sym is);
+  ending = h.ending ∙ sym (count-map may_end started started-end rows) ∙ ap (count_of may_end) (sym is);
+}
+
+-- there is room for one more that is unfinished
+pub room-unfinished : (rows : List Stand) (ix : Index) → IsIndexed rows ix → ix.unfinished ≤ 1024
+room-unfinished rows ix h =
+    let le : count_of is_unfinished rows ≤ length rows = count-most is_unfinished rows in
+    let e : ix.unfinished ≡ count_of is_unfinished rows = h.unfinished in
+    let few : length rows ≤ 1024 = h.few in
+    omega (arith, le, e, few)
+
+-- main is one of the processes
+pub main-unfinished : (rows : List Stand) (ix : Index) (b : Bool) → IsIndexed rows ix → b ≡ is_unfinished (at rows 0) → number b ≤ ix.unfinished
+main-unfinished rows ix b h is =
+    let one : number (is_unfinished (at rows 0)) ≤ count_of is_unfinished rows = count-one is_unfinished rows 0 h.some in
+    let same : number b ≡ number (is_unfinished (at rows 0)) = ap number is in
+    let e : ix.unfinished ≡ count_of is_unfinished rows = h.unfinished in
+    omega (arith, one, same, e)
+
+pub main-ending : (rows : List Stand) (ix : Index) (b : Bool) → IsIndexed rows ix → b ≡ may_end (at rows 0) → number b ≤ ix.ending
+main-ending rows ix b h is =
+    let one : number (may_end (at rows 0)) ≤ count_of may_end rows = count-one may_end rows 0 h.some in
+    let same : number b ≡ number (may_end (at rows 0)) = ap number is in
+    let e : ix.ending ≡ count_of may_end rows = h.ending in
+    omega (arith, one, same, e)

@@ -8,7 +8,7 @@ use Rattle.pfc_world.specs.Tables.{Table, at, some_ready}
 use Rattle.pfc_world.specs.Tickets.{IsNew}
 use Rattle.pfc_world.specs.Transitions.{KeepsWaits, placed, rested, released, is_released, finished, ended}
 use Rattle.pfc_world.proofs.AfterSettling.{earliest-ready}
-use Rattle.pfc_world.proofs.BestSoFar.{ticket-waits}
+use Rattle.pfc_world.proofs.Finding.{ticket-waits}
 use Rattle.pfc_world.proofs.Maps.{at-changed, woken-kind}
 
 -- no wait is begun

@@ -4,6 +4,7 @@ pub mod Firsts
 pub mod Goings
 pub mod Holders
 pub mod Indexes
+pub mod Lists
 pub mod Monitors
 pub mod Partnering
 pub mod Partners
@@ -19,4 +20,3 @@ pub mod Tables
 pub mod Terminating
 pub mod Tickets
 pub mod Transitions
-pub mod Walks

@@ -1,10 +1,10 @@
 -- Settling: due moments, and the clock.
 use Rattle.std.specs.Prelude.{ℕ, ◌≡◌, true, false, Bool, not, ◌&&◌, ◌||◌, is_none, if◌then◌else◌, Option, None, Some, List, map, drop}
 use Rattle.std.specs.List.{list_any, list_all}
-use Rattle.pfc_state.specs.Stands.{Stand, due_of, woken, is_unfinished, may_end}
+use Rattle.pfc_state.specs.Stands.{Stand, due_of, is_due, woken, is_unfinished, may_end}
 use Rattle.pfc_world.specs.declared.answers.Settled.{Settled}
 use Rattle.pfc_world.specs.declared.answers.Settled.TheVariants.{SomeReady, NobodyReady}
-use Rattle.pfc_world.specs.Tables.{Table, some_ready}
+use Rattle.pfc_world.specs.Tables.{Table, at, some_ready}
 use Rattle.pfc_world.specs.Firsts.{least}
 
 -- the earliest due moment of those who wait for one
@@ -14,6 +14,10 @@ earliest rows = least due_of rows
 -- whoever's due moment has come is ready
 abbrev pub woken_now : Table → Table
 woken_now w = record w { rows = map (woken w.moment) w.rows }
+
+-- the due moment of process p has come
+abbrev pub IsDue : Table → ℕ → Type 0
+IsDue w p = is_due w.moment (due_of (at w.rows p)) ≡ true
 
 -- the clock stands at this moment, and who is due then is ready
 abbrev pub moved_to : Option ℕ → Table → Table

@@ -1,8 +1,8 @@
 -- The third step of settling, and settling whole.
-use Rattle.std.specs.Prelude.{Bool, true, false, if◌then◌else◌, List, [], ◌∷◌, map}
-use Rattle.pfc_state.specs.Stands.{Stand, Is_done, may_end}
+use Rattle.std.specs.Prelude.{ℕ, ◌<◌, ◌≡◌, Bool, true, false, if◌then◌else◌, List, [], ◌∷◌, map}
+use Rattle.pfc_state.specs.Stands.{Stand, Is_done, is_unfinished, may_end}
 use Rattle.pfc_world.specs.Settling.{may_all_end, settled}
-use Rattle.pfc_world.specs.Tables.{Table}
+use Rattle.pfc_world.specs.Tables.{Table, at}
 use Rattle.pfc_world.specs.Transitions.{released}
 
 -- a child that waits in a select with an open `terminate` finishes
@@ -30,3 +30,15 @@ finally_settled w = terminated_where (may_all_end w.rows) w
 -- where there is none, children that wait with `terminate` alone finish.
 abbrev pub wholly_settled : Table → Table
 wholly_settled w = finally_settled (settled w)
+
+-- every child that is unfinished waits in a select with an open `terminate`
+abbrev pub AreServers : List Stand → Type 0
+AreServers rows = (q : ℕ) → 0 < q → is_unfinished (at rows q) ≡ true → may_end (at rows q) ≡ true
+
+-- process p is a child that waits so
+abbrev pub IsServer : List Stand → ℕ → Type 0
+IsServer rows p = (0 < p) × (may_end (at rows p) ≡ true)
+
+-- no child waits so
+abbrev pub IsNoServer : List Stand → Type 0
+IsNoServer rows = (q : ℕ) → 0 < q → may_end (at rows q) ≡ false

@@ -7,7 +7,10 @@
 #![tactic(auto)]
 
 mod answers;
+mod index;
 mod laws;
+mod lists;
+mod lookups;
 mod partners;
 mod rows;
 mod terminating;

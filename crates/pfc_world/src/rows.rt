@@ -1,19 +1,16 @@
 //! The rows of the table: what each process stands at, who acts, the number of actions done, and the clock.
 ghost use Rattle.std.specs.Prelude.{◌≡◌, ℕ, ◌+◌, ◌*◌, ◌^◌, ◌<◌, ◌≤◌, true, false, None, Some, Option, [], length, map, is_some, IfOk, IfSome, MatchOption};
 ghost use Rattle.pfc_state.specs.declared.waits.Why.{Why};
-ghost use Rattle.pfc_state.specs.Stands.{Is_ready, Waits, Is_done, IsWaiting, is_ready, due_of, state_of, ticket_of, arms_of, may_end, ticket_at, ticket_on, ticket_offering, ticket_barred};
+ghost use Rattle.pfc_state.specs.Stands.{Is_ready, Waits, Is_done, IsWaiting, is_ready, is_unfinished, is_at_coend, state_of, ticket_of, arms_of, may_end, rank_on};
 ghost use Rattle.pfc_state.specs.Waits.{is_select, place_of_arm};
 ghost use Rattle.pfc_world.specs.Coend.{IsAtCoend};
-ghost use Rattle.pfc_world.specs.Firsts.{first, last, offer_at, first_offer, first_ranked, least_rank, IsFirst, IsFirstRanked, IsLast, IsNobody};
-ghost use Rattle.pfc_world.specs.Settling.{earliest, woken_now, moved_to, settled, children_may_end, may_all_end, IsLeftBy};
+ghost use Rattle.pfc_world.specs.Firsts.{offer_at};
+ghost use Rattle.pfc_world.specs.Sought.{key_of};
 ghost use Rattle.pfc_world.specs.Tables.{at, start_table, some_ready, some_created};
 ghost use Rattle.pfc_world.specs.Tickets.{AreTickets, IsNew};
 ghost use Rattle.pfc_world.specs.Transitions.{begun, rested, placed, blocked, is_released, released, ended, finished, all_started, ticked, IsCreation};
 
-use crate::walks::{
-    Sought, all_may_end, all_over, any_created, any_unfinished, earliest_of, first_of, last_of,
-    least_rank_of, start_all, wake_all,
-};
+use crate::walks::{Sought, any_created, start_all, ticket_of};
 use crate::{Arm, Offer, Running, State, Why};
 use pfc_base::{Memory, RunFault};
 use pfc_state::Row;
@@ -124,13 +121,31 @@ impl Rows {
         row.is_ready()
     }
 
-    /// Whether the wait of a process ends by itself at a due moment.
-    pub(crate) fn is_due(&self, p: u32) -> bool
+    /// Whether a process waits in a select with an open `terminate`.
+    pub(crate) fn may_end(&self, p: u32) -> bool
         requires { p < length self.now.rows }
-        ensures { result ≡ is_some (due_of (at self.now.rows p)) }
+        ensures { result ≡ may_end (at self.now.rows p) }
     {
         let row = &self.rows[p as usize];
-        row.due().is_some()
+        row.may_end()
+    }
+
+    /// Whether a process was activated and has not finished since.
+    pub(crate) fn is_unfinished(&self, p: u32) -> bool
+        requires { p < length self.now.rows }
+        ensures { result ≡ is_unfinished (at self.now.rows p) }
+    {
+        let row = &self.rows[p as usize];
+        row.is_unfinished()
+    }
+
+    /// Whether a process waits at `coend`.
+    pub(crate) fn is_at_coend(&self, p: u32) -> bool
+        requires { p < length self.now.rows }
+        ensures { result ≡ is_at_coend (at self.now.rows p) }
+    {
+        let row = &self.rows[p as usize];
+        row.is_at_coend()
     }
 
     /// The number of the action that began the wait of a process, from 1; None where it does not wait.
@@ -244,68 +259,6 @@ impl Rows {
         self.done += 1;
         self.moment += 1;
     }
-
-    /// The process of least ticket whose wait is exactly this one.
-    pub(crate) fn first_at(&self, why: Why) -> Option<u32>
-        ensures first { result ≡ first (ticket_at why) self.now.rows }
-        ensures found { MatchOption result (IsNobody (ticket_at why) self.now.rows) (IsFirst (ticket_at why) self.now.rows) }
-        ensures waits { IfSome result (λ p. IsWaiting (at self.now.rows p)) }
-        ensures within { IfSome result (λ p. p < length self.now.rows) }
-    {
-        first_of(&self.rows, Sought::At(why))
-    }
-
-    /// The process of greatest ticket whose wait is exactly this one.
-    pub(crate) fn last_at(&self, why: Why) -> Option<u32>
-        ensures last { result ≡ last (ticket_at why) self.now.rows }
-        ensures found { MatchOption result (IsNobody (ticket_at why) self.now.rows) (IsLast (ticket_at why) self.now.rows) }
-        ensures waits { IfSome result (λ p. IsWaiting (at self.now.rows p)) }
-        ensures within { IfSome result (λ p. p < length self.now.rows) }
-    {
-        last_of(&self.rows, Sought::At(why))
-    }
-
-    /// The process of least rank among those that wait on the condition, and at that rank the one of least
-    /// ticket.
-    pub(crate) fn first_ranked(&self, condition: u32) -> Option<u32>
-        ensures first { result ≡ first_ranked condition self.now.rows }
-        ensures found { MatchOption result (IsNobody (ticket_on condition) self.now.rows) (IsFirstRanked condition self.now.rows) }
-        ensures waits { IfSome result (λ p. IsWaiting (at self.now.rows p)) }
-        ensures within { IfSome result (λ p. p < length self.now.rows) }
-    {
-        match self.least_rank(condition) {
-            Some(rank) => self.first_at(Why::Condition {
-                number: condition,
-                rank,
-            }),
-            None => None,
-        }
-    }
-
-    /// The process of least ticket among those that wait in a select with this alternative, and its first
-    /// place there.
-    pub(crate) fn first_offer(&self, arm: Arm) -> Option<Offer>
-        ensures offer { result ≡ first_offer arm self.now.rows }
-        ensures found { MatchOption result (IsNobody (ticket_offering arm) self.now.rows) (λ offer. IsFirst (ticket_offering arm) self.now.rows offer.process) }
-        ensures waits { IfSome result (λ offer. IsWaiting (at self.now.rows offer.process)) }
-        ensures within { IfSome result (λ offer. offer.process < length self.now.rows) }
-    {
-        match first_of(&self.rows, Sought::Offering(arm)) {
-            Some(p) => self.offer_at(p, arm),
-            None => None,
-        }
-    }
-
-    /// The process of least ticket above `after` among those that are barred at the resource; any ticket
-    /// is above None.
-    pub(crate) fn next_barred(&self, resource: u32, after: Option<u64>) -> Option<u32>
-        ensures first { result ≡ first (ticket_barred resource after) self.now.rows }
-        ensures found { MatchOption result (IsNobody (ticket_barred resource after) self.now.rows) (IsFirst (ticket_barred resource after) self.now.rows) }
-        ensures waits { IfSome result (λ p. IsWaiting (at self.now.rows p)) }
-        ensures within { IfSome result (λ p. p < length self.now.rows) }
-    {
-        first_of(&self.rows, Sought::BarredAt { resource, after })
-    }
 }
 
 impl Rows {
@@ -323,30 +276,28 @@ impl Rows {
         }
     }
 
-    pub(crate) fn least_rank(&self, condition: u32) -> Option<i32>
-        ensures { result ≡ least_rank condition self.now.rows }
+    /// Whether a process is sought.
+    pub(crate) fn is_sought(&self, p: u32, sought: Sought) -> bool
+        requires { p < length self.now.rows }
+        ensures { result ≡ is_some (key_of sought (at self.now.rows p)) }
     {
-        least_rank_of(&self.rows, condition)
+        let row = &self.rows[p as usize];
+        ticket_of(row, sought).is_some()
+    }
+
+    /// The rank of a process, where it waits on the condition.
+    pub(crate) fn rank_on(&self, p: u32, condition: u32) -> Option<i32>
+        requires { p < length self.now.rows }
+        ensures { result ≡ rank_on condition (at self.now.rows p) }
+    {
+        let row = &self.rows[p as usize];
+        row.rank_on(condition)
     }
 
     pub(crate) fn some_created(&self) -> bool
         ensures { result ≡ some_created self.now.rows }
     {
         any_created(&self.rows)
-    }
-
-    /// Whether main waits at `coend` and no child is unfinished.
-    pub(crate) fn is_released(&self) -> bool
-        ensures { result ≡ is_released self.now.rows }
-    {
-        let main = &self.rows[0];
-        main.is_at_coend() && all_over(&self.rows[1..])
-    }
-
-    pub(crate) fn children_may_end(&self) -> bool
-        ensures { result ≡ children_may_end self.now.rows }
-    {
-        any_unfinished(&self.rows[1..]) && all_may_end(&self.rows[1..])
     }
 
     pub(crate) fn give_up(&mut self, r: Running)
@@ -372,18 +323,6 @@ impl Rows {
         ensures { self.new ≡ all_started self.old }
     {
         start_all(&mut self.rows);
-    }
-
-    pub(crate) fn wake_due(&mut self)
-        ensures { self.new ≡ woken_now self.old }
-    {
-        wake_all(&mut self.rows, self.moment);
-    }
-
-    pub(crate) fn earliest(&self) -> Option<u64>
-        ensures { result ≡ earliest self.now.rows }
-    {
-        earliest_of(&self.rows)
     }
 
     /// The clock stands at this moment.

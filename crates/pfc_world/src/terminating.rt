@@ -1,11 +1,10 @@
 //! The end of all children that only serve.
-ghost use Rattle.std.specs.Prelude.{◌≡◌, ◌<◌, length, true};
-ghost use Rattle.pfc_state.specs.Stands.{may_end};
+ghost use Rattle.std.specs.Prelude.{◌≡◌, true, MatchOption};
 ghost use Rattle.pfc_world.specs.Settling.{may_all_end};
-ghost use Rattle.pfc_world.specs.Tables.{at};
-ghost use Rattle.pfc_world.specs.Terminating.{terminated};
+ghost use Rattle.pfc_world.specs.Terminating.{terminated, AreServers, IsNoServer, IsServer};
 
-use crate::{State, Why, World};
+use crate::World;
+use crate::lists::list_of_selects;
 
 impl World {
     /// Every child that waits in a select with an open `terminate` finishes, where nothing else can happen any more; and
@@ -14,22 +13,25 @@ impl World {
         requires { may_all_end self.old.rows ≡ true }
         ensures { self.new ≡ terminated self.old }
     {
-        for p in 1..self.processes() {
-            if self.may_end(p) {
-                self.end(p);
-            }
+        while let Some(p) = self.next_server() {
+            self.end(p);
         }
         self.release();
     }
 
-    /// Whether a process waits in a select with an open `terminate`.
-    fn may_end(&self, p: u32) -> bool
-        requires { p < length self.now.rows }
-        ensures { result ≡ may_end (at self.now.rows p) }
+    /// A child that waits in a select, where all that are unfinished do: the first of those who wait so but for main.
+    fn next_server(&self) -> Option<u32>
+        requires { AreServers self.now.rows }
+        ensures { MatchOption result (IsNoServer self.now.rows) (IsServer self.now.rows) }
     {
-        match self.state(p) {
-            State::Waiting(Why::Select { terminate, .. }) => terminate,
-            _ => false,
+        // this also tells that no two tickets are equal
+        let _done = self.rows.done();
+        let Some(first) = self.index.waits.first(list_of_selects()) else {
+            return None;
+        };
+        if first == 0 {
+            return self.index.waits.next(0);
         }
+        Some(first)
     }
 }

@@ -1,19 +1,21 @@
 //! The table of processes.
-ghost use Rattle.std.specs.Prelude.{◌≡◌, ℕ, ◌+◌, ◌*◌, ◌^◌, ◌<◌, ◌≤◌, true, false, None, Some, Option, [], length, get_or, slice_index, map, IfOk, IfSome, MatchOption};
+ghost use Rattle.std.specs.Prelude.{◌≡◌, ℕ, ◌+◌, ◌-◌, ◌*◌, ◌^◌, ◌<◌, ◌≤◌, true, false, None, Some, Option, [], length, get_or, slice_index, map, IfOk, IfSome, MatchOption};
 ghost use Rattle.pfc_state.specs.declared.waits.Why.{Why};
 ghost use Rattle.pfc_state.specs.Stands.{Is_ready, Waits, Is_done, IsWaiting, is_due, state_of, ticket_of, arms_of, may_end, ticket_at, ticket_on, ticket_offering, ticket_barred};
-ghost use Rattle.pfc_state.specs.Waits.{is_select, place_of_arm, due_of_wait};
+ghost use Rattle.pfc_state.specs.Waits.{is_select, place_of_arm};
 ghost use Rattle.pfc_world.specs.Coend.{IsAtCoend};
 ghost use Rattle.pfc_world.specs.Firsts.{first, last, offer_at, first_offer, first_ranked, least_rank, IsFirst, IsFirstRanked, IsLast, IsNobody};
-ghost use Rattle.pfc_world.specs.Settling.{earliest, woken_now, moved_to, settled, children_may_end, may_all_end, IsLeftBy};
-ghost use Rattle.pfc_world.specs.Indexes.{IsReadySet};
+ghost use Rattle.pfc_world.specs.Settling.{earliest, woken_now, moved_to, settled, children_may_end, may_all_end, IsLeftBy, IsDue};
+ghost use Rattle.pfc_world.specs.Indexes.{IsReadySet, number};
 ghost use Rattle.pfc_world.specs.Ready.{ready_numbers, turn_of};
 ghost use Rattle.pfc_world.specs.Tables.{at, start_table, some_ready, some_created};
 ghost use Rattle.pfc_world.specs.Tickets.{AreTickets, IsNew};
 ghost use Rattle.pfc_world.specs.Transitions.{begun, rested, placed, blocked, is_released, released, ended, finished, all_started, ticked, IsCreation};
 
+use crate::index::Index;
+use crate::lookups::{first_of, last_of, least_rank_of};
 use crate::rows::Rows;
-use crate::walks::sooner_due as sooner;
+use crate::walks::Sought;
 use crate::{After, Arm, Offer, Running, Settled, State, Why};
 use pfc_base::{Memory, RunFault};
 use pfc_lists::Numbers;
@@ -25,10 +27,8 @@ use std::marker::Model;
 /// clock, and the room for alternatives; and a process that acts stands there as ready.
 #[derive(Drop)]
 pub struct World {
-    rows: Rows,
-    ready: Numbers,
-    /// the earliest due moment that is pending
-    next_due: Option<u64>,
+    pub(crate) rows: Rows,
+    pub(crate) index: Index,
 }
 
 impl Model for World {
@@ -39,7 +39,7 @@ impl Model for World {
 
     ghost view = { λ w. w.rows };
 
-    ghost invariant = { λ w. IsIndexed w.rows.rows w.ready w.next_due };
+    ghost invariant = { λ w. IsIndexed w.rows.rows w.index };
 }
 
 impl World {
@@ -51,13 +51,9 @@ impl World {
         ensures world { IfOk result (λ world. world ≡ start_table n arms) }
         ensures fresh { IfOk result (λ world. IsNew world.rows world.done) }
     {
-        let rows = Rows::with_processes(alloc, n, arms)?;
-        let mut ready = Numbers::new(alloc, n)?;
-        ready.put(0, true);
         Ok(World {
-            rows,
-            ready,
-            next_due: None,
+            rows: Rows::with_processes(alloc, n, arms)?,
+            index: Index::new(alloc, n)?,
         })
     }
 
@@ -149,9 +145,9 @@ impl World {
         ensures { self.new ≡ blocked self.old r.number why [] }
     {
         let p = r.number();
+        let ticket = self.rows.done() + 1;
         self.rows.block(r, why);
-        self.ready.put(p, false);
-        self.next_due = sooner(self.next_due, due_of(why));
+        self.index.begin_wait(p, why, ticket);
     }
 
     /// The process that acts waits in a select, with the number of the present action as its ticket: for
@@ -164,9 +160,10 @@ impl World {
         ensures { self.new ≡ blocked self.old r.number (Why.Select due terminate) arms.now }
     {
         let p = r.number();
+        let ticket = self.rows.done() + 1;
         self.rows.block_select(r, arms, due, terminate);
-        self.ready.put(p, false);
-        self.next_due = sooner(self.next_due, due);
+        let why = Why::Select { due, terminate };
+        self.index.begin_wait(p, why, ticket);
     }
 
     /// The process that acts has finished; main is ready where it waits at `coend` and no child is
@@ -185,12 +182,9 @@ impl World {
         ensures world { self.new ≡ placed self.old p Is_ready }
         ensures fresh { IsNew self.old.rows self.old.done → IsNew self.new.rows self.new.done }
     {
-        let was_due = self.rows.is_due(p);
+        let ends = self.rows.may_end(p);
         self.rows.wake(p);
-        self.ready.put(p, true);
-        if was_due {
-            self.next_due = self.rows.earliest();
-        }
+        self.index.wake(p, ends);
     }
 
     /// A process that waits in a select with `terminate` finishes there; main is ready where it waits at
@@ -208,7 +202,9 @@ impl World {
         requires { p < length self.old.rows }
         ensures { IsCreation self.old p result self.new }
     {
-        self.rows.create(p)
+        self.rows.create(p)?;
+        self.index.unfinished += 1;
+        Ok(())
     }
 
     /// The process that acts is at `coend`: where some process is created, all created ones are ready,
@@ -271,7 +267,7 @@ impl World {
         ensures waits { IfSome result (λ p. IsWaiting (at self.now.rows p)) }
         ensures within { IfSome result (λ p. p < length self.now.rows) }
     {
-        self.rows.first_at(why)
+        first_of(&self.rows, &self.index.waits, Sought::At(why))
     }
 
     /// The process of greatest ticket whose wait is exactly this one.
@@ -281,7 +277,7 @@ impl World {
         ensures waits { IfSome result (λ p. IsWaiting (at self.now.rows p)) }
         ensures within { IfSome result (λ p. p < length self.now.rows) }
     {
-        self.rows.last_at(why)
+        last_of(&self.rows, &self.index.waits, Sought::At(why))
     }
 
     /// The process of least rank among those that wait on the condition, and at that rank the one of least
@@ -292,7 +288,13 @@ impl World {
         ensures waits { IfSome result (λ p. IsWaiting (at self.now.rows p)) }
         ensures within { IfSome result (λ p. p < length self.now.rows) }
     {
-        self.rows.first_ranked(condition)
+        match self.least_rank(condition) {
+            Some(rank) => self.first_at(Why::Condition {
+                number: condition,
+                rank,
+            }),
+            None => None,
+        }
     }
 
     /// The process of least ticket among those that wait in a select with this alternative, and its first
@@ -303,7 +305,10 @@ impl World {
         ensures waits { IfSome result (λ offer. IsWaiting (at self.now.rows offer.process)) }
         ensures within { IfSome result (λ offer. offer.process < length self.now.rows) }
     {
-        self.rows.first_offer(arm)
+        match first_of(&self.rows, &self.index.waits, Sought::Offering(arm)) {
+            Some(p) => self.offer_at(p, arm),
+            None => None,
+        }
     }
 
     /// The first place of the alternative, from 0, among those that the process offers in a select; None where it offers
@@ -323,7 +328,8 @@ impl World {
         ensures waits { IfSome result (λ p. IsWaiting (at self.now.rows p)) }
         ensures within { IfSome result (λ p. p < length self.now.rows) }
     {
-        self.rows.next_barred(resource, after)
+        let sought = Sought::BarredAt { resource, after };
+        first_of(&self.rows, &self.index.waits, sought)
     }
 }
 
@@ -332,7 +338,7 @@ impl World {
     pub fn ready_count(&self) -> u32
         ensures { result ≡ length (ready_numbers self.now.rows) }
     {
-        self.ready.count()
+        self.index.ready.count()
     }
 
     /// The ready process at a place, counted from 0, in the order of numbers.
@@ -340,7 +346,7 @@ impl World {
         requires { place < length (ready_numbers self.now.rows) }
         ensures { result ≡ slice_index (ready_numbers self.now.rows) place }
     {
-        self.ready.at(place)
+        self.index.ready.at(place)
     }
 
     /// The first ready process from this number on, or else the first of all ready ones.
@@ -348,40 +354,59 @@ impl World {
         requires { 0 < length (ready_numbers self.now.rows) }
         ensures { result ≡ turn_of last (ready_numbers self.now.rows) }
     {
-        let before = self.ready.below(last);
-        if before < self.ready.count() {
-            self.ready.at(before)
+        let before = self.index.ready.below(last);
+        if before < self.index.ready.count() {
+            self.index.ready.at(before)
         } else {
-            self.ready.at(0)
+            self.index.ready.at(0)
         }
     }
 }
 
 impl World {
+    fn least_rank(&self, condition: u32) -> Option<i32>
+        ensures { result ≡ least_rank condition self.now.rows }
+    {
+        least_rank_of(&self.rows, &self.index.waits, condition)
+    }
+
     fn some_ready(&self) -> bool
         ensures { result ≡ some_ready self.now.rows }
     {
-        self.ready.count() > 0
+        self.index.ready.count() > 0
     }
 
     fn earliest(&self) -> Option<u64>
         ensures { result ≡ earliest self.now.rows }
     {
-        self.next_due
+        match self.index.dues.first() {
+            Some(due) => Some(due.moment),
+            None => None,
+        }
     }
 
+    /// Whether the children that wait in a select with an open `terminate` are all that are unfinished.
     fn children_may_end(&self) -> bool
         ensures { result ≡ children_may_end self.now.rows }
     {
-        self.rows.children_may_end()
+        let unfinished = but_main(self.index.unfinished, self.rows.is_unfinished(0));
+        let ending = but_main(self.index.ending, self.rows.may_end(0));
+        unfinished > 0 && unfinished == ending
     }
 
     pub(crate) fn release(&mut self)
         ensures { self.new ≡ released self.old }
     {
-        if self.rows.is_released() {
+        if self.is_released() {
             self.wake(0);
         }
+    }
+
+    /// Whether main waits at `coend` and is the last that is unfinished.
+    fn is_released(&self) -> bool
+        ensures { result ≡ is_released self.now.rows }
+    {
+        self.index.unfinished == 1 && self.rows.is_at_coend(0)
     }
 
     fn give_up(&mut self, r: Running)
@@ -390,18 +415,17 @@ impl World {
     {
         let p = r.number();
         self.rows.give_up(r);
-        self.ready.put(p, false);
+        self.index.ready.put(p, false);
+        self.index.unfinished -= 1;
     }
 
     pub(crate) fn end(&mut self, p: u32)
         requires { IsWaiting (at self.old.rows p) }
         ensures { self.new ≡ placed self.old p Is_done }
     {
-        let was_due = self.rows.is_due(p);
+        let ends = self.rows.may_end(p);
         self.rows.end(p);
-        if was_due {
-            self.next_due = self.rows.earliest();
-        }
+        self.index.end(p, ends);
     }
 
     fn some_created(&self) -> bool
@@ -414,18 +438,26 @@ impl World {
         ensures { self.new ≡ all_started self.old }
     {
         self.rows.start_created();
-        show_ready(&self.rows, &mut self.ready);
+        show_ready(&self.rows, &mut self.index.ready);
     }
 
+    /// Whoever's due moment has come is ready, one after the other.
     fn wake_due(&mut self)
         ensures { self.new ≡ woken_now self.old }
     {
-        if !is_due(self.next_due, self.now()) {
-            return;
+        while let Some(p) = self.due_now() {
+            self.wake(p);
         }
-        self.rows.wake_due();
-        show_ready(&self.rows, &mut self.ready);
-        self.next_due = self.rows.earliest();
+    }
+
+    /// The process that is due first, where its moment has come.
+    fn due_now(&self) -> Option<u32>
+        ensures { MatchOption result (is_due self.now.moment (earliest self.now.rows) ≡ false) (IsDue self.now) }
+    {
+        match self.index.dues.first() {
+            Some(due) if due.moment <= self.now() => Some(due.process),
+            _ => None,
+        }
     }
 
     fn move_to(&mut self, moment: u64)
@@ -448,23 +480,10 @@ fn show_ready(rows: &Rows, ready: &mut Numbers)
     }
 }
 
-/// The moment at which a wait ends by itself.
-fn due_of(why: Why) -> Option<u64>
-    ensures { result ≡ due_of_wait why }
+/// How many of so many are children, where main is one of them or not.
+fn but_main(all: u32, main: bool) -> u32
+    requires { number main ≤ all }
+    ensures { result ≡ all - number main }
 {
-    match why {
-        Why::Sleep(moment) => Some(moment),
-        Why::Select { due, .. } => due,
-        _ => None,
-    }
-}
-
-/// Whether a due moment has come.
-fn is_due(due: Option<u64>, now: u64) -> bool
-    ensures { result ≡ is_due now due }
-{
-    match due {
-        Some(due) => due <= now,
-        None => false,
-    }
+    if main { all - 1 } else { all }
 }

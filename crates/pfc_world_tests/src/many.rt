@@ -6,7 +6,7 @@ ghost use Rattle.pfc_world.specs.Tables.{at};
 ghost use Rattle.pfc_state.specs.Waits.{is_select};
 
 use pfc_base::Memory;
-use pfc_world::{After, State, Why, World};
+use pfc_world::{After, Arm, Offer, State, Why, World};
 use std::alloc::Global;
 use std::test::Fail;
 
@@ -80,6 +80,15 @@ impl Trial {
             if let State::Waiting(_why) = self.world.state(p) {
                 self.world.wake(p);
             }
+        }
+    }
+
+    /// The process waits in a select, in an action of its own, where it is ready.
+    fn select(&mut self, p: u32, arms: &[Arm], due: Option<u64>) {
+        if self.may_act(p) && arms.len() <= self.world.room() as usize {
+            self.world.tick();
+            let r = self.world.begin(p);
+            self.world.block_select(r, arms, due, false);
         }
     }
 
@@ -217,6 +226,13 @@ fn sought(waits: &[Option<PlainWait>; 64], place: u32, last: bool) -> Option<u32
     found
 }
 
+/// A semaphore. Two of the three share a list of the table.
+fn semaphore(place: u32) -> Why
+    ensures { is_select result ≡ false }
+{
+    Why::Semaphore(place % 3 * 32)
+}
+
 #[test]
 fn random_waits_are_those_of_a_plain_list(rt: HostRuntime) -> Result<(), Fail> {
     let mut trial = Trial::new(rt.alloc())?;
@@ -228,7 +244,7 @@ fn random_waits_are_those_of_a_plain_list(rt: HostRuntime) -> Result<(), Fail> {
         let p = (word % 64) as u32;
         let place = (word / 64 % 3) as u32;
         if p > 0 && waits[p as usize].is_none() {
-            trial.wait(p, Why::Semaphore(place));
+            trial.wait(p, semaphore(place));
             waits[p as usize] = Some(PlainWait {
                 place,
                 ticket: trial.world.done() + 1,
@@ -238,11 +254,93 @@ fn random_waits_are_those_of_a_plain_list(rt: HostRuntime) -> Result<(), Fail> {
             waits[p as usize] = None;
         }
         for place in 0..3 {
-            held = held
-                && trial.world.first_at(Why::Semaphore(place)) == sought(&waits, place, false);
-            held = held
-                && trial.world.last_at(Why::Semaphore(place)) == sought(&waits, place, true);
+            held = held && trial.world.first_at(semaphore(place)) == sought(&waits, place, false);
+            held = held && trial.world.last_at(semaphore(place)) == sought(&waits, place, true);
         }
+    }
+    assert!(rt; held);
+    Ok(())
+}
+
+/// Whether the first 64 children stand as the plain list of due moments says.
+fn stand_as(trial: &Trial, dues: &[Option<u64>; 64]) -> bool {
+    let mut held = true;
+    for (p, due) in dues.iter().enumerate() {
+        let p = p as u32;
+        if p > 0 && p < trial.world.processes() {
+            held = held && (trial.world.state(p) == State::Ready) == due.is_none();
+        }
+    }
+    held
+}
+
+#[test]
+fn random_moments_are_those_of_a_plain_list(rt: HostRuntime) -> Result<(), Fail> {
+    let mut trial = Trial::new(rt.alloc())?;
+    let mut dues: [Option<u64>; 64] = [None; 64];
+    let mut word: u64 = 1;
+    let mut held = true;
+    for _i in 0..3000 {
+        word = word.wrapping_mul(75) % 65537;
+        let p = (word % 64) as u32;
+        let due = trial.world.now().wrapping_add(word / 64 % 50);
+        if p > 0 && dues[p as usize].is_some() {
+            trial.free(p);
+            dues[p as usize] = None;
+        } else if p % 2 == 1 {
+            trial.wait(p, Why::Sleep(due));
+            dues[p as usize] = Some(due);
+        } else if p > 0 {
+            trial.select(p, &[Arm::Receive(p)], Some(due));
+            dues[p as usize] = Some(due);
+        }
+        trial.settle();
+        let now = trial.world.now();
+        for due in dues.iter_mut() {
+            if due.is_some_and(|moment| moment <= now) {
+                *due = None;
+            }
+        }
+        held = held && stand_as(&trial, &dues);
+    }
+    assert!(rt; held);
+    Ok(())
+}
+
+/// Which process is freed, and who is first to offer to receive and to send then.
+static OFFERS: [(u32, Option<Offer>, Option<Offer>); 5] = [
+    (
+        9,
+        Some(Offer { process: 1, arm: 1 }),
+        Some(Offer { process: 3, arm: 1 }),
+    ),
+    (
+        2,
+        Some(Offer { process: 1, arm: 1 }),
+        Some(Offer { process: 3, arm: 1 }),
+    ),
+    (
+        1,
+        Some(Offer { process: 3, arm: 0 }),
+        Some(Offer { process: 3, arm: 1 }),
+    ),
+    (3, Some(Offer { process: 4, arm: 2 }), None),
+    (4, None, None),
+];
+
+#[test]
+fn alternatives_at_one_channel(rt: HostRuntime) -> Result<(), Fail> {
+    let mut trial = Trial::new(rt.alloc())?;
+    trial.select(1, &[Arm::Send(1), Arm::Receive(0), Arm::Receive(0)], None);
+    trial.select(2, &[Arm::Receive(0)], None);
+    trial.select(3, &[Arm::Receive(0), Arm::Send(0)], Some(900_000));
+    trial.select(4, &[Arm::Accept(0), Arm::Send(1), Arm::Receive(0)], None);
+    let mut held = true;
+    for (p, receives, sends) in OFFERS.iter() {
+        trial.free(*p);
+        held = held
+            && trial.world.first_offer(Arm::Receive(0)) == *receives
+            && trial.world.first_offer(Arm::Send(0)) == *sends;
     }
     assert!(rt; held);
     Ok(())

@@ -1,4 +1,4 @@
-use Rattle.std.proofs.Common.{◌≡◌, ◌<◌, ◌≤◌, ◌+◌, ◌/◌, ◌%◌, length, take, arith, sym, ap, ◌∙◌, subst}
+use Rattle.std.proofs.Common.{◌<◌, ◌≤◌, ◌+◌, ◌/◌, ◌%◌, length, take, arith, sym, ap, ◌∙◌, subst}
 use Rattle.std.proofs.lemmas.List.{length-take-le, take_all}
 use Rattle.pfc_lists.specs.Bits.{bits, flags, numbers, numbers_from}
 use Rattle.pfc_lists.proofs.Flags.{bit-within, flags-past, numbers-below, low-numbers}

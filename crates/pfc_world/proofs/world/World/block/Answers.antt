@@ -1,16 +1,18 @@
-use Rattle.std.proofs.Common.{◌+◌, false, [], set, refl, sym, ap, ◌∙◌}
-use Rattle.pfc_state.specs.Stands.{Waits, due_of}
-use Rattle.pfc_world.specs.Firsts.{lesser}
-use Rattle.pfc_world.specs.Settling.{earliest}
-use Rattle.pfc_world.proofs.Earliest.{earliest-more}
-use Rattle.pfc_world.proofs.Indexes.{placed-index}
+use Rattle.std.proofs.Common.{◌+◌, [], sym, ap, subst}
+use Rattle.pfc_world.specs.Indexes.{Admits, BeginsWait}
+use Rattle.pfc_world.specs.Tickets.{IsNew}
+use Rattle.pfc_world.proofs.Indexes.{admits, begun-index}
 use Rattle.pfc_world.proofs.world.World.block.Goals as goal
+
+pub begin_wait-requires : goal.begin_wait-requires
+begin_wait-requires c =
+    subst (λ n. Admits c.self.inside.index n (c.done-ticket.result + 1)) (sym c.number-p.ensures)
+    (admits c.self.inside.rows.rows c.self.inside.index c.args.r.number c.self.inside.rows.done (c.done-ticket.result + 1) c.block.ensures.within c.block.ensures.acted
+    c.done-ticket.ensures.tickets (subst (λ w. IsNew w.rows w.done) (sym c.self.view_is) c.requires.fresh) (ap (λ n. n + 1) c.done-ticket.ensures.count) c.self.invariant)
 
 pub invariant_of-self : goal.invariant_of-self
 invariant_of-self c =
-    placed-index c.self.inside.rows.rows _ c.self.inside.ready _ c.self.inside.next_due _ c.args.r.number (Waits c.args.why (c.self.inside.rows.done + 1) []) false
-    c.block.ensures.within (ap (λ w. w.rows) c.block.ensures.table) (c.put.ensures ∙ ap (λ n. set c.self.inside.ready n false) c.number-p.ensures) refl c.self.invariant
-    (c.sooner_due-self-inside.ensures
-    ∙ ap (λ o. lesser o c.due_of.result) c.self.invariant.soonest
-    ∙ ap (λ o. lesser (earliest c.self.inside.rows.rows) o) c.due_of.ensures
-    ∙ sym (earliest-more c.self.inside.rows.rows c.args.r.number (Waits c.args.why (c.self.inside.rows.done + 1) []) c.block.ensures.within (ap due_of c.block.ensures.acted)))
+    begun-index c.self.inside.rows.rows c.block.new.self.rows c.args.r.number (c.self.inside.rows.done + 1) c.args.why [] c.self.inside.index c.begin_wait.new.self
+    c.block.ensures.within c.block.ensures.acted (ap (λ w. w.rows) c.block.ensures.table) c.self.invariant
+    (subst (λ n. BeginsWait c.self.inside.index c.begin_wait.new.self n c.args.why (c.self.inside.rows.done + 1)) c.number-p.ensures
+    (subst (λ n. BeginsWait c.self.inside.index c.begin_wait.new.self c.number-p.result c.args.why (n + 1)) c.done-ticket.ensures.count c.begin_wait.ensures))

@@ -1,11 +1,11 @@
-use Rattle.std.proofs.Common.{false, set, refl, sym, ap, ◌∙◌}
-use Rattle.pfc_state.specs.Stands.{Is_done, due_of}
-use Rattle.pfc_world.proofs.Earliest.{earliest-kept}
-use Rattle.pfc_world.proofs.Indexes.{placed-index}
+use Rattle.std.proofs.Common.{false, set, refl, ap, ◌∙◌}
+use Rattle.pfc_world.proofs.Indexes.{some-unfinished, finished-index}
 use Rattle.pfc_world.proofs.world.World.give_up.Goals as goal
+
+pub overflow_sub-self : goal.overflow_sub-self
+overflow_sub-self c = some-unfinished c.self.inside.rows.rows c.self.inside.index c.args.r.number c.give_up.ensures.within c.give_up.ensures.acted c.self.invariant
 
 pub invariant_of-self : goal.invariant_of-self
 invariant_of-self c =
-    placed-index c.self.inside.rows.rows _ c.self.inside.ready _ c.self.inside.next_due _ c.args.r.number Is_done false
-    c.give_up.ensures.within (ap (λ w. w.rows) c.give_up.ensures.table) (c.put.ensures ∙ ap (λ n. set c.self.inside.ready n false) c.number-p.ensures) refl c.self.invariant
-    (c.self.invariant.soonest ∙ sym (earliest-kept c.self.inside.rows.rows c.args.r.number Is_done (sym (ap due_of c.give_up.ensures.acted))))
+    finished-index c.self.inside.rows.rows c.give_up.new.self.rows c.args.r.number _ c.self.inside.index _ c.give_up.ensures.within c.give_up.ensures.acted
+    (ap (λ w. w.rows) c.give_up.ensures.table) c.self.invariant (c.put.ensures ∙ ap (λ n. set c.self.inside.index.ready n false) c.number-p.ensures) refl

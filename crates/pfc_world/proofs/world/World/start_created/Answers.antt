@@ -1,10 +1,7 @@
-use Rattle.std.proofs.Common.{sym, ap, ◌∙◌}
-use Rattle.pfc_world.specs.Settling.{earliest}
-use Rattle.pfc_world.proofs.Earliest.{earliest-started}
+use Rattle.std.proofs.Common.{ap}
+use Rattle.pfc_world.proofs.Indexes.{all-started-index}
 use Rattle.pfc_world.proofs.world.World.start_created.Goals as goal
 
 pub invariant_of-self : goal.invariant_of-self
-invariant_of-self c = record {
-  bits = c.show_ready.ensures;
-  soonest = c.self.invariant.soonest ∙ sym (ap (λ w. earliest w.rows) c.start_created.ensures ∙ earliest-started c.self.inside.rows.rows);
-}
+invariant_of-self c =
+    all-started-index c.self.inside.rows.rows c.start_created.new.self.rows c.self.inside.index c.show_ready.new.ready (ap (λ w. w.rows) c.start_created.ensures) c.show_ready.ensures c.self.invariant

@@ -1,14 +1,17 @@
-use Rattle.std.proofs.Common.{true, refl, sym, ap, ◌∙◌, subst}
-use Rattle.pfc_state.specs.Stands.{IsWaiting, Is_ready}
+use Rattle.std.proofs.Common.{sym, ap, subst}
+use Rattle.pfc_state.specs.Stands.{IsWaiting}
 use Rattle.pfc_world.specs.Tables.{at}
 use Rattle.pfc_world.proofs.Changes.{waits-within}
-use Rattle.pfc_world.proofs.Earliest.{earliest-kept}
-use Rattle.pfc_world.proofs.Indexes.{placed-index, none-of}
+use Rattle.pfc_world.proofs.Indexes.{is-listed, woken-index}
 use Rattle.pfc_world.proofs.world.World.wake.Goals as goal
 
-pub invariant_of-self-else-was_due : goal.invariant_of-self-else-was_due
-invariant_of-self-else-was_due c =
-    placed-index c.self.inside.rows.rows _ c.self.inside.ready _ c.self.inside.next_due _ c.args.p Is_ready true
-    (waits-within c.self.inside.rows.rows c.args.p (subst (λ w. IsWaiting (at w.rows c.args.p)) (sym c.self.view_is) c.requires))
-    (ap (λ w. w.rows) c.wake.ensures.table) c.put.ensures refl c.self.invariant
-    (c.self.invariant.soonest ∙ sym (earliest-kept c.self.inside.rows.rows c.args.p Is_ready (sym (none-of _ (sym c.is_due-was_due.ensures ∙ c.if-was_due.false)))))
+pub wake-requires-2 : goal.wake-requires-2
+wake-requires-2 c =
+    let waits : IsWaiting (at c.self.inside.rows.rows c.args.p) = subst (λ w. IsWaiting (at w.rows c.args.p)) (sym c.self.view_is) c.requires in
+    is-listed c.self.inside.rows.rows c.self.inside.index c.args.p c.may_end-ends.result (waits-within c.self.inside.rows.rows c.args.p waits) waits c.may_end-ends.ensures c.self.invariant
+
+pub invariant_of-self : goal.invariant_of-self
+invariant_of-self c =
+    let waits : IsWaiting (at c.self.inside.rows.rows c.args.p) = subst (λ w. IsWaiting (at w.rows c.args.p)) (sym c.self.view_is) c.requires in
+    woken-index c.self.inside.rows.rows c.wake.new.self.rows c.args.p c.may_end-ends.result c.self.inside.index c.wake-2.new.self (waits-within c.self.inside.rows.rows c.args.p waits) waits
+    c.may_end-ends.ensures (ap (λ w. w.rows) c.wake.ensures.table) c.self.invariant c.wake-2.ensures.wait c.wake-2.ensures.ready c.wake-2.ensures.unfinished

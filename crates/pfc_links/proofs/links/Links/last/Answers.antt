@@ -1,0 +1,12 @@
+use Rattle.std.proofs.Common.{◌+◌, ◌<◌, length, arith, refl, sym, ap, ◌∙◌}
+use Rattle.pfc_links.specs.Members.{latest}
+use Rattle.pfc_links.specs.Linked.{IsBackFrom}
+use Rattle.pfc_links.proofs.Looks.{before-read, last-of}
+use Rattle.pfc_links.proofs.links.Links.last.Goals as goal
+
+pub returns : goal.returns
+returns c =
+    let wide : c.end.result < length c.args.self.now.members + c.args.self.now.lists = omega (arith, c.requires, c.end.ensures) in
+    last-of c.self.inside.members.items c.self.inside.lists c.self.inside.next.items c.self.inside.previous.items c.args.self.now c.args.list c.process.result c.self.invariant c.self.view_is
+    (before-read c.self.inside.members.items c.self.inside.lists c.self.inside.next.items c.self.inside.previous.items c.args.self.now c.args.list c.end.result c.index.result.now c.process.result
+    c.self.invariant c.self.view_is wide c.index.ensures c.process.ensures latest c.requires (IsBackFrom.the_end c.end.ensures refl))

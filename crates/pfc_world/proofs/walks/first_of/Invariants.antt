@@ -1,7 +1,0 @@
-use Rattle.pfc_world.specs.Rows.{stands}
-use Rattle.pfc_world.specs.Sought.{key_of}
-use Rattle.pfc_world.proofs.BestSoFar.{IsSoonestBelow}
-use Rattle.pfc_world.proofs.walks.first_of.Given as goal
-
-abbrev pub invariant-loop-p : goal.invariant-loop-p
-invariant-loop-p l = IsSoonestBelow (key_of l.sought) (stands l.rows) l.p l.best

@@ -1,0 +1,172 @@
+#!/bin/bash
+# Prints how many instructions `races` takes for 2,000 events of 64 processes, in runs of several shapes: what it takes to make
+# the events is taken off. It works on a copy of the repository, to which it adds a small program; needs rt and valgrind.
+set -e
+top=$(cd "$(dirname "$0")/.." && pwd)
+copy=$(mktemp -d)
+trap 'rm -rf "$copy"' EXIT
+mkdir "$copy/crates"
+cp -r "$top/crates/pfc_base" "$top/crates/pfc_hb" "$copy/crates"
+cp "$top/HANDLES" "$copy"
+cd "$copy"
+git init -q .
+grep -E '^(pfc_base|pfc_hb):' "$top/crates.txt" > crates.txt
+echo "raced: pfc_base pfc_hb" >> crates.txt
+mkdir -p crates/raced/{src,specs,proofs/events_of}
+cd crates/raced
+touch specs/Lib.antt proofs/Lib.antt
+cat > src/main.rt <<'PROGRAM'
+#![tactic(auto)]
+ghost use Rattle.std.specs.Prelude.{◌<◌, ◌≤◌, length, IfOk};
+
+use pfc_base::Memory;
+use pfc_hb::{Access, Accesses, Event, Numbers, Path, Spot, Thing, Things, races};
+use std::alloc::Global;
+use std::env;
+use std::process::ExitCode;
+
+const EVENTS: u32 = 2000;
+
+/// What an event touches: a variable and a semaphore, each where it is below 1,000, and whom it wakes.
+#[derive(Clone, Copy)]
+struct Touched {
+    write: bool,
+    variable: u32,
+    thing: u32,
+    wakes: u32,
+}
+
+const NONE: u32 = 1000;
+
+/// What the event at a place touches in the run of a shape.
+fn share_of(shape: usize, at: u32) -> Touched
+    requires { at < 2000 }
+{
+    let process = at % 64;
+    let nothing = Touched {
+        write: true,
+        variable: NONE,
+        thing: NONE,
+        wakes: NONE,
+    };
+    match shape {
+        1 => Touched { variable: process, ..nothing },
+        2 => Touched { variable: 0, ..nothing },
+        3 => Touched { thing: process, ..nothing },
+        4 => Touched { thing: process, variable: process, ..nothing },
+        5 => Touched { thing: process, variable: 0, ..nothing },
+        6 => Touched { thing: 0, variable: process % 7, ..nothing },
+        7 => {
+            if at / 64 % 4 == 0 {
+                Touched { thing: process % 8, ..nothing }
+            } else {
+                Touched { variable: at * 37 % 41, write: at % 3 == 0, ..nothing }
+            }
+        }
+        8 => Touched { variable: process, wakes: (process + 1) % 64, ..nothing },
+        _ => {
+            if at % 5 == 0 {
+                Touched { thing: at * 7 % 16, ..nothing }
+            } else {
+                Touched { variable: at * 37 % 41, write: at % 3 == 0, ..nothing }
+            }
+        }
+    }
+}
+
+fn event_of(alloc: Global, shape: usize, at: u32) -> Result<Event, Memory>
+    requires { at < 2000 }
+{
+    let touched = share_of(shape, at);
+    let mut wakes = Vec::new(alloc);
+    let mut things = Vec::new(alloc);
+    let mut accesses = Vec::new(alloc);
+    if touched.wakes < NONE {
+        wakes.push(touched.wakes)?;
+    }
+    if touched.thing < NONE {
+        things.push(Thing::Semaphore(touched.thing))?;
+    }
+    if touched.variable < NONE {
+        let spot = Spot {
+            activation: 0,
+            variable: touched.variable,
+            path: Path::from_vec(Vec::new(alloc)),
+        };
+        accesses.push(Access { spot, write: touched.write })?;
+    }
+    Ok(Event {
+        process: at % 64,
+        line: 1,
+        joins: false,
+        wakes: Numbers::from_vec(wakes),
+        things: Things::from_vec(things),
+        accesses: Accesses::from_vec(accesses),
+    })
+}
+
+fn events_of(alloc: Global, shape: usize) -> Result<Vec<Event>, Memory>
+    ensures { IfOk result (λ events. length events.items ≤ 2000) }
+{
+    let mut events = Vec::new(alloc);
+    for at in 0..EVENTS {
+        events.push(event_of(alloc, shape, at)?)?;
+    }
+    Ok(events)
+}
+
+fn count(alloc: Global, shape: usize, all: bool) -> Result<usize, Memory> {
+    let events = events_of(alloc, shape)?;
+    if all {
+        let found = races(alloc, &events)?;
+        return Ok(found.len());
+    }
+    Ok(0)
+}
+
+/// One word for each shape counted from 1, and a word more to make the events alone, an even number of words
+fn main(rt: HostRuntime) -> ExitCode {
+    let Ok(args) = env::args(&rt) else {
+        return ExitCode::from(14);
+    };
+    let words: Vec<String> = match args.collect(rt.alloc()) {
+        Ok(words) => words,
+        Err(_) => return ExitCode::from(8),
+    };
+    match count(rt.alloc(), words.len() / 2, words.len() % 2 == 0) {
+        Ok(found) => ExitCode::from((found % 256) as u8),
+        Err(Memory) => ExitCode::from(8),
+    }
+}
+PROGRAM
+cat > proofs/events_of/Invariants.antt <<'PROOF'
+use Rattle.std.proofs.Common.{◌≡◌, length}
+use Rattle.raced.proofs.events_of.Given as goal
+
+abbrev pub invariant-loop-at : goal.invariant-loop-at
+invariant-loop-at l = length l.events.items ≡ l.at
+PROOF
+rt fmt > /dev/null
+rt run > build.log 2>&1 || { [ -x out/raced ] || { grep -v ': proved' build.log | tail -40; exit 1; }; }
+collected() {
+    valgrind --tool=callgrind --callgrind-out-file=counts ./out/raced "$@" > valgrind.log 2>&1 || true
+    awk '/Collected/ { print $4 }' valgrind.log
+}
+words=(a)
+while read -r shape; do
+    words+=(a)
+    made=$(collected "${words[@]}")
+    all=$(collected "${words[@]:1}")
+    echo "$shape: $((all - made)) instructions"
+    words+=(a)
+done <<'SHAPES'
+each process writes a variable of its own
+all write one variable
+each process waits at a semaphore of its own
+each process writes a variable of its own and waits at a semaphore of its own
+all write one variable and wait at semaphores of their own
+all wait at one semaphore and write one of seven variables
+turns at eight semaphores, between them three accesses of 41 variables
+each process writes its variable and wakes the next process
+random accesses of 41 variables, one event in five at 16 semaphores
+SHAPES

@@ -1,0 +1,4 @@
+pub mod ListAny
+pub mod BeforeLaws
+pub mod ClockLaws
+pub mod RaceLaws

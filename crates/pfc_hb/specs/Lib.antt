@@ -1,0 +1,4 @@
+pub mod Clocks
+pub mod Conflicts
+pub mod Lines
+pub mod Order

@@ -1,0 +1,22 @@
+//! The order of the events of one run, and the pairs of conflicting accesses that it leaves unordered.
+//!
+//! It promises that the pairs it names are exactly those that conflict and that nothing in the given run orders, and
+//! that their lines are the text that the definitions give. It knows nothing of programs: what an event of a run is,
+//! the floors above say, and other runs of the same program may have other pairs.
+#![tactic(auto)]
+
+mod accesses;
+mod clocks;
+mod comparing;
+mod events;
+mod lines;
+mod objects;
+mod order;
+mod pairs;
+mod slots;
+
+pub use accesses::{Access, Accesses, Path, Spot};
+pub use events::{Event, Race};
+pub use lines::race_lines;
+pub use objects::{Numbers, Thing, Things};
+pub use pairs::races;

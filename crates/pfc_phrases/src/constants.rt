@@ -39,7 +39,7 @@ pub fn is_char(text: &[u8]) -> bool
 }
 
 /// The char that a literal of length 1 is.
-fn char_value(text: &[u8]) -> Option<Ordinal>
+pub fn char_value(text: &[u8]) -> Option<Ordinal>
     ensures { option_map ordinal_view result ≡ constants.char_value text.now }
 {
     match text {
@@ -62,7 +62,7 @@ pub fn sign_fits(sign: Option<(Sign, Place)>, t: TypeId) -> bool
 }
 
 /// The value of a name behind a sign.
-fn named_constant(sign: Option<(Sign, Place)>, m: Option<Meaning>) -> Option<Ordinal>
+pub fn named_constant(sign: Option<(Sign, Place)>, m: Option<Meaning>) -> Option<Ordinal>
     ensures { option_map ordinal_view result ≡ constants.named_constant sign m }
 {
     match m {

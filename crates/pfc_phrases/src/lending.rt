@@ -11,7 +11,7 @@ use pfc_tree::{Actual, Expr, Selector};
 use pfc_types::{Found, Meaning};
 
 /// Whether there are no selectors.
-pub(crate) fn no_selector(ss: &[Selector]) -> bool
+pub fn no_selector(ss: &[Selector]) -> bool
     ensures { result ≡ expressions.no_selector (selectors_view ss.now) }
 {
     match ss {
@@ -21,7 +21,7 @@ pub(crate) fn no_selector(ss: &[Selector]) -> bool
 }
 
 /// Whether there are no arguments.
-pub(crate) fn no_actual(args: &[Actual]) -> bool
+pub fn no_actual(args: &[Actual]) -> bool
     ensures { result ≡ expressions.no_actual (actuals_view args.now) }
 {
     match args {

@@ -131,7 +131,7 @@ fn field_of(s: &Selector) -> Option<(&Name, Place)>
 
 /// The last selector, where it is a name behind `.`, with the selectors before it.
 #[tactic(auto, using(crate::proofs::Fields::fields))]
-fn split_field(ss: &[Selector]) -> Option<(&[Selector], (&Name, Place))>
+pub fn split_field(ss: &[Selector]) -> Option<(&[Selector], (&Name, Place))>
     ensures { MatchOption result (calls.last_field (selectors_view ss.now) ≡ None) (λ r. (calls.last_field (selectors_view ss.now) ≡ Some (r.1.0.now, r.1.1)) × (calls.before_last (selectors_view ss.now) ≡ selectors_view r.0.now)) }
 {
     let (last, before) = ss.split_last()?;
@@ -163,7 +163,7 @@ pub(crate) fn call_selected(
 
 /// The name behind `.`, where it is the only selector.
 #[tactic(auto, using(crate::proofs::Fields::fields))]
-pub(crate) fn only_field(ss: &[Selector]) -> Option<(&Name, Place)>
+pub fn only_field(ss: &[Selector]) -> Option<(&Name, Place)>
     ensures { option_map (λ r. (r.0.now, r.1)) result ≡ calls.only_field (selectors_view ss.now) }
 {
     let [only, rest @ ..] = ss else { return None };

@@ -17,7 +17,7 @@ use pfc_tree::{AddOp, MulOp, Sign};
 use pfc_types::{TypeForm, TypeId, TypeTable};
 
 /// `+` and `-` take integers, and `or` takes booleans.
-pub(crate) fn add_operand(op: AddOp) -> TypeId
+pub fn add_operand(op: AddOp) -> TypeId
     ensures { result ≡ expressions.add_operand op }
 {
     match op {
@@ -27,7 +27,7 @@ pub(crate) fn add_operand(op: AddOp) -> TypeId
 }
 
 /// `*`, `div` and `mod` take integers, and `and` takes booleans.
-pub(crate) fn mul_operand(op: MulOp) -> TypeId
+pub fn mul_operand(op: MulOp) -> TypeId
     ensures { result ≡ expressions.mul_operand op }
 {
     match op {
@@ -99,7 +99,7 @@ fn array_types(types: &TypeTable, t: TypeId) -> Option<(TypeId, TypeId)>
 }
 
 /// The type of an element, whose index has the type i.
-pub(crate) fn element(types: &TypeTable, t: Option<TypeId>, i: Option<TypeId>) -> Option<TypeId>
+pub fn element(types: &TypeTable, t: Option<TypeId>, i: Option<TypeId>) -> Option<TypeId>
     ensures { result ≡ expressions.element_type types.now t i }
 {
     let (index, element) = array_types(types, t?)?;
@@ -122,7 +122,7 @@ pub(crate) fn index_fault(
 }
 
 /// The type of a field of a record.
-pub(crate) fn field_type(types: &TypeTable, t: Option<TypeId>, name: &Name) -> Option<TypeId>
+pub fn field_type(types: &TypeTable, t: Option<TypeId>, name: &Name) -> Option<TypeId>
     ensures { result ≡ expressions.field_type types.now t name.now }
 {
     match types.form(t?)? {

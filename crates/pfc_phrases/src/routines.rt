@@ -208,7 +208,7 @@ fn suits(t: Option<TypeId>, u: Option<TypeId>) -> bool
 
 /// No rule is broken between an argument and what is wanted, and neither is faulty; `lent` says that the argument is a
 /// variable.
-pub(crate) fn fits_want(types: &TypeTable, want: Want, lent: bool, u: Option<TypeId>) -> bool
+pub fn fits_want(types: &TypeTable, want: Want, lent: bool, u: Option<TypeId>) -> bool
     ensures { result ≡ routines.fits_want types.now (want_view want) lent u }
 {
     match want {
@@ -247,7 +247,7 @@ pub(crate) fn want_rules(
 }
 
 /// Whether a predeclared name may be called where it is; `first` is the type of its first argument.
-pub(crate) fn site_fits(around: Around, site: Site, first: Option<TypeId>) -> bool
+pub fn site_fits(around: Around, site: Site, first: Option<TypeId>) -> bool
     ensures { result ≡ routines.site_fits around (site_view site) first }
 {
     match site {
@@ -334,7 +334,7 @@ fn called_routine<'a>(routine: Routine<'a>) -> Callee<'a>
 }
 
 /// The type of a sub's value.
-pub(crate) fn sort_value(sort: SubSort) -> Option<TypeId>
+pub fn sort_value(sort: SubSort) -> Option<TypeId>
     ensures { result ≡ routines.sort_value sort }
 {
     match sort {

@@ -89,7 +89,7 @@ pub(crate) fn use_rules(
 }
 
 /// What a name that is a factor calls: nothing, where it has selectors.
-pub(crate) fn callee_of<'a>(found: Option<Found>, alone: bool, env: Env<'a>) -> Callee<'a>
+pub fn callee_of<'a>(found: Option<Found>, alone: bool, env: Env<'a>) -> Callee<'a>
     ensures { callee_view result ≡ (if alone then routines.called_function env.entry.scopes.now (scopes.meaning_of found) else routines.nothing_called) }
 {
     if alone {
@@ -121,7 +121,7 @@ fn plain_use(
 }
 
 /// The type of a name without selectors that is a factor, None where the guard around does not allow it.
-pub(crate) fn use_type(
+pub fn use_type(
     found: Option<Found>,
     bare: bool,
     part: Option<TypeId>,
@@ -141,12 +141,7 @@ pub(crate) fn use_type(
 
 /// The type of a name with selectors that is a factor: the type that they make of a variable, where there are no arguments
 /// and the guard around allows it.
-pub(crate) fn part_type(
-    found: Option<Found>,
-    bare: bool,
-    part: Option<TypeId>,
-    env: Env,
-) -> Option<TypeId>
+pub fn part_type(found: Option<Found>, bare: bool, part: Option<TypeId>, env: Env) -> Option<TypeId>
     ensures { (fit : Bool) (first : Option TypeId) → result ≡ expressions.use_type (env_view env.entry) found false bare part fit first }
 {
     let name = found?;

@@ -1,0 +1,12 @@
+pub mod Bodies
+pub mod Calls
+pub mod Codes
+pub mod Declarations
+pub mod Expressions
+pub mod Noted
+pub mod Parts
+pub mod Small
+pub mod Statements
+pub mod Types
+pub mod Whole
+pub mod Worded

@@ -11,9 +11,10 @@ ghost use Rattle.pfc_phrases.specs.Found.{noted};
 ghost use Rattle.pfc_phrases.specs.Views.{env_view};
 ghost use Rattle.pfc_rules.specs.Homes.{finished_in, levels_around};
 
+use crate::around::{NOWHERE, PROCESS, around_guard, around_sub};
 use crate::heads::condition;
-use crate::passing::{passed, passed_entries, passed_groups, passed_part};
-use crate::statements::{body, names_in};
+use crate::passing::{names_in, passed, passed_entries, passed_groups, passed_part};
+use crate::statements::body;
 use pfc_phrases::{Best, Env};
 use pfc_tree::{Body, Module, Part, Process, Sub, SubKind};
 use pfc_types::{Around, Scopes, TypeTable, View};
@@ -29,54 +30,6 @@ pub(crate) struct Home<'a> {
     pub scope: u32,
     /// What is in view around it; None for the program's own block.
     pub outer: Option<&'a View<'a>>,
-}
-
-/// In no body.
-const NOWHERE: Around = Around {
-    main: false,
-    cobegin: false,
-    process: false,
-    sub: false,
-    guarded: false,
-    guard: None,
-};
-
-/// In the main body.
-pub(crate) const MAIN: Around = Around {
-    main: true,
-    ..NOWHERE
-};
-
-/// In the body of a process, outside its subs.
-const PROCESS: Around = Around {
-    process: true,
-    ..NOWHERE
-};
-
-/// In the body of a sub, which stands in a process or not.
-fn around_sub(process: bool, kind: &SubKind) -> Around
-    ensures { result ≡ rules.around_sub process (kind_view kind.now) }
-{
-    let guarded = match kind {
-        SubKind::Procedure | SubKind::Function(_, _) => false,
-        SubKind::Guarded(_, _) => true,
-    };
-    Around {
-        process,
-        sub: true,
-        guarded,
-        ..NOWHERE
-    }
-}
-
-/// In the guard of a procedure of the resource with this scope.
-fn around_guard(scope: u32) -> Around
-    ensures { result ≡ rules.around_guard scope }
-{
-    Around {
-        guard: Some(scope),
-        ..NOWHERE
-    }
 }
 
 /// The first names of a block, and what is in view around it.

@@ -5,7 +5,8 @@ ghost use Rattle.pfc_types.specs.Faults.{all_of, least_from};
 ghost use Rattle.pfc_types.specs.rules.Whole.{types_of, scopes_of, faults_of, first_concurrency_fault};
 ghost use Rattle.pfc_phrases.specs.Found.{noted};
 
-use crate::bodies::{Home, MAIN, block_body, parts};
+use crate::around::MAIN;
+use crate::bodies::{Home, block_body, parts};
 use pfc_base::Refusal;
 use pfc_phrases::Best;
 use pfc_tree::Tree;

@@ -1,5 +1,5 @@
 //! Counting the names of a scope that were declared before a place of the text.
-ghost use Rattle.std.specs.Prelude.{◌≡◌, map};
+ghost use Rattle.std.specs.Prelude.{◌≡◌, map, length};
 ghost use Rattle.pfc_tree.specs.views.Types.{type_item_view, vars_view, group_view};
 ghost use Rattle.pfc_tree.specs.views.Parts.{entry_view, part_view};
 ghost use Rattle.pfc_types.specs.Scopes.{scope_at};
@@ -9,9 +9,19 @@ use pfc_base::{Name, Place};
 use pfc_tree::{ConstItem, Entry, Group, Part, TypeItem, VarItem};
 use pfc_types::Scopes;
 
+/// How many names a scope holds, 0 where there is no such scope.
+pub fn names_in(scopes: &Scopes, scope: u32) -> u32
+    ensures { result ≡ length (scope_at scopes.now.scopes scope) }
+{
+    if scopes.len() <= scope {
+        return 0;
+    }
+    scopes.at(scope).len()
+}
+
 /// One name more, unless it is repeated: then the first declaration was counted.
 #[tactic(auto, using(crate::proofs::Counts::passed_all))]
-pub(crate) fn passed(x: &Name, scopes: &Scopes, scope: u32, count: u32) -> u32
+pub fn passed(x: &Name, scopes: &Scopes, scope: u32, count: u32) -> u32
     ensures { result ≡ rules.passed (scope_at scopes.now.scopes scope) count x.now }
 {
     if scopes.len() <= scope {
@@ -69,7 +79,7 @@ fn passed_vars(items: &[VarItem], scopes: &Scopes, scope: u32, count: u32) -> u3
 }
 
 /// The parameters of a heading.
-pub(crate) fn passed_groups(groups: &[Group], scopes: &Scopes, scope: u32, count: u32) -> u32
+pub fn passed_groups(groups: &[Group], scopes: &Scopes, scope: u32, count: u32) -> u32
     ensures { result ≡ rules.passed_groups (scope_at scopes.now.scopes scope) count (map group_view groups.now) }
 {
     let mut n = count;
@@ -80,7 +90,7 @@ pub(crate) fn passed_groups(groups: &[Group], scopes: &Scopes, scope: u32, count
 }
 
 /// The entries of a process.
-pub(crate) fn passed_entries(entries: &[Entry], scopes: &Scopes, scope: u32, count: u32) -> u32
+pub fn passed_entries(entries: &[Entry], scopes: &Scopes, scope: u32, count: u32) -> u32
     ensures { result ≡ rules.passed_entries (scope_at scopes.now.scopes scope) count (map entry_view entries.now) }
 {
     let mut n = count;
@@ -91,7 +101,7 @@ pub(crate) fn passed_entries(entries: &[Entry], scopes: &Scopes, scope: u32, cou
 }
 
 /// The names that a part declares in the block in which it stands.
-pub(crate) fn passed_part(p: &Part, scopes: &Scopes, scope: u32, count: u32) -> u32
+pub fn passed_part(p: &Part, scopes: &Scopes, scope: u32, count: u32) -> u32
     ensures { result ≡ rules.passed_part (scope_at scopes.now.scopes scope) count (part_view p.now) }
 {
     match p {

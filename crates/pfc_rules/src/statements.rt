@@ -1,8 +1,7 @@
 //! The walk over statements: their broken rules are found in the order of their parts, and the accepts are counted, each
 //! of which has a scope of its own.
-ghost use Rattle.std.specs.Prelude.{◌≡◌, ◌+◌, ◌<◌, ◌^◌, length};
+ghost use Rattle.std.specs.Prelude.{◌≡◌, ◌+◌, ◌<◌, ◌^◌};
 ghost use Rattle.pfc_tree.specs.views.Stmts.{stmt_view, stmts_view, body_view, arms_view, accept_view, alts_view, alt_view, comm_view};
-ghost use Rattle.pfc_types.specs.Scopes.{scope_at};
 ghost use Rattle.pfc_types.specs.Views.{levels};
 ghost use Rattle.pfc_types.specs.rules.Statements as rules;
 ghost use Rattle.pfc_phrases.specs.Found.{noted};
@@ -11,22 +10,13 @@ ghost use Rattle.pfc_phrases.specs.Views.{env_view};
 use crate::assignments::assign;
 use crate::communication::{receive, send};
 use crate::heads::{accept_head, condition, for_head, labels, requeued, seconds};
+use crate::passing::names_in;
 use crate::selects::select_head;
 use crate::spreads::spread_head;
 use pfc_base::Place;
 use pfc_phrases::{Best, Env, call, expr};
 use pfc_tree::{Accept, Alt, Body, CaseArm, Comm, Stmt};
-use pfc_types::{Around, Scopes, TypeId, View};
-
-/// How many names a scope holds, 0 where there is no such scope.
-pub(crate) fn names_in(scopes: &Scopes, scope: u32) -> u32
-    ensures { result ≡ length (scope_at scopes.now.scopes scope) }
-{
-    if scopes.len() <= scope {
-        return 0;
-    }
-    scopes.at(scope).len()
-}
+use pfc_types::{Around, TypeId, View};
 
 /// Between `cobegin` and `coend`.
 fn within_cobegin(env: Env) -> Env

@@ -1,0 +1,11 @@
+-- The names still to come complete the row.
+use Rattle.std.proofs.Common.{◌≡◌, ◌++◌, ◌==◌, drop, position}
+use Rattle.pfc_types.specs.Scopes.{scope_at}
+use Rattle.pfc_semantics.specs.Layouts.{sub_with, before_scope}
+use Rattle.pfc_program.specs.Places.{block_places}
+use Rattle.pfc_program.proofs.places.block_row.Given as goal
+
+abbrev pub invariant-loop-k : goal.invariant-loop-k
+invariant-loop-k l =
+    l.row.items ++ block_places (sub_with l.scopes.subs l.i) l.n l.k (drop l.k (scope_at l.scopes.scopes l.i))
+    ≡ block_places (sub_with l.scopes.subs l.i) (before_scope l.scopes (position (λ m. m.scope == l.i) l.scopes.modules)) 0 (scope_at l.scopes.scopes l.i)

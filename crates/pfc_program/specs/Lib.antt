@@ -1,0 +1,5 @@
+pub mod Held
+pub mod InView
+pub mod Laid
+pub mod Places
+pub mod Views

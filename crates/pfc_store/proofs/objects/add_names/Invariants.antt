@@ -1,0 +1,11 @@
+-- The variables so far, and behind them those of the names that are left.
+use Rattle.std.proofs.Common.{◌≡◌, drop}
+use Rattle.pfc_semantics.specs.Objects.{all_numberings, numbered_names}
+use Rattle.pfc_store.specs.Views.{values_view}
+use Rattle.pfc_store.specs.Numbered.{objects_view, behind}
+use Rattle.pfc_store.proofs.objects.add_names.Given as goal
+
+abbrev pub invariant-loop-k : goal.invariant-loop-k
+invariant-loop-k l =
+    behind (values_view l.values.items) (numbered_names (all_numberings l.types) (drop l.k l.names) l.monitor (objects_view l.objects))
+    ≡ behind (values_view l.fn.values.items) (numbered_names (all_numberings l.types) l.names l.monitor (objects_view l.fn.objects))

@@ -1,0 +1,5 @@
+pub mod Bounds
+pub mod Frames
+pub mod Latest
+pub mod Numbered
+pub mod Views

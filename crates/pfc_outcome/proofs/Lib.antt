@@ -1,3 +1,5 @@
 pub mod Command
+pub mod Given
 pub mod Made
 pub mod Numbers
+pub mod One

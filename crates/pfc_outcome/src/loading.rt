@@ -1,9 +1,15 @@
 //! The files of a run: its text, its input and its script.
-ghost use Rattle.std.specs.Prelude.{◌≡◌, ◌≤◌, ◌⊎◌, length, IfOk, IsErrOf, IsSome, Some, None, option_copied};
+ghost use Rattle.std.specs.Prelude.{◌≡◌, ◌≤◌, ◌⊎◌, List, length, IfOk, IsErrOf, IsSome, Some, None, option_copied};
 ghost use Rattle.pfc_io.specs.Counts.{Rose};
 ghost use Rattle.pfc_io.specs.declared.shelf.LoadFault.TheVariants.{Memory as NoMemory};
+ghost use Rattle.pfc_io.specs.Files.{File};
+ghost use Rattle.pfc_outcome.specs.Asked.{asked_of, plain_source};
+ghost use Rattle.pfc_outcome.specs.Loaded.{AreLoaded};
 ghost use Rattle.pfc_outcome.specs.Loading.{IsGiven, Lacks, LacksOne, long, missing, names_of, stream_limit, text_limit};
+ghost use Rattle.pfc_outcome.specs.Outcomes.{file_of as name_of, names_by};
 
+use crate::making::make_text;
+use crate::options::{Options, Source};
 use pfc_base::Text;
 use pfc_io::{LoadFault, Shelf};
 use std::alloc::Global;
@@ -23,6 +29,59 @@ pub struct Loaded {
     pub input: Text,
     /// The script, at most 1,048,576 bytes.
     pub script: Text,
+}
+
+/// Loads what the options ask for: the text, the input and the script, in this order. A made text is not loaded, but made.
+///
+/// # Errors
+///
+/// Those of `load_files`.
+pub fn load_asked<F: Shelf>(
+    alloc: Global,
+    options: &Options<'_>,
+    shelf: &mut F,
+) -> Result<Loaded, LoadFault>
+    ensures within { IfOk result (λ loaded. length loaded.text ≤ text_limit) }
+    ensures given { (files : List File) → F.told shelf.old ≡ Some files → IfOk result (λ loaded. AreLoaded files (asked_of options.now) loaded) }
+    ensures kept { F.told shelf.new ≡ F.told shelf.old }
+
+    ensures failed { IsErrOf result LoadFault.Failed → Rose (F.faults shelf.old) (F.faults shelf.new) }
+    ensures missing { Lacks (F.told shelf.old) (names_by (asked_of options.now)) missing → IsErrOf result LoadFault.Failed ⊎ IsErrOf result NoMemory }
+    ensures found { F.is_steady shelf.old → IsErrOf result LoadFault.Failed → Lacks (F.told shelf.old) (names_by (asked_of options.now)) missing }
+
+    ensures too_long { IsErrOf result LoadFault.TooLong → Rose (F.longs shelf.old) (F.longs shelf.new) }
+    ensures long { IsErrOf result LoadFault.TooLong → IsSome (F.told shelf.old) → Lacks (F.told shelf.old) (names_by (asked_of options.now)) long }
+    ensures not_long { Lacks (F.told shelf.old) (names_by (asked_of options.now)) long
+        → IsErrOf result LoadFault.TooLong ⊎ IsErrOf result LoadFault.Failed ⊎ IsErrOf result NoMemory }
+{
+    let loaded = load_files(
+        alloc,
+        file_of(options),
+        options.input,
+        options.script,
+        shelf,
+    )?;
+    match options.source {
+        Source::File(_) => Ok(loaded),
+        Source::Made(size) => match make_text(alloc, size) {
+            Ok(text) => Ok(Loaded {
+                text: Text::from_vec(text),
+                input: loaded.input,
+                script: loaded.script,
+            }),
+            Err(_memory) => Err(LoadFault::Memory),
+        },
+    }
+}
+
+/// The name of the file of the text.
+fn file_of<'a>(options: &Options<'a>) -> Option<&'a str>
+    ensures { option_copied result ≡ name_of (plain_source options.now.source) }
+{
+    match options.source {
+        Source::File(name) => Some(name),
+        Source::Made(_) => None,
+    }
 }
 
 /// Loads the text, the input and the script, in this order; the first load that is refused decides.
@@ -55,9 +114,9 @@ pub fn load_files<F: Shelf>(
     ensures not_long { Lacks (F.told shelf.old) (names_of (option_copied file.entry) (option_copied input.entry) (option_copied script.entry)) long
         → IsErrOf result LoadFault.TooLong ⊎ IsErrOf result LoadFault.Failed ⊎ IsErrOf result NoMemory }
 {
-    let text = load_asked(alloc, file, TEXT_LIMIT, shelf)?;
-    let input = load_asked(alloc, input, STREAM_LIMIT, shelf)?;
-    let script = load_asked(alloc, script, STREAM_LIMIT, shelf)?;
+    let text = load_one(alloc, file, TEXT_LIMIT, shelf)?;
+    let input = load_one(alloc, input, STREAM_LIMIT, shelf)?;
+    let script = load_one(alloc, script, STREAM_LIMIT, shelf)?;
     Ok(Loaded {
         text,
         input,
@@ -66,7 +125,7 @@ pub fn load_files<F: Shelf>(
 }
 
 /// The bytes of the file of this name, at most `most` of them; none where there is no name.
-fn load_asked<F: Shelf>(
+fn load_one<F: Shelf>(
     alloc: Global,
     name: Option<&str>,
     most: usize,

@@ -1,4 +1,4 @@
-use Rattle.std.proofs.Common.{◌≤◌, rules}
+use Rattle.std.proofs.Common.{rules}
 use Rattle.pfc_outcome.proofs.Numbers.{unread, within}
 use Rattle.pfc_outcome.proofs.options.number_of.Goals as goal
 

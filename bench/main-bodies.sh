@@ -1,8 +1,9 @@
 #!/bin/bash
 # Measures programs that are their main body alone: how long `pfc` takes to start, against python3 and an empty C program;
-# instructions for each action of a loop and of a loop over an array, and their times against the same loops in python3; and
-# instructions for each byte of 200 KB of main body that is compiled and not run. Instructions are counted by valgrind, less
-# those of an empty program; times are the least of five. It needs rt, valgrind, python3 and cc.
+# instructions for each action of a loop and of a loop over an array, and the times of 3,000,000 turns of them, with a limit of
+# 100,000,000 actions, against the same loops in python3; and instructions for each byte of 200 KB of main body that is compiled
+# and not run. Instructions are counted by valgrind, less those of an empty program; times are the least of five. It needs rt,
+# valgrind, python3 and cc.
 set -e
 here="$(cd "$(dirname "$0")" && pwd)"
 program="$here/../out/pfc"
@@ -42,34 +43,47 @@ py="$(least 20 python3 empty.py)"
 none="$(instructions "$program" empty.pas)"
 echo "start-up: $none instructions, $own ms; $(ratio "$c" "$own") times an empty C program; python3 takes $(ratio "$own" "$py") times as long"
 
-# a loop in both languages: its name, its actions, its text, and the same in python3
+# A loop in both languages: its name, its actions for each turn, its text, and the same in python3, with TURNS for the number of
+# its turns. Instructions are counted over 100,000 turns, and 3,000,000 are timed.
 loop() {
-    echo "$3" > "$1.pas"
-    echo "$4" > "$1.py"
-    local all own py
+    local counted=100000 turns=3000000 all own py
+    echo "${3//TURNS/$counted}" > "$1.pas"
     all="$(instructions "$program" "$1.pas")"
-    own="$(least 1 "$program" "$1.pas")"
+    echo "${3//TURNS/$turns}" > "$1.pas"
+    echo "${4//TURNS/$turns}" > "$1.py"
+    own="$(least 1 "$program" "$1.pas" --limit 100000000)"
     py="$(least 1 python3 "$1.py")"
-    echo "$1: $(((all - none) / $2)) instructions an action, $own ms; python3 takes $(ratio "$own" "$py") times as long; $("$program" "$1.pas" | tr '\n' ' ')"
+    echo "$1: $(((all - none) / ($2 * counted))) instructions an action; $turns turns in $own ms, $(ratio "$py" "$own") times as long as python3; $("$program" "$1.pas" --limit 100000000 | tr '\n' ' ')"
 }
 
-# four actions a pass: the write of i, the read and the write of s, the turn
-loop sum 600000 'program s; var i, s: integer; begin for i := 1 to 150000 do s := s + 1; writeln(s) end.' \
+# four actions a turn: the write of i, the read and the write of s, the turn
+loop sum 4 'program s; var i, s: integer; begin for i := 1 to TURNS do s := s + 1; writeln(s) end.' \
 'def main():
     s = 0
-    for i in range(1, 150001):
+    for i in range(1, TURNS + 1):
         s = s + 1
     print(s)
 main()'
 
-# seven actions a pass: the write of i, the reads of i, i, t[..] and i, the write of t[..], the turn
-loop array 840000 'program t; var i: integer; t: array[0..99] of integer;
-begin for i := 1 to 120000 do t[i mod 100] := t[(i + 1) mod 100] div 2 + i; writeln(t[7]) end.' \
+# seven actions a turn: the write of i, the reads of i, i, t[..] and i, the write of t[..], the turn
+loop array 7 'program t; var i: integer; t: array[0..99] of integer;
+begin for i := 1 to TURNS do t[i mod 100] := t[(i + 1) mod 100] div 2 + i; writeln(t[7]) end.' \
 'def main():
     t = [0] * 100
-    for i in range(1, 120001):
+    for i in range(1, TURNS + 1):
         t[i % 100] = t[(i + 1) % 100] // 2 + i
     print(t[7])
+main()'
+
+# eight actions a turn: two reads for the test, the reads and the write of s, the read and the write of i, the turn
+loop while 8 'program w; var i, n, s: integer; begin n := TURNS; while i < n do begin s := (s + i) mod 1000; i := i + 1 end; writeln(s) end.' \
+'def main():
+    i = s = 0
+    n = TURNS
+    while i < n:
+        s = (s + i) % 1000
+        i = i + 1
+    print(s)
 main()'
 
 # 200 KB of statements that are never reached

@@ -24,5 +24,5 @@ fn main(rt: HostRuntime) -> ExitCode {
     };
     let mut shelf = DiskShelf::new(&rt);
     let mut sink = StdSink::new(&rt);
-    ExitCode::from(pfc(rt.alloc(), &words, &mut shelf, &mut sink))
+    ExitCode::from(pfc(rt.alloc(), &words, &mut shelf, &mut sink).status)
 }

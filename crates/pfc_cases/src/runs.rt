@@ -2,7 +2,7 @@
 ghost use Rattle.std.specs.Prelude.{◌<◌};
 
 use crate::stop::Stop;
-use crate::texts::text_of;
+use crate::texts::files_of;
 use pfc_base::decimal;
 use pfc_io::{MemoryShelf, MemorySink, Shelf, Sink, write_all};
 use pfc_top::pfc;
@@ -77,7 +77,7 @@ fn run_each<O: Sink>(
         return Err(Stop);
     };
     for (at, line) in texts.lines().enumerate() {
-        let (status, bytes) = run(alloc, text_of(alloc, line)?, way)?;
+        let (status, bytes) = run(alloc, files_of(alloc, line)?, way)?;
         let mut written = Vec::from_slice(alloc, file.as_bytes())?;
         for number in [at as i64 + 1, i64::from(status)] {
             written.push(b' ')?;
@@ -91,15 +91,13 @@ fn run_each<O: Sink>(
     Ok(())
 }
 
-/// The status and the bytes of a run of the text.
-fn run(alloc: Global, text: Vec<u8>, way: &Way) -> Result<(u8, Vec<u8>), Stop> {
-    let mut files = Vec::new(alloc);
-    files.push((String::from_str(alloc, "a.pas")?, text))?;
+/// The status and the bytes of a run over these files.
+fn run(alloc: Global, files: Vec<(String, Vec<u8>)>, way: &Way) -> Result<(u8, Vec<u8>), Stop> {
     let mut shelf = MemoryShelf::new(files, Vec::from_slice(alloc, &[way.load])?);
     let fails = Vec::from_slice(alloc, &[way.write])?;
     let mut sink = MemorySink::new(alloc, MOST, way.most, fails)?;
-    let status = pfc(alloc, &way.words, &mut shelf, &mut sink);
-    Ok((status, sink.written))
+    let answer = pfc(alloc, &way.words, &mut shelf, &mut sink);
+    Ok((answer.status, sink.written))
 }
 
 /// Adds bytes with `\n` for each line end; where there are more than 4,000, their number and the last 100.

@@ -4,10 +4,23 @@ use crate::stop::Stop;
 use pfc_base::decimal;
 use std::alloc::Global;
 
+/// The files that a line describes: the text `a.pas`, and behind each tab a further file, whose name ends before the first `=`.
+pub(crate) fn files_of(alloc: Global, line: &str) -> Result<Vec<(String, Vec<u8>)>, Stop> {
+    let mut files = Vec::new(alloc);
+    for (at, part) in line.split('\t').enumerate() {
+        let (name, text) = match part.split_once('=') {
+            Some(named) if at > 0 => named,
+            _ => ("a.pas", part),
+        };
+        files.push((String::from_str(alloc, name)?, text_of(alloc, text)?))?;
+    }
+    Ok(files)
+}
+
 /// The text of a line: its bytes, with `\n` for a line end and `\` before two hexadecimal digits for any other byte.
 /// Behind the word `made` stand pieces between bars. A piece with a number and `*` before it is repeated, and in it `#` is
 /// the number of the repetition, from 0.
-pub(crate) fn text_of(alloc: Global, line: &str) -> Result<Vec<u8>, Stop> {
+fn text_of(alloc: Global, line: &str) -> Result<Vec<u8>, Stop> {
     let mut text = Vec::new(alloc);
     match line.strip_prefix("made ") {
         Some(pieces) => {

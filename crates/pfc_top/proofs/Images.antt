@@ -8,16 +8,16 @@ use Rattle.pfc_code.specs.declared.images.Image.{Image}
 use Rattle.pfc_scan.specs.Cutting.{IsCut, tokens}
 use Rattle.pfc_tree.specs.Symbols.{symbols}
 use Rattle.pfc_tree.specs.Grammar.{IsSmall, IsSyntaxFault}
-use Rattle.pfc_report.specs.Refusals.{refusal_line_text}
 use Rattle.pfc_tree.specs.trees.Parts.{ProgramTree}
 use Rattle.pfc_tree.specs.forget.Parts.{forget_program}
 use Rattle.pfc_grammar.specs.Outcomes.{IsTreeOf}
 use Rattle.pfc_types.specs.rules.Whole.{first_fault}
 use Rattle.pfc_meaning.specs.Unbuilt.{unbuilt}
 use Rattle.pfc_gen.specs.Images.{image_of}
-use Rattle.pfc_top.specs.Answers.{IsLevel, IsAnswerTo, IsAnswerToTokens, IsAnswerToTree, static_fault, syntax_fault, no_fault, syntax_refusal, not_built_line}
+use Rattle.pfc_outcome.specs.Outcomes.{Outcome, IsLevel, IsOutcomeOfTokens, IsOutcomeOfTree, IsUnlisted, not_built_yet, no_fault, refused, static_fault, syntax_fault, syntax_refusal}
+use Rattle.pfc_outcome.specs.Requests.{Request}
 use Rattle.pfc_top.specs.Compiling.{IsImage, AreCompiled, IsCompiled, RefusedFor, IsUncompiled, AreUncompiled, IsWithout}
-use Rattle.pfc_top.specs.Settings.{Settings}
+use Rattle.pfc_top.specs.Meanings.{source_meaning}
 use Rattle.pfc_top.specs.declared.compiling.Uncompiled.{Uncompiled}
 use Rattle.pfc_top.specs.declared.compiling.Uncompiled.TheVariants.{Refused, NotBuilt, Memory}
 
@@ -43,38 +43,38 @@ text_image text ts us end (Err why) cut same is = tt
 
 -- ## Refusals
 
--- who answers so also answers so
-lifted : (P Q : Settings → ℕ → List ℕ → Type 0) → ((settings : Settings) (status : ℕ) (bytes : List ℕ) → P settings status bytes → Q settings status bytes) → (why : Uncompiled)
-    → RefusedFor P why → RefusedFor Q why
-lifted P Q up (Refused r) h = λ settings. up settings 1 _ (h settings)
-lifted P Q up NotBuilt h = λ settings. up settings 1 _ (h settings)
+-- what these are outcomes of those also are
+lifted : (P Q : Request → Outcome → Type 0) → ((request : Request) (outcome : Outcome) → P request outcome → Q request outcome) → (why : Uncompiled) → RefusedFor P why → RefusedFor Q why
+lifted P Q up (Refused r) h = λ request. up request (refused r) (h request)
+lifted P Q up NotBuilt h = λ request. up request not_built_yet (h request)
 lifted P Q up Memory h = tt
 
 pub tokens_refusal : (ts : List Token) (end : Place) (tree : ProgramTree) (r : Result Image Uncompiled) → IsTreeOf ts tree → IsLevel tree → IfErr r (λ why. IsWithout tree why)
     → IfErr r (λ why. AreUncompiled ts end why)
 tokens_refusal ts end tree (Ok image) written level h = tt
 tokens_refusal ts end tree (Err why) written level h =
-    lifted (IsAnswerToTree tree) (IsAnswerToTokens ts end) (λ settings status bytes answer. no_fault tree written level answer) why h
+    lifted (IsOutcomeOfTree source_meaning tree) (IsOutcomeOfTokens source_meaning ts end) (λ request outcome is. no_fault tree written level is) why h
 
 pub text_refusal : (text : List ℕ) (ts us : List Token) (end : Place) (r : Result Image Uncompiled) → IsCut text (tokens ts end) → us ≡ ts → IfErr r (λ why. AreUncompiled us end why)
     → IfErr r (λ why. IsUncompiled text why)
 text_refusal text ts us end (Ok image) cut same h = tt
 text_refusal text ts us end (Err why) cut same h =
-    lifted (IsAnswerToTokens us end) (IsAnswerTo text)
-    (λ settings status bytes answer. record { cutting = tokens ts end; cut = cut; answer = subst (λ (x : List Token). IsAnswerToTokens x end settings status bytes) same answer }) why h
+    lifted (IsOutcomeOfTokens source_meaning us end) (IsUnlisted source_meaning text)
+    (λ request outcome is. record { cutting = tokens ts end; cut = cut; is = subst (λ (x : List Token). IsOutcomeOfTokens source_meaning x end request outcome) same is }) why h
 
 -- the first broken rule refuses a tree
 pub static_refusal : (tree : ProgramTree) (r : Refusal) → first_fault tree ≡ Some r → IsWithout tree (Refused r)
-static_refusal tree r broken = λ settings. static_fault r broken (record { status_one = refl; line = refl })
+static_refusal tree r broken = λ request. static_fault r broken refl
 
 -- a syntax fault refuses tokens
 pub syntax_refused : (ts : List Token) (end : Place) (code i : ℕ) (why : Uncompiled) → why ≡ Refused (syntax_refusal ts end code i) → IsSyntaxFault (symbols ts) code i → AreUncompiled ts end why
 syntax_refused ts end code i why same fault =
-    subst (λ (w : Uncompiled). AreUncompiled ts end w) (sym same) (λ settings. syntax_fault code i fault (record { status_one = refl; line = refl }))
+    subst (λ (w : Uncompiled). AreUncompiled ts end w) (sym same) (λ request. syntax_fault code i fault refl)
 
--- what an image's want means, by its cause
-pub refused_for : (P : Settings → ℕ → List ℕ → Type 0) (why : Uncompiled) (r : Refusal) → why ≡ Refused r → RefusedFor P why → (settings : Settings) → P settings 1 (refusal_line_text r)
-refused_for P why r same h = subst (λ (w : Uncompiled). RefusedFor P w) same h
+-- ## What a refusal says
 
-pub not_built_for : (P : Settings → ℕ → List ℕ → Type 0) (why : Uncompiled) → why ≡ NotBuilt → RefusedFor P why → (settings : Settings) → P settings 1 not_built_line
-not_built_for P why same h = subst (λ (w : Uncompiled). RefusedFor P w) same h
+pub refused_for : (is : Request → Outcome → Type 0) (why : Uncompiled) (r : Refusal) → why ≡ Refused r → RefusedFor is why → (request : Request) → is request (refused r)
+refused_for is why r same h = subst (λ (w : Uncompiled). RefusedFor is w) same h
+
+pub not_built_for : (is : Request → Outcome → Type 0) (why : Uncompiled) → why ≡ NotBuilt → RefusedFor is why → (request : Request) → is request not_built_yet
+not_built_for is why same h = subst (λ (w : Uncompiled). RefusedFor is w) same h

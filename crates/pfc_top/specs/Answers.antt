@@ -1,77 +1,78 @@
--- The answer to a text: the status and the bytes that are written.
-use Rattle.std.specs.Prelude.{◌≡◌, ℕ, ◌<◌, ◌≤◌, true, false, List, All, length, map, get_or, codes, Some, None}
-use Rattle.pfc_base.specs.declared.places.Place.{Place}
-use Rattle.pfc_base.specs.declared.faults.Refusal.{Refusal}
-use Rattle.pfc_base.specs.declared.tokens.Token.{Token}
-use Rattle.pfc_scan.specs.Cutting.{Cutting, tokens, refusal, IsCut}
-use Rattle.pfc_tree.specs.Symbols.{symbols}
-use Rattle.pfc_tree.specs.Grammar.{IsSyntaxFault, most_depth}
-use Rattle.pfc_tree.specs.depths.Parts.{depths_of}
-use Rattle.pfc_tree.specs.trees.Parts.{ProgramTree}
-use Rattle.pfc_tree.specs.forget.Parts.{forget_program}
-use Rattle.pfc_grammar.specs.Outcomes.{IsTreeOf}
-use Rattle.pfc_types.specs.rules.Whole.{first_fault}
-use Rattle.pfc_meaning.specs.Unbuilt.{unbuilt}
-use Rattle.pfc_gen.specs.Images.{image_of}
-use Rattle.pfc_report.specs.Refusals.{refusal_line_text}
-use Rattle.pfc_top.specs.Runs.{run_of, written_by, status_of}
-use Rattle.pfc_top.specs.Settings.{Settings}
+-- What answers say of outcomes.
+use Rattle.std.specs.Prelude.{◌≡◌, ℕ, ◌⊎◌, List, Option, Some, None, IsSomeAnd, Result, Ok, Err}
+use Rattle.std.specs.Io.KnownBytes.{Appends}
+use Rattle.pfc_io.specs.Files.{File}
+use Rattle.pfc_io.specs.Writes.{AppendsFront}
+use Rattle.pfc_drive.specs.States.{State}
+use Rattle.pfc_outcome.specs.Loading.{Lack, Lacks}
+use Rattle.pfc_outcome.specs.Options.{options_of}
+use Rattle.pfc_outcome.specs.Outcomes.{Outcome, Ran, names_by}
+use Rattle.pfc_top.specs.Running.{IsAtEnd}
+use Rattle.pfc_top.specs.declared.replies.Answer.{Answer}
+use Rattle.pfc_top.specs.declared.replies.Stop.{Stop}
+use Rattle.pfc_top.specs.declared.replies.Stop.TheVariants.{WriteFailed, Memory}
 
--- the line for a program that is in order and is not built yet
-abbrev pub not_built_line : List ℕ
-not_built_line = codes "-- refused 200 at line 1, column 1: not built yet\n"
+-- the session stands for the end of what ran; where nothing ran there is none
+abbrev pub IsSessionOf : Option Ran → Option State → Type 0
+IsSessionOf None None = Unit {0}
+IsSessionOf None (Some session) = ⊥
+IsSessionOf (Some ran) None = ⊥
+IsSessionOf (Some ran) (Some session) = IsAtEnd ran.tree ran.settings session
 
--- the most instructions of a program
-abbrev pub most_instructions : ℕ
-most_instructions = 200000
+-- the answer has the outcome's status and the session of its run, and the outcome's bytes were appended
+pub record Gives (outcome : Outcome) (answer : Answer) (old new : Option (List ℕ)) : Type 0 where
+  pub status : answer.status ≡ outcome.status
+  pub session : IsSessionOf outcome.ran answer.session
+  pub written : Appends old new outcome.bytes
 
-abbrev pub instruction_count : ProgramTree → ℕ
-instruction_count tree = length (image_of tree).code
+-- the answer gives one of these outcomes
+abbrev pub GivesOne : (Outcome → Type 0) → Answer → Option (List ℕ) → Option (List ℕ) → Type 0
+GivesOne is answer old new = (outcome : Outcome) × is outcome × Gives outcome answer old new
 
--- the refusal of a program with more instructions
-abbrev pub too_large : Refusal
-too_large = record { code = 501; place = record { line = 1; column = 1 } }
+-- a front of the bytes of one of these outcomes was appended
+abbrev pub GivesFront : (Outcome → Type 0) → Option (List ℕ) → Option (List ℕ) → Type 0
+GivesFront is old new = (outcome : Outcome) × is outcome × AppendsFront old new outcome.bytes
 
--- A text is refused: status 1, and the line with the code and the place.
-pub record IsRefusedBy (refusal : Refusal) (status : ℕ) (bytes : List ℕ) : Type 0 where
-  pub status_one : status ≡ 1
-  pub line : bytes ≡ refusal_line_text refusal
+-- a front of the bytes of each of these outcomes was appended
+abbrev pub GivesFrontOfAll : (Outcome → Type 0) → Option (List ℕ) → Option (List ℕ) → Type 0
+GivesFrontOfAll is old new = (outcome : Outcome) → is outcome → AppendsFront old new outcome.bytes
 
--- A tree is refused with the first static rule that is broken in it, if there is one. Else it is refused where it holds what is not built
--- yet, and where its program is too large; any other is run.
-pub data IsAnswerToTree (tree : ProgramTree) (settings : Settings) (status : ℕ) (bytes : List ℕ) : Type 0 where
-  static_fault : (fault : Refusal) → first_fault tree ≡ Some fault → IsRefusedBy fault status bytes → IsAnswerToTree tree settings status bytes
-  not_built : first_fault tree ≡ None → unbuilt tree ≡ true → status ≡ 1 → bytes ≡ not_built_line → IsAnswerToTree tree settings status bytes
-  large : first_fault tree ≡ None → unbuilt tree ≡ false → most_instructions < instruction_count tree → IsRefusedBy too_large status bytes
-      → IsAnswerToTree tree settings status bytes
-  ran : first_fault tree ≡ None → unbuilt tree ≡ false → instruction_count tree ≤ most_instructions
-      → status ≡ status_of (run_of tree settings).ending → bytes ≡ written_by tree (run_of tree settings) → IsAnswerToTree tree settings status bytes
+-- the outcome is answered, or a front of its bytes was appended
+abbrev pub IsWritten : Outcome → Result Answer Stop → Option (List ℕ) → Option (List ℕ) → Type 0
+IsWritten outcome (Ok answer) old new = Gives outcome answer old new
+IsWritten outcome (Err stop) old new = AppendsFront old new outcome.bytes
 
--- the place of token i, or the end for the number of the tokens
-abbrev pub place_at : List Token → Place → ℕ → Place
-place_at ts end i = get_or (map (λ t. t.place) ts) i end
+-- one of these outcomes is answered; or the sink took no more, behind a front of one's bytes; or memory was wanting
+abbrev pub Replies : (Outcome → Type 0) → Result Answer Stop → Option (List ℕ) → Option (List ℕ) → Type 0
+Replies is (Ok answer) old new = GivesOne is answer old new
+Replies is (Err WriteFailed) old new = GivesFront is old new
+Replies is (Err Memory) old new = GivesFrontOfAll is old new
 
--- the refusal of the token i, or of the end
-abbrev pub syntax_refusal : List Token → Place → ℕ → ℕ → Refusal
-syntax_refusal ts end code i = record { code = code; place = place_at ts end i }
+-- the answer to a call that stopped
+abbrev pub stopped : Stop → Answer
+stopped WriteFailed = record { status = 7; session = None }
+stopped Memory = record { status = 8; session = None }
 
--- no token of the tree stands too deep
-abbrev pub IsLevel : ProgramTree → Type 0
-IsLevel tree = All (λ d. d ≤ most_depth) (depths_of (forget_program tree))
+abbrev pub ended : Result Answer Stop → Answer
+ended (Ok answer) = answer
+ended (Err stop) = stopped stop
 
--- Tokens that are no program, or a too deep one, are refused where they first go wrong. The answer to any others is that to
--- the tree that they write.
-pub data IsAnswerToTokens (ts : List Token) (end : Place) (settings : Settings) (status : ℕ) (bytes : List ℕ) : Type 0 where
-  syntax_fault : (code i : ℕ) → IsSyntaxFault (symbols ts) code i → IsRefusedBy (syntax_refusal ts end code i) status bytes → IsAnswerToTokens ts end settings status bytes
-  no_fault : (tree : ProgramTree) → IsTreeOf ts tree → IsLevel tree → IsAnswerToTree tree settings status bytes → IsAnswerToTokens ts end settings status bytes
+-- ## Statuses
 
--- A text that is refused by its cutting is refused with that code and place.
-abbrev pub IsAnswerToCutting : Cutting → Settings → ℕ → List ℕ → Type 0
-IsAnswerToCutting (refusal r) settings status bytes = IsRefusedBy r status bytes
-IsAnswerToCutting (tokens ts end) settings status bytes = IsAnswerToTokens ts end settings status bytes
+-- finished, fault, deadlock, limit, script
+abbrev pub IsRunStatus : ℕ → Type 0
+IsRunStatus status = (status ≡ 0) ⊎ (status ≡ 3) ⊎ (status ≡ 4) ⊎ (status ≡ 5) ⊎ (status ≡ 10)
 
--- the answer to a text is that to its cutting
-pub record IsAnswerTo (text : List ℕ) (settings : Settings) (status : ℕ) (bytes : List ℕ) : Type 0 where
-  pub cutting : Cutting
-  pub cut : IsCut text cutting
-  pub answer : IsAnswerToCutting cutting settings status bytes
+-- an answer to a text: with a session the status is that of a run; without one the text is refused, or the script is no list of numbers
+abbrev pub IsAnswerToText : ℕ → Option State → Type 0
+IsAnswerToText status (Some session) = IsRunStatus status
+IsAnswerToText status None = (status ≡ 1) ⊎ (status ≡ 10)
+
+-- every answer: with a session the status is that of a run; without one it is any but those of a run's ending
+abbrev pub IsSound : ℕ → Option State → Type 0
+IsSound status (Some session) = IsRunStatus status
+IsSound status None = (status ≡ 1) ⊎ (status ≡ 2) ⊎ (status ≡ 6) ⊎ (status ≡ 7) ⊎ (status ≡ 8) ⊎ (status ≡ 9) ⊎ (status ≡ 10)
+
+-- the words give options, the shelf tells its files, and this is wrong with the first of those that are asked for with which something is
+abbrev pub IsAskedLacking : Option (List File) → List (List ℕ) → Lack → Type 0
+IsAskedLacking told words lack = IsSomeAnd (options_of words) (λ asked. Lacks told (names_by asked) lack)

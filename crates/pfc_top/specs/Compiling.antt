@@ -11,9 +11,9 @@ use Rattle.pfc_grammar.specs.Outcomes.{IsTreeOf}
 use Rattle.pfc_types.specs.rules.Whole.{first_fault}
 use Rattle.pfc_meaning.specs.Unbuilt.{unbuilt}
 use Rattle.pfc_gen.specs.Images.{image_of}
-use Rattle.pfc_report.specs.Refusals.{refusal_line_text}
-use Rattle.pfc_top.specs.Answers.{most_instructions, instruction_count, not_built_line, IsLevel, IsAnswerTo, IsAnswerToTokens, IsAnswerToTree}
-use Rattle.pfc_top.specs.Settings.{Settings}
+use Rattle.pfc_outcome.specs.Outcomes.{Outcome, IsLevel, IsOutcomeOfTokens, IsOutcomeOfTree, IsUnlisted, instruction_count, most_instructions, not_built_yet, refused}
+use Rattle.pfc_outcome.specs.Requests.{Request}
+use Rattle.pfc_top.specs.Meanings.{source_meaning}
 use Rattle.pfc_top.specs.declared.compiling.Uncompiled.{Uncompiled}
 use Rattle.pfc_top.specs.declared.compiling.Uncompiled.TheVariants.{Refused, NotBuilt, Memory}
 
@@ -24,7 +24,7 @@ pub record IsRunnable (tree : ProgramTree) : Type 0 where
   pub small : IsSmall (forget_program tree)
   pub whole : first_fault tree ≡ None
   pub built : unbuilt tree ≡ false
-  pub few : instruction_count tree ≤ most_instructions
+  pub few : instruction_count source_meaning tree ≤ most_instructions
 
 -- the image of a tree
 pub record IsImage (tree : ProgramTree) (image : PlainImage) : Type 0 where
@@ -47,17 +47,17 @@ pub record IsCompiled (text : List ℕ) (image : PlainImage) : Type 0 where
 
 -- ## No image
 
--- the text of these answers has no image, unless memory is wanting: it is refused by one line, whatever is asked for
-abbrev pub RefusedFor : (Settings → ℕ → List ℕ → Type 0) → Uncompiled → Type 0
-RefusedFor answers (Refused r) = (settings : Settings) → answers settings 1 (refusal_line_text r)
-RefusedFor answers NotBuilt = (settings : Settings) → answers settings 1 not_built_line
-RefusedFor answers Memory = Unit {0}
+-- the text of these outcomes has no image, unless memory is wanting: it is refused by one line, whatever else is asked for
+abbrev pub RefusedFor : (Request → Outcome → Type 0) → Uncompiled → Type 0
+RefusedFor is (Refused r) = (request : Request) → is request (refused r)
+RefusedFor is NotBuilt = (request : Request) → is request not_built_yet
+RefusedFor is Memory = Unit {0}
 
 abbrev pub IsUncompiled : List ℕ → Uncompiled → Type 0
-IsUncompiled text why = RefusedFor (IsAnswerTo text) why
+IsUncompiled text why = RefusedFor (IsUnlisted source_meaning text) why
 
 abbrev pub AreUncompiled : List Token → Place → Uncompiled → Type 0
-AreUncompiled ts end why = RefusedFor (IsAnswerToTokens ts end) why
+AreUncompiled ts end why = RefusedFor (IsOutcomeOfTokens source_meaning ts end) why
 
 abbrev pub IsWithout : ProgramTree → Uncompiled → Type 0
-IsWithout tree why = RefusedFor (IsAnswerToTree tree) why
+IsWithout tree why = RefusedFor (IsOutcomeOfTree source_meaning tree) why

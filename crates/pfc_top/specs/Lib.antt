@@ -1,6 +1,5 @@
 pub mod Answers
 pub mod Compiling
-pub mod Outcome
+pub mod Listings
+pub mod Meanings
 pub mod Running
-pub mod Runs
-pub mod Settings

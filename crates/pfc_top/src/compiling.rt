@@ -5,7 +5,7 @@ ghost use Rattle.pfc_meaning.specs.Unbuilt as meaning;
 ghost use Rattle.pfc_tree.specs.Grammar.{IsSmall};
 ghost use Rattle.pfc_tree.specs.Readings.{tree_shape};
 ghost use Rattle.pfc_tree.specs.views.Parts.{tree_view};
-ghost use Rattle.pfc_top.specs.Answers.{place_at as place_of_token};
+ghost use Rattle.pfc_outcome.specs.Outcomes.{place_at as place_of_token};
 ghost use Rattle.pfc_top.specs.Compiling.{IsCompiled, IsUncompiled, AreCompiled, AreUncompiled, IsImage, IsWithout};
 
 use pfc_base::{Place, Refusal, Token};

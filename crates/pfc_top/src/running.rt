@@ -1,5 +1,5 @@
 //! From an image to the bytes of its run.
-ghost use Rattle.std.specs.Prelude.{◌≡◌, ◌≢◌, ◌⊎◌, ◌≤◌};
+ghost use Rattle.std.specs.Prelude.{◌≡◌, ◌≤◌, IfOk, IfErr, IsErrOf};
 ghost use Rattle.std.specs.Io.KnownBytes.{Appends};
 ghost use Rattle.pfc_code.specs.Images.{plain_image};
 ghost use Rattle.pfc_drive.specs.Courses.{IsOfMain};
@@ -7,12 +7,15 @@ ghost use Rattle.pfc_io.specs.Counts.{Rose};
 ghost use Rattle.pfc_io.specs.Writes.{AppendsFront};
 ghost use Rattle.pfc_report.specs.Reports.{HasReport};
 ghost use Rattle.pfc_tree.specs.trees.Parts.{ProgramTree};
+ghost use Rattle.pfc_outcome.specs.Outcomes.{ran_with, status_of as status_by};
+ghost use Rattle.pfc_outcome.specs.Requests.{Settings};
+ghost use Rattle.pfc_top.specs.Answers.{IsAnswerToText, IsWritten};
 ghost use Rattle.pfc_top.specs.Compiling.{IsImage};
-ghost use Rattle.pfc_top.specs.Running.{IsAtStart, IsAtEnd, IsRunStatus};
-ghost use Rattle.pfc_top.specs.Runs.{run_of, report_of, written_by, status_of as status_by};
-ghost use Rattle.pfc_top.specs.Settings.{plain};
+ghost use Rattle.pfc_top.specs.Meanings.{run_of, source_meaning};
+ghost use Rattle.pfc_top.specs.Running.{IsAtEnd, IsBegun, report_by};
 
-use crate::writing::{NO_MEMORY, WRITE_FAILED, say};
+use crate::replies::{Answer, Stop};
+use crate::writing::say;
 use pfc_code::Image;
 use pfc_drive::Session;
 use pfc_io::Sink;
@@ -21,76 +24,59 @@ use pfc_sched::{Picker, Policy};
 use pfc_state::Ending;
 use std::alloc::Global;
 
-/// The input of a run.
-const INPUT: &[u8] = b"";
-
-/// The seed of the picks and of `random`.
-const SEED: u64 = 1;
-
-/// The most actions of a run.
-const ACTION_LIMIT: u64 = 1_000_000;
-
-/// Runs the image of a program, and writes what it prints and the report of its ending. It answers the status.
-pub(crate) fn run<O: Sink>(alloc: Global, image: &Image, sink: &mut O) -> u8
-    requires { (tree : ProgramTree) × IsImage tree (plain_image image.now) }
-    ensures whole { (tree : ProgramTree) → IsImage tree (plain_image image.now) → result ≢ 7 → result ≢ 8
-        → (result ≡ status_by (run_of tree plain).ending) × Appends (O.written sink.old) (O.written sink.new) (written_by tree (run_of tree plain)) }
-    ensures front { (tree : ProgramTree) → IsImage tree (plain_image image.now) → AppendsFront (O.written sink.old) (O.written sink.new) (written_by tree (run_of tree plain)) }
-    ensures status { IsRunStatus result ⊎ (result ≡ 7) ⊎ (result ≡ 8) }
-    ensures cut { result ≡ 7 → Rose (O.faults sink.old) (O.faults sink.new) }
+/// Runs a session from its start to its end, with at most `limit` actions, and writes what the program prints and the report
+/// of its ending. It hands the session back, which then stands for the end of the source text's run.
+pub(crate) fn run<O: Sink>(
+    alloc: Global,
+    image: &Image,
+    session: Session,
+    policy: Policy,
+    limit: u64,
+    sink: &mut O,
+) -> Result<Answer, Stop>
+    requires begun { (tree : ProgramTree) × (settings : Settings) × IsBegun tree settings (plain_image image.now) session policy limit }
+    requires most { limit ≤ 100000000 }
+    ensures written { (tree : ProgramTree) (settings : Settings) → IsBegun tree settings (plain_image image.now) session policy limit
+        → IsWritten (ran_with source_meaning tree settings) result (O.written sink.old) (O.written sink.new) }
+    ensures sound { IfOk result (λ answer. IsAnswerToText answer.status answer.session) }
+    ensures cut { IsErrOf result Stop.WriteFailed → Rose (O.faults sink.old) (O.faults sink.new) }
 {
-    let Ok(mut session) = Session::start(alloc, image, INPUT, SEED) else {
-        return NO_MEMORY;
-    };
-    run_session(alloc, image, &mut session, sink)
-}
-
-/// Runs a session from its start to its end. With any status but 7 and 8 it stands for the end of the source text's run.
-fn run_session<O: Sink>(alloc: Global, image: &Image, session: &mut Session, sink: &mut O) -> u8
-    requires { (tree : ProgramTree) × IsImage tree (plain_image image.now) × IsAtStart tree plain session.old }
-    ensures whole { (tree : ProgramTree) → IsImage tree (plain_image image.now) → IsAtStart tree plain session.old → result ≢ 7 → result ≢ 8
-        → (result ≡ status_by (run_of tree plain).ending) × Appends (O.written sink.old) (O.written sink.new) (written_by tree (run_of tree plain)) }
-    ensures represents { (tree : ProgramTree) → IsImage tree (plain_image image.now) → IsAtStart tree plain session.old → result ≢ 7 → result ≢ 8
-        → IsAtEnd tree plain session.new }
-    ensures front { (tree : ProgramTree) → IsImage tree (plain_image image.now) → IsAtStart tree plain session.old
-        → AppendsFront (O.written sink.old) (O.written sink.new) (written_by tree (run_of tree plain)) }
-    ensures status { IsRunStatus result ⊎ (result ≡ 7) ⊎ (result ≡ 8) }
-    ensures cut { result ≡ 7 → Rose (O.faults sink.old) (O.faults sink.new) }
-{
-    let mut picker = Picker::new(Policy::Fair { seed: SEED });
-    match session.run(alloc, image, &mut picker, ACTION_LIMIT, sink) {
-        Ending::SinkFailed => WRITE_FAILED,
-        Ending::Memory => NO_MEMORY,
-        ending => write_report(alloc, &ending, session, image, sink),
+    let mut session = session;
+    let mut picker = Picker::new(policy);
+    match session.run(alloc, image, &mut picker, limit, sink) {
+        Ending::SinkFailed => Err(Stop::WriteFailed),
+        Ending::Memory => Err(Stop::Memory),
+        ending => {
+            write_report(alloc, &ending, &session, image, sink)?;
+            Ok(Answer {
+                status: status_of(&ending),
+                session: Some(session),
+            })
+        }
     }
 }
 
-/// Writes the report of a run behind its output. It answers the ending's status.
+/// Writes the report of a run behind its output.
 fn write_report<O: Sink>(
     alloc: Global,
     ending: &Ending,
     session: &Session,
     image: &Image,
     sink: &mut O,
-) -> u8
+) -> Result<(), Stop>
     requires report { HasReport ending.now }
     requires main { IsOfMain ending.now }
-    requires end { (tree : ProgramTree) × IsImage tree (plain_image image.now) × IsAtEnd tree plain session.now }
-    ensures whole { (tree : ProgramTree) → IsImage tree (plain_image image.now) → IsAtEnd tree plain session.now → ending.now ≡ (run_of tree plain).ending → result ≢ 7 → result ≢ 8
-        → (result ≡ status_by ending.now) × Appends (O.written sink.old) (O.written sink.new) (report_of tree (run_of tree plain)) }
-    ensures front { (tree : ProgramTree) → IsImage tree (plain_image image.now) → IsAtEnd tree plain session.now → ending.now ≡ (run_of tree plain).ending
-        → AppendsFront (O.written sink.old) (O.written sink.new) (report_of tree (run_of tree plain)) }
-    ensures status { (result ≡ status_by ending.now) ⊎ (result ≡ 7) ⊎ (result ≡ 8) }
-    ensures cut { result ≡ 7 → Rose (O.faults sink.old) (O.faults sink.new) }
+    requires end { (tree : ProgramTree) × (settings : Settings) × IsImage tree (plain_image image.now) × IsAtEnd tree settings session.now }
+    ensures whole { (tree : ProgramTree) (settings : Settings) → IsImage tree (plain_image image.now) → IsAtEnd tree settings session.now → ending.now ≡ (run_of tree settings).ending
+        → IfOk result (λ done. Appends (O.written sink.old) (O.written sink.new) (report_by tree settings)) }
+    ensures front { (tree : ProgramTree) (settings : Settings) → IsImage tree (plain_image image.now) → IsAtEnd tree settings session.now → ending.now ≡ (run_of tree settings).ending
+        → IfErr result (λ stop. AppendsFront (O.written sink.old) (O.written sink.new) (report_by tree settings)) }
+    ensures cut { IsErrOf result Stop.WriteFailed → Rose (O.faults sink.old) (O.faults sink.new) }
     ensures faults { O.faults sink.old ≤ O.faults sink.new }
 {
-    let Ok(standings) = session.standings(alloc) else {
-        return NO_MEMORY;
-    };
-    match report(alloc, ending, &standings, image, session.open_line()) {
-        Ok(bytes) => say(sink, &bytes, status_of(ending)),
-        Err(_memory) => NO_MEMORY,
-    }
+    let standings = session.standings(alloc)?;
+    let bytes = report(alloc, ending, &standings, image, session.open_line())?;
+    say(sink, &bytes)
 }
 
 /// The status of an ending that has a report.

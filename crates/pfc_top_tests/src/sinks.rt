@@ -19,9 +19,11 @@ pub(crate) fn shelf(alloc: Global, text: &[u8], fails: u64) -> Result<MemoryShel
     Ok(MemoryShelf::new(files, Vec::from_slice(alloc, &[fails])?))
 }
 
-/// The status of a text over a sink of this room that takes so many bytes at a time, and fails at the write of this number.
+/// The status of a command line over a text, and a sink of this room that takes so many bytes at a time, and fails at the
+/// write of this number.
 fn run(
     alloc: Global,
+    line: &str,
     text: &[u8],
     room: usize,
     most: usize,
@@ -29,25 +31,61 @@ fn run(
 ) -> Result<(u8, MemorySink), Memory>
     requires { 0 < most }
 {
-    let words = words(alloc, "pfc a.pas")?;
+    let words = words(alloc, line)?;
     let mut shelf = shelf(alloc, text, 9)?;
     let mut sink = MemorySink::new(alloc, room, most, Vec::from_slice(alloc, &[fails])?)?;
-    let status = pfc(alloc, &words, &mut shelf, &mut sink);
-    Ok((status, sink))
+    let answer = pfc(alloc, &words, &mut shelf, &mut sink);
+    Ok((answer.status, sink))
 }
+
+/// Command lines over a text that ends in a fault, the status, and the bytes that are owed.
+static RUNS: [(&str, u8, &str); 3] = [
+    (
+        "pfc a.pas",
+        3,
+        "7\n-- fault 2: division by zero in process 0 d at line 1\n",
+    ),
+    (
+        "pfc a.pas --list --code",
+        3,
+        "    1 program d; begin write(7); writeln(1 div 0) end.
+     0     1 LIT 7
+     1     1 WRI 0
+     2     1 LIT 1
+     3     1 LIT 0
+     4     1 DIV
+     5     1 WRI 0
+     6     1 WRNL
+     7     1 END
+7
+-- fault 2: division by zero in process 0 d at line 1
+",
+    ),
+    (
+        "pfc a.pas --limit 1 --list",
+        5,
+        "    1 program d; begin write(7); writeln(1 div 0) end.
+7
+-- limit of 1 actions reached
+process 0 d: ready at line 1
+",
+    ),
+];
 
 /// Each write in turn fails: what was written is a front, and the status is 7 whatever the ending would have been.
 #[test]
 fn a_sink_fails(rt: HostRuntime) -> Result<(), Fail> {
     let text = b"program d; begin write(7); writeln(1 div 0) end.";
-    let whole = b"7\n-- fault 2: division by zero in process 0 d at line 1\n";
-    for fails in 1..whole.len() as u64 + 2 {
-        let (status, sink) = run(rt.alloc(), text, 100, 1, fails)?;
-        let fits = fails > whole.len() as u64;
-        assert!(rt; status == if fits { 3 } else { 7 });
-        assert!(rt;
-            whole.starts_with(&sink.written) && (fits || sink.written.len() as u64 + 1 == fails)
-        );
+    for (line, ending, whole) in &RUNS {
+        let whole = whole.as_bytes();
+        for fails in 1..whole.len() as u64 + 2 {
+            let (status, sink) = run(rt.alloc(), line, text, 400, 1, fails)?;
+            let fits = fails > whole.len() as u64;
+            assert!(rt; status == if fits { *ending } else { 7 });
+            assert!(rt;
+                whole.starts_with(&sink.written) && (fits || sink.written.len() as u64 + 1 == fails)
+            );
+        }
     }
     Ok(())
 }
@@ -65,7 +103,14 @@ fn zeros(alloc: Global) -> Result<Vec<u8>, Memory> {
 /// The run hands over 16 pieces of 4,096 bytes and the rest, and the report is one write more.
 #[test]
 fn output_goes_by_pieces(rt: HostRuntime) -> Result<(), Fail> {
-    let (status, sink) = run(rt.alloc(), &zeros(rt.alloc())?, 100_000, 4_096, 99)?;
+    let (status, sink) = run(
+        rt.alloc(),
+        "pfc a.pas",
+        &zeros(rt.alloc())?,
+        100_000,
+        4_096,
+        99,
+    )?;
     assert!(rt; (status, sink.calls, sink.written.len()) == (0, 17 + 1, 66_666 + 13));
     let report = b"0\n-- finished\n";
     assert!(rt; sink.written.ends_with(report));
@@ -75,7 +120,14 @@ fn output_goes_by_pieces(rt: HostRuntime) -> Result<(), Fail> {
 /// The tenth write fails: the sink has the nine pieces before it.
 #[test]
 fn a_piece_fails(rt: HostRuntime) -> Result<(), Fail> {
-    let (status, sink) = run(rt.alloc(), &zeros(rt.alloc())?, 100_000, 4_096, 10)?;
+    let (status, sink) = run(
+        rt.alloc(),
+        "pfc a.pas",
+        &zeros(rt.alloc())?,
+        100_000,
+        4_096,
+        10,
+    )?;
     assert!(rt; (status, sink.calls, sink.written.len()) == (7, 10, 9 * 4_096));
     Ok(())
 }
@@ -84,7 +136,7 @@ fn a_piece_fails(rt: HostRuntime) -> Result<(), Fail> {
 #[test]
 fn much_output_goes_byte_by_byte(rt: HostRuntime) -> Result<(), Fail> {
     let text = b"program m; var i: integer; begin for i := 1 to 40000 do write('x':250) end.";
-    let (status, sink) = run(rt.alloc(), text, 10_000_100, 1, 0)?;
+    let (status, sink) = run(rt.alloc(), "pfc a.pas", text, 10_000_100, 1, 0)?;
     assert!(rt; (status, sink.written.len()) == (0, 10_000_000 + 13));
     Ok(())
 }

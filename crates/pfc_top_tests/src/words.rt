@@ -15,16 +15,16 @@ pub(crate) fn words(alloc: Global, line: &str) -> Result<Vec<String>, Memory> {
     Ok(words)
 }
 
+/// The lines for refused words.
+const REFUSED: &str = "-- words refused
+usage: pfc [FILE] [--seed N] [--unfair] [--limit N] [--input FILE] [--script FILE] [--list] [--code] [--make N]
+";
+
 /// A command line, the number of the load that fails, and the status and the bytes that are owed.
 static LINES: [(&str, u64, u8, &str); 5] = [
     ("pfc a.pas", 9, 0, "3\n-- finished\n"),
-    ("pfc", 9, 2, "-- words refused\nusage: pfc FILE\n"),
-    (
-        "pfc a.pas b.pas",
-        9,
-        2,
-        "-- words refused\nusage: pfc FILE\n",
-    ),
+    ("pfc", 9, 2, REFUSED),
+    ("pfc a.pas b.pas", 9, 2, REFUSED),
     ("pfc b.pas", 9, 6, ""),
     ("pfc a.pas", 1, 6, ""),
 ];
@@ -34,8 +34,8 @@ fn words_name_a_file(rt: HostRuntime) -> Result<(), Fail> {
     for (line, fails, status, bytes) in &LINES {
         let words = words(rt.alloc(), line)?;
         let mut shelf = shelf(rt.alloc(), SUM.as_bytes(), *fails)?;
-        let mut sink = MemorySink::new(rt.alloc(), 100, 100, Vec::new(rt.alloc()))?;
-        let given = pfc(rt.alloc(), &words, &mut shelf, &mut sink);
+        let mut sink = MemorySink::new(rt.alloc(), 200, 200, Vec::new(rt.alloc()))?;
+        let given = pfc(rt.alloc(), &words, &mut shelf, &mut sink).status;
         assert!(rt; given == *status && sink.written.as_slice() == bytes.as_bytes());
     }
     Ok(())
@@ -48,8 +48,8 @@ fn texts_have_a_length(rt: HostRuntime) -> Result<(), Fail> {
     for status in [0, 9] {
         let words = words(rt.alloc(), "pfc a.pas")?;
         let mut shelf = shelf(rt.alloc(), &text, 9)?;
-        let mut sink = MemorySink::new(rt.alloc(), 100, 100, Vec::new(rt.alloc()))?;
-        let given = pfc(rt.alloc(), &words, &mut shelf, &mut sink);
+        let mut sink = MemorySink::new(rt.alloc(), 200, 200, Vec::new(rt.alloc()))?;
+        let given = pfc(rt.alloc(), &words, &mut shelf, &mut sink).status;
         assert!(rt; given == status && sink.written.is_empty() == (status == 9));
         text.push(b' ')?;
     }

@@ -1,6 +1,6 @@
 use Rattle.std.proofs.Common.{rules, ℕ, ap, ◌∙◌}
 use Rattle.pfc_tree.specs.views.Parts.{tree_view}
-use Rattle.pfc_top.specs.Answers.{syntax_refusal}
+use Rattle.pfc_outcome.specs.Outcomes.{syntax_refusal}
 use Rattle.pfc_top.specs.declared.compiling.Uncompiled.TheVariants.{Refused}
 use Rattle.pfc_top.proofs.Images.{tokens_image, tokens_refusal, syntax_refused}
 use Rattle.pfc_top.proofs.compiling.compile_tokens.Goals as goal

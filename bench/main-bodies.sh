@@ -20,7 +20,7 @@ instructions() {
 
 # the least time of five runs of a command, so many times over, in milliseconds for each
 least() {
-    local times="$1" best=999999999 from till
+    local times="$1" best=999999999999999 from till
     shift
     for _run in 1 2 3 4 5; do
         from="$(date +%s%N)"

@@ -31,7 +31,7 @@ pub struct Block<'a> {
     pub names: Names,
     /// The number of the next scope of the text there.
     pub next: u32,
-    pub stmts: &'a [Stmt],
+    pub stmts: &'a Vec<Stmt>,
     /// The line of its `begin`.
     pub first_line: u32,
     /// The line of its `end`.

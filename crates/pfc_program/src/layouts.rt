@@ -96,7 +96,7 @@ fn lay_result(sort: SubSort, layout: &mut Vec<Meaning>) -> Result<(), Memory>
 }
 
 /// The number of the sub whose scope has this number.
-pub(crate) fn sub_with(scopes: &Scopes, i: u32) -> Option<u32>
+pub fn sub_with(scopes: &Scopes, i: u32) -> Option<u32>
     ensures { option_map (λ n. sub_at scopes.now n) result ≡ layouts.sub_with scopes.now.subs i }
 {
     for n in 0..scopes.subs() {

@@ -22,6 +22,7 @@ pub use counts::{
     behind_accept, behind_alt, behind_alts, behind_arms, behind_body, behind_comm, behind_stmt,
     behind_stmts,
 };
+pub use layouts::sub_with;
 pub use modules::module_number;
 pub use names::{Level, Names, find};
 pub use phrases::{are_labels, constant_value, is_label, names_any};

@@ -1,0 +1,22 @@
+-- A name in an expression, whose meaning is known.
+use Rattle.std.specs.Prelude.{[], Option}
+use Rattle.pfc_tree.specs.trees.Exprs.{SelectorTrees, ActualTrees}
+use Rattle.pfc_types.specs.rules.Expressions.{first_type}
+use Rattle.pfc_types.specs.declared.scope.Meaning.{Meaning}
+use Rattle.pfc_semantics.specs.Displays.{TypedSpot}
+use Rattle.pfc_semantics.specs.Predeclared.{Function}
+use Rattle.pfc_semantics.specs.Remainders.{Context, AwaitsValue, Action}
+use Rattle.pfc_semantics.specs.Expressions.{from_name, from_function, from_selectors, from_args, from_argument, from_reference}
+use Rattle.pfc_semantics.specs.Rewriting.{from_value}
+
+-- a predeclared function with its arguments
+abbrev pub from_predeclared : Context → Function → ActualTrees → AwaitsValue → Action
+from_predeclared c f args u = from_function c f (first_type c.env args) u (from_value c u) (from_argument c args) (from_reference c args)
+
+-- a name that means this, with the variable that it stands for, its selectors and its arguments
+abbrev pub from_meaning : Context → Option Meaning → TypedSpot → SelectorTrees → ActualTrees → AwaitsValue → Action
+from_meaning c m s ss args u =
+    from_name c m u (from_value c u)
+    (λ goal arrive. from_selectors c s ss goal arrive)
+    (λ formals call. from_args c formals args [] call)
+    (λ f. from_predeclared c f args u)

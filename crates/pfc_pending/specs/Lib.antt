@@ -1,0 +1,5 @@
+pub mod Ahead
+pub mod Pieces
+pub mod Selects
+pub mod Texts
+pub mod Waiting

@@ -1,0 +1,4 @@
+pub mod Guarded
+pub mod Left
+pub mod Repeats
+pub mod Rules

@@ -1,0 +1,4 @@
+pub mod Programs
+pub mod Relation
+pub mod Shown
+pub mod Views

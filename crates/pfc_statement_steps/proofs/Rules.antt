@@ -6,7 +6,7 @@ use Rattle.std.specs.declared.alloc.Global.{Global}
 use Rattle.pfc_base.specs.declared.places.Place.{Place}
 use Rattle.pfc_tree.specs.Symbols.{Text}
 use Rattle.pfc_tree.specs.trees.Exprs.{ExprTree, DesigTree, ActualTree, ActualTrees, SelectorTrees, actual, actual_width, more_actuals}
-use Rattle.pfc_tree.specs.trees.Stmts.{StmtTree, StmtTrees, ArmTrees, empty, case_of, while_do, repeat_until, repeat_forever, for_do}
+use Rattle.pfc_tree.specs.trees.Stmts.{StmtTree, StmtTrees, ArmTrees, case_of, while_do, repeat_until, repeat_forever, for_do}
 use Rattle.pfc_tree.specs.views.Stmts.{if_of}
 use Rattle.pfc_types.specs.declared.types.TypeId.{TypeId}
 use Rattle.pfc_types.specs.declared.heads.Formal.{Formal}
@@ -14,7 +14,7 @@ use Rattle.pfc_types.specs.rules.Expressions.{Env, find, as_desig, expr_type, de
 use Rattle.pfc_semantics.specs.Values.{Value, ordinal_of}
 use Rattle.pfc_semantics.specs.Displays.{Spot, TypedSpot}
 use Rattle.pfc_semantics.specs.Remainders.{Context, Bar, Remainder, Action, in_names, try_guard, pass_own, by_reference, assign_to, input_to, read_on, show, show_wide, pad, prints, initial_to, wait_at, signal_at, delay_at, resume_at, sleep_for, send_to, receive_from, activate_with, enter_with, turn}
-use Rattle.pfc_semantics.specs.Predeclared.{initial, wait, signal, delay, resume, sleep}
+use Rattle.pfc_semantics.specs.Predeclared.{wait, signal, delay, resume, sleep}
 use Rattle.pfc_semantics.specs.Alternatives.{context, message_of, receiver_of}
 use Rattle.pfc_semantics.specs.Expressions.{spot_of, from_expr, from_desig, from_selectors, from_reference, from_argument}
 use Rattle.pfc_semantics.specs.Statements.{from_stmt, from_stmts, from_assign, from_item, from_string, from_wide_string, as_string, from_input, from_reads, item_of, expr_of, behind_first, from_initial, from_procedure, from_activation, from_entry_call, from_send, from_receive}

@@ -1,4 +1,4 @@
-use Rattle.std.proofs.Common.{◌≡◌, ◌∙◌, [], List, drop, sym, ap, arith}
+use Rattle.std.proofs.Common.{◌∙◌, List, sym, ap}
 use Rattle.std.proofs.Math.ListN.{drop_of_length-le}
 use Rattle.std.proofs.lemmas.Int.{to_z-of_z}
 use Rattle.pfc_tree.specs.declared.tree.CaseArm.{CaseArm}

@@ -63,8 +63,8 @@ module _ (source : Source) (g : Program) (s : State) (c : Config) (p : ℕ) (a :
   abbrev t : Tables
   t = source.program.tables
 
-  pub acting_is : shown (activity_of g c p) ≡ shown_before source a n
-  acting_is = shown_is t c.activities s.activities.items p (shown_before source a n) (nobody g) before.there.within before.activities
+  pub acting_is : shown (activity_of g c p) ≡ shown_before source a n before.hand
+  acting_is = shown_is t c.activities s.activities.items p (shown_before source a n before.hand) (nobody g) before.there.within before.activities
 
   pub next_is : next (activity_of g c p).doing ≡ n
   next_is = ap (λ (x : Shown). x.next) acting_is
@@ -76,7 +76,7 @@ module _ (source : Source) (g : Program) (s : State) (c : Config) (p : ℕ) (a :
   activations_are = ap (λ (x : Shown). x.activations) acting_is
 
   pub here : p < length c.activities
-  here = subst (λ k. p < k) (sym (as_many t c.activities s.activities.items p (shown_before source a n) before.activities)) before.there.within
+  here = subst (λ k. p < k) (sym (as_many t c.activities s.activities.items p (shown_before source a n before.hand) before.activities)) before.there.within
 
   -- a spot lies in the store where the code finds it
   pub located_is : (spot : Spot) → located (store_view s.store) a.display spot ≡ location_for g c p spot
@@ -161,7 +161,7 @@ stands_so source g s new c p a y n w line before acting sound same items kept wo
       mirrors = record {
         activities =
             ap (map shown) (set_twice c.activities p w (nobody g) line (here source g s c p a n before))
-            ∙ change_one t c.activities s.activities.items p (record w { line = line }) y (shown_before source a n) before.activities same
+            ∙ change_one t c.activities s.activities.items p (record w { line = line }) y (shown_before source a n before.hand) before.activities same
             ∙ ap (activities_shown t) (sym items);
         agrees = kept_agrees source s new c (done_at g (with_activity c p w) p line) (set s.activities.items p y) before.agrees kept items
             (length-set s.activities.items p y) world refl;
@@ -224,7 +224,7 @@ ends_in_fault source g s new c p choice a n line f is_at e lines items world =
     let is : behind g c p choice n ≡ after g c p line (Err f)
     = ap (after g c p (line_of n)) e ∙ ap (λ (l : ℕ). after g c p l (Err f)) lines in
     let others : map line_in c.activities ≡ set (map held_line ys) p a.line
-    = sym (lines_shown c.activities) ∙ ap (map shown_line) before.activities ∙ map-set shown_line (activities_shown t ys) p (shown_before source a n)
+    = sym (lines_shown c.activities) ∙ ap (map shown_line) before.activities ∙ map-set shown_line (activities_shown t ys) p (shown_before source a n before.hand)
     ∙ ap (λ (l : List ℕ). set l p a.line) (lines_held t ys) in
     let same : map held_line new.activities.items ≡ map line_in (after g c p line (Err f)).activities
     = ap (map held_line) items ∙ map-set held_line ys p (at_line a line) ∙ sym (set-set (map held_line ys) p a.line line)
@@ -250,8 +250,9 @@ other_parts source s mid c p a n store input words output is_at is store_is inpu
     let same : mid.activities.items ≡ s.activities.items = ap (λ (x : State). x.activities.items) is in
     record {
       before = record {
+        hand = before.hand;
         there = subst (λ (ys : List Activity). IsIn ys p a) (sym same) before.there;
-        activities = before.activities ∙ ap (λ (ys : List Activity). set (activities_shown source.program.tables ys) p (shown_before source a n)) (sym same);
+        activities = before.activities ∙ ap (λ (ys : List Activity). set (activities_shown source.program.tables ys) p (shown_before source a n before.hand)) (sym same);
         agrees = record {
           table = ap (λ (x : State). x.world) is ∙ before.agrees.table;
           counts = ap (λ (x : State). x.semaphores) is ∙ before.agrees.counts;

@@ -10,9 +10,10 @@ use Rattle.pfc_store.specs.Views.{store_view}
 use Rattle.pfc_semantics.specs.Programs.{Program}
 use Rattle.pfc_semantics.specs.Remainders.{Action}
 use Rattle.pfc_semantics.specs.Rewriting.{Doing, next}
-use Rattle.pfc_semantics.specs.Configurations.{Config, FaultAt, after, doing_next}
+use Rattle.pfc_semantics.specs.Configurations.{Config, FaultAt, Hand, after, doing_next}
 use Rattle.pfc_semantics.specs.Steps.{effect, line_of}
 use Rattle.pfc_activities.specs.declared.activities.Activity.{Activity}
+use Rattle.pfc_activities.specs.declared.activities.Doing.{Doing as HeldDoing}
 use Rattle.pfc_activities.specs.declared.changes.Done.{Done}
 use Rattle.pfc_activities.specs.declared.changes.Done.TheVariants.{Stepped, Faulted}
 use Rattle.pfc_activities.specs.declared.source.Source.{Source}
@@ -57,14 +58,16 @@ pub record IsIn (activities : List Activity) (p : ℕ) (a : Activity) : Type 0 w
   pub within : p < length activities
   pub is : (d : Activity) → get_or activities p d ≡ a
 
--- what the process shows where this action comes next for it
-abbrev pub shown_before : Source → Activity → Action → Shown
-shown_before source a n = record (activity_shown source.program.tables a) { next = n }
+-- what the process shows where this action comes next for it, and this is what it showed while it waited
+abbrev pub shown_before : Source → Activity → Action → Hand → Shown
+shown_before source a n hand = record (activity_shown source.program.tables a) { next = n; hand = hand }
 
--- The state shows what the configuration shows, but that process p, which is before this action there, had it taken from it here.
+-- The state shows what the configuration shows, but that process p, which is before this action there, had it taken from it here. What that
+-- process showed while it waited, as one does whose select has timed out, nobody looks at any more: it is not compared.
 pub record IsBefore (source : Source) (s : State) (c : Config) (p : ℕ) (a : Activity) (n : Action) : Type 0 where
+  pub hand : Hand
   pub there : IsIn s.activities.items p a
-  pub activities : map shown c.activities ≡ set (activities_shown source.program.tables s.activities.items) p (shown_before source a n)
+  pub activities : map shown c.activities ≡ set (activities_shown source.program.tables s.activities.items) p (shown_before source a n hand)
   pub agrees : Agrees source s c
 
 -- it stands for the configuration but for that
@@ -140,7 +143,14 @@ Performs source old new p deed bytes d =
 abbrev pub IsPerformed : State → State → ℕ → Deed → List ℕ → Done → Type 0
 IsPerformed old new p deed bytes d = (source : Source) → Performs source old new p deed bytes d
 
+-- the same names are in view, and the same is pending, perhaps with more room
+pub record IsSameDoing (old new : HeldDoing) : Type 0 where
+  pub names : new.names ≡ old.names
+  pub line : new.line ≡ old.line
+  pub pending : new.pending.items ≡ old.pending.items
+
 -- Nothing was done: where the process stood before its action, it still does, perhaps with more room.
 abbrev pub StaysAt : State → State → ℕ → Type 0
 StaysAt old new p =
-    (source : Source) (c : Config) (a : Activity) (n : Action) → IsAt source old c p a n → (b : Activity) × IsAt source new c p b n × (b.doing ≡ a.doing)
+    (source : Source) (c : Config) (a : Activity) (n : Action)
+    → IsAt source old c p a n → (b : Activity) × IsAt source new c p b n × IsSameDoing a.doing b.doing

@@ -123,12 +123,16 @@ idle_activity g n =
 abbrev pub modules_of : Program → Bool → ℕ
 modules_of g resource = of_kind resource g.state.blocks.modules
 
--- before the first action: main is ready, and the other processes are idle
+-- how many alternatives one select may have, at most, one with a spread counted once for each value
+abbrev pub most_alternatives : ℕ
+most_alternatives = 1024
+
+-- before the first action: main is ready, and the other processes are idle; each has room for the alternatives of any select
 abbrev pub start : Program → List ℕ → ℕ → Config
 start g input seed =
     record {
       activities = main_activity g ∷ map (idle_activity g) g.objects.processes;
-      table = start_table (1 + length g.objects.processes) 0;
+      table = start_table (1 + length g.objects.processes) most_alternatives;
       counts = replicate g.objects.semaphores 0;
       monitors = replicate (modules_of g false) None;
       resources = replicate (modules_of g true) None;

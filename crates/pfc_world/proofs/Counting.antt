@@ -2,10 +2,10 @@
 use Rattle.std.proofs.Common.{◌≡◌, ◌≢◌, ℕ, zero, suc, ◌+◌, ◌-◌, ◌<◌, ◌≤◌, Bool, true, false, not, ◌==◌, ◌&&◌, ◌||◌, nat_lt, List, [], ◌∷◌, length, set, map, replicate, arith, refl, sym, ap, ◌∙◌}
 use Rattle.std.specs.List.{list_any, list_all}
 use Rattle.std.proofs.lemmas.Bool.Decides.{nat_tests}
-use Rattle.pfc_state.specs.Stands.{Stand, Is_idle, Is_created, Is_ready, Waits, Is_done, is_unfinished, is_at_coend, may_end}
+use Rattle.pfc_state.specs.Stands.{Stand, Is_idle, Is_created, Is_ready, Waits, Is_done, is_created, is_unfinished, is_at_coend, may_end, started}
 use Rattle.pfc_world.specs.Indexes.{number, one_more, count_of}
 use Rattle.pfc_world.specs.Settling.{children_may_end}
-use Rattle.pfc_world.specs.Tables.{at}
+use Rattle.pfc_world.specs.Tables.{at, some_created}
 use Rattle.pfc_world.specs.Transitions.{is_released}
 
 more-is : (b : Bool) (n : ℕ) → one_more b n ≡ number b + n
@@ -74,6 +74,22 @@ some-any holds (s ∷ rest) = go (holds s) (some-any holds rest)
     go : (b : Bool) → nat_lt 0 (count_of holds rest) ≡ list_any holds rest → nat_lt 0 (one_more b (count_of holds rest)) ≡ (b || list_any holds rest)
     go true ih = let e : nat_lt 0 (suc (count_of holds rest)) ≡ true = grind (arith, nat_tests) in e
     go false ih = ih
+
+-- some process is created exactly where one is counted
+pub created-some : (rows : List Stand) (n : ℕ) → n ≡ count_of is_created rows → nat_lt 0 n ≡ some_created rows
+created-some rows n is = ap (λ k. nat_lt 0 k) is ∙ some-any is_created rows
+
+-- whoever was created is so no more
+pub none-created : (rows : List Stand) → count_of is_created (map started rows) ≡ 0
+none-created [] = refl
+none-created (s ∷ rest) = go s (none-created rest)
+  where
+    go : (s : Stand) → count_of is_created (map started rest) ≡ 0 → count_of is_created (map started (s ∷ rest)) ≡ 0
+    go Is_idle ih = ih
+    go Is_created ih = ih
+    go Is_ready ih = ih
+    go (Waits why ticket arms) ih = ih
+    go Is_done ih = ih
 
 -- who may end is unfinished
 ends-unfinished : (s : Stand) → may_end s ≡ true → is_unfinished s ≡ true

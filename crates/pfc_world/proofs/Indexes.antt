@@ -9,13 +9,13 @@ use Rattle.pfc_moments.specs.Moments.{moment_at}
 use Rattle.pfc_state.specs.declared.waits.Why.{Why}
 use Rattle.pfc_state.specs.declared.waits.Why.TheVariants.{Select}
 use Rattle.pfc_state.specs.declared.waits.Arm.{Arm}
-use Rattle.pfc_state.specs.Stands.{Stand, Is_idle, Is_created, Is_ready, Waits, Is_done, IsWaiting, is_ready, is_unfinished, may_end, due_of, ticket_of, started}
+use Rattle.pfc_state.specs.Stands.{Stand, Is_idle, Is_created, Is_ready, Waits, Is_done, IsWaiting, is_ready, is_created, is_unfinished, may_end, due_of, ticket_of, started}
 use Rattle.pfc_world.specs.declared.index.Index.{Index}
 use Rattle.pfc_world.specs.Indexes.{IsReadySet, IsIndexed, Admits, BeginsWait, IsListed, EndsWait, number, count_of}
 use Rattle.pfc_world.specs.Lists.{list_count, member_of}
 use Rattle.pfc_world.specs.Tables.{at}
 use Rattle.pfc_world.specs.Tickets.{AreTickets, IsNew}
-use Rattle.pfc_world.proofs.Counting.{count-set, count-most, count-one, count-map, count-idle}
+use Rattle.pfc_world.proofs.Counting.{count-set, count-most, count-one, count-map, count-idle, none-created}
 use Rattle.pfc_world.proofs.ReadySets.{ready-set, ready-kept}
 
 -- all of it is changed as the process is
@@ -25,6 +25,7 @@ record IsChanged (old new : Index) (rows : List Stand) (p : ℕ) (s : Stand) : T
   lists : new.waits.lists ≡ old.waits.lists
   dues : new.dues ≡ set old.dues p (due_of s)
   unfinished : new.unfinished + number (is_unfinished (at rows p)) ≡ old.unfinished + number (is_unfinished s)
+  created : new.created + number (is_created (at rows p)) ≡ old.created + number (is_created s)
   ending : new.ending + number (may_end (at rows p)) ≡ old.ending + number (may_end s)
 
 same-count : (a b c d x y : ℕ) → a + x ≡ c + y → c ≡ d → b + x ≡ d + y → a ≡ b
@@ -39,6 +40,7 @@ changed-index rows new p s ix ix' lt is h c = subst (λ v. IsIndexed v ix') (sym
   lists = c.lists ∙ h.lists;
   dues = c.dues ∙ ap (λ v. set v p (due_of s)) h.dues ∙ sym (map-set due_of rows p s);
   unfinished = same-count ix'.unfinished (count_of is_unfinished (set rows p s)) ix.unfinished (count_of is_unfinished rows) (number (is_unfinished (at rows p))) (number (is_unfinished s)) c.unfinished h.unfinished (count-set is_unfinished rows p s lt);
+  created = same-count ix'.created (count_of is_created (set rows p s)) ix.created (count_of is_created rows) (number (is_created (at rows p))) (number (is_created s)) c.created h.created (count-set is_created rows p s lt);
   ending = same-count ix'.ending (count_of may_end (set rows p s)) ix.ending (count_of may_end rows) (number (may_end (at rows p))) (number (may_end s)) c.ending h.ending (count-set may_end rows p s lt);
 })
 
@@ -101,6 +103,7 @@ begun-index rows new p t why arms ix ix' lt ready is h b = changed-index rows ne
   lists = b.lists;
   dues = b.dues;
   unfinished = ap (λ n. n + number (is_unfinished (at rows p))) b.unfinished ∙ ap (λ s. ix.unfinished + number (is_unfinished s)) ready;
+  created = ap (λ n. n + number (is_created (at rows p))) b.created ∙ ap (λ s. ix.created + number (is_created s)) ready;
   ending =
       let none : number (may_end (at rows p)) ≡ 0 = ap (λ s. number (may_end s)) ready in
       let some : ix'.ending ≡ ix.ending + number (may_end (Waits why 0 [])) = b.ending ∙ ap (λ v. ix.ending + number v) (ends-same why t []) in
@@ -121,6 +124,13 @@ waiting-unfinished Is_idle h = absurd h
 waiting-unfinished Is_created h = absurd h
 waiting-unfinished Is_ready h = absurd h
 waiting-unfinished Is_done h = absurd h
+
+waiting-begun : (s : Stand) → IsWaiting s → is_created s ≡ false
+waiting-begun (Waits why ticket arms) h = refl
+waiting-begun Is_idle h = absurd h
+waiting-begun Is_created h = absurd h
+waiting-begun Is_ready h = absurd h
+waiting-begun Is_done h = absurd h
 
 waiting-unready : (s : Stand) → IsWaiting s → false ≡ is_ready s
 waiting-unready (Waits why ticket arms) h = refl
@@ -155,6 +165,7 @@ woken-index rows new p ends ix ix' lt waits may is h e ready unfinished = change
   lists = e.lists;
   dues = e.dues;
   unfinished = ap (λ n. n + number (is_unfinished (at rows p))) unfinished ∙ ap (λ b. ix.unfinished + number b) (waiting-unfinished (at rows p) waits);
+  created = ap (λ n. n + number (is_created (at rows p))) e.created ∙ ap (λ b. ix.created + number b) (waiting-begun (at rows p) waits);
   ending = let same : number ends ≡ number (may_end (at rows p)) = ap number may in let left : ix'.ending + number ends ≡ ix.ending = e.ending in omega (arith, same, left);
 })
 
@@ -167,6 +178,7 @@ ended-index rows new p ends ix ix' lt waits may is h e ready unfinished = change
   lists = e.lists;
   dues = e.dues;
   unfinished = let one : number (is_unfinished (at rows p)) ≡ 1 = ap number (waiting-unfinished (at rows p) waits) in omega (arith, one, unfinished);
+  created = ap (λ n. n + number (is_created (at rows p))) e.created ∙ ap (λ b. ix.created + number b) (waiting-begun (at rows p) waits);
   ending = let same : number ends ≡ number (may_end (at rows p)) = ap number may in let left : ix'.ending + number ends ≡ ix.ending = e.ending in omega (arith, same, left);
 })
 
@@ -183,8 +195,8 @@ undue rows ix p h none = kept ix.dues (moment-is rows ix p h ∙ none)
     kept : (ms : List (Option ℕ)) → moment_at ms p ≡ None → set ms p None ≡ ms
     kept ms e = ap (λ v. set ms p v) (sym e) ∙ set-get_or ms p None
 
-abbrev with_counts : Index → List Bool → ℕ → Index
-with_counts ix ready unfinished = record ix { ready = ready; unfinished = unfinished }
+abbrev with_counts : Index → List Bool → ℕ → ℕ → Index
+with_counts ix ready unfinished created = record ix { ready = ready; unfinished = unfinished; created = created }
 
 -- who is counted as unfinished is one of them
 pub some-unfinished : (rows : List Stand) (ix : Index) (p : ℕ) → p < length rows → at rows p ≡ Is_ready → IsIndexed rows ix → 0 < ix.unfinished
@@ -195,8 +207,8 @@ some-unfinished rows ix p lt ready h =
 
 -- a process that acted has finished
 pub finished-index : (rows new : List Stand) (p n : ℕ) (ix : Index) (ready : List Bool) → p < length rows → at rows p ≡ Is_ready → new ≡ set rows p Is_done
-    → IsIndexed rows ix → ready ≡ set ix.ready p false → n ≡ ix.unfinished - 1 → IsIndexed new (with_counts ix ready n)
-finished-index rows new p n ix ready lt was is h made count = changed-index rows new p Is_done ix (with_counts ix ready n) lt is h (record {
+    → IsIndexed rows ix → ready ≡ set ix.ready p false → n ≡ ix.unfinished - 1 → IsIndexed new (with_counts ix ready n ix.created)
+finished-index rows new p n ix ready lt was is h made count = changed-index rows new p Is_done ix (with_counts ix ready n ix.created) lt is h (record {
   bits = subst (λ v. IsReadySet (set rows p Is_done) v) (sym made) (ready-set rows ix.ready p Is_done false lt refl h.bits);
   members = sym (unlisted rows ix p h (ap member_of was));
   lists = refl;
@@ -205,6 +217,7 @@ finished-index rows new p n ix ready lt was is h made count = changed-index rows
       let one : number (is_unfinished (at rows p)) ≡ 1 = ap (λ s. number (is_unfinished s)) was in
       let some : 0 < ix.unfinished = some-unfinished rows ix p lt was h in
       omega (arith, one, some, count);
+  created = ap (λ s. ix.created + number (is_created s)) was;
   ending = ap (λ s. ix.ending + number (may_end s)) was;
 })
 
@@ -214,6 +227,13 @@ over-unready Is_done h = refl
 over-unready Is_created h = cc
 over-unready Is_ready h = cc
 over-unready (Waits why ticket arms) h = cc
+
+over-begun : (s : Stand) → is_unfinished s ≡ false → is_created s ≡ false
+over-begun Is_idle h = refl
+over-begun Is_done h = refl
+over-begun Is_created h = cc
+over-begun Is_ready h = cc
+over-begun (Waits why ticket arms) h = cc
 
 over-undue : (s : Stand) → is_unfinished s ≡ false → due_of s ≡ None
 over-undue Is_idle h = refl
@@ -237,14 +257,15 @@ over-stays Is_ready h = cc
 over-stays (Waits why ticket arms) h = cc
 
 -- a process is activated
-pub created-index : (rows new : List Stand) (p n : ℕ) (ix : Index) → p < length rows → is_unfinished (at rows p) ≡ false → new ≡ set rows p Is_created
-    → IsIndexed rows ix → n ≡ ix.unfinished + 1 → IsIndexed new (with_counts ix ix.ready n)
-created-index rows new p n ix lt was is h count = changed-index rows new p Is_created ix (with_counts ix ix.ready n) lt is h (record {
+pub created-index : (rows new : List Stand) (p n m : ℕ) (ix : Index) → p < length rows → is_unfinished (at rows p) ≡ false → new ≡ set rows p Is_created
+    → IsIndexed rows ix → n ≡ ix.unfinished + 1 → m ≡ ix.created + 1 → IsIndexed new (with_counts ix ix.ready n m)
+created-index rows new p n m ix lt was is h count more = changed-index rows new p Is_created ix (with_counts ix ix.ready n m) lt is h (record {
   bits = ready-kept rows ix.ready p Is_created (over-unready (at rows p) was) h.bits;
   members = sym (unlisted rows ix p h (over-free (at rows p) was));
   lists = refl;
   dues = sym (undue rows ix p h (over-undue (at rows p) was));
   unfinished = let none : number (is_unfinished (at rows p)) ≡ 0 = ap number was in omega (arith, none, count);
+  created = let none : number (is_created (at rows p)) ≡ 0 = ap number (over-begun (at rows p) was) in omega (arith, none, more);
   ending = let none : number (may_end (at rows p)) ≡ 0 = ap number (over-stays (at rows p) was) in omega (arith, none);
 })
 
@@ -279,8 +300,8 @@ idle-dues (suc n) = ap (λ v. None ∷ v) (idle-dues n)
 
 -- the index of a table that is made
 pub first-index : (n : ℕ) (ix : Index) → 0 < n → n ≤ 1024 → IsReadySet (Is_ready ∷ replicate (n - 1) Is_idle) ix.ready → ix.waits.members ≡ replicate n None → ix.waits.lists ≡ list_count
-    → ix.dues ≡ replicate n None → ix.unfinished ≡ 1 → ix.ending ≡ 0 → IsIndexed (Is_ready ∷ replicate (n - 1) Is_idle) ix
-first-index n ix some few bits members lists dues unfinished ending =
+    → ix.dues ≡ replicate n None → ix.unfinished ≡ 1 → ix.created ≡ 0 → ix.ending ≡ 0 → IsIndexed (Is_ready ∷ replicate (n - 1) Is_idle) ix
+first-index n ix some few bits members lists dues unfinished created ending =
     let e : n ≡ suc (n - 1) = omega (arith, some) in
     let long : length (replicate (n - 1) Is_idle) ≡ n - 1 = length-replicate (n - 1) Is_idle in
     record {
@@ -291,6 +312,7 @@ first-index n ix some few bits members lists dues unfinished ending =
       lists = lists;
       dues = dues ∙ ap (λ k. replicate k None) e ∙ ap (λ v. None ∷ v) (idle-dues (n - 1));
       unfinished = unfinished ∙ ap (λ k. suc k) (sym (count-idle is_unfinished refl (n - 1)));
+      created = created ∙ sym (count-idle is_created refl (n - 1));
       ending = ending ∙ sym (count-idle may_end refl (n - 1));
     }
 
@@ -327,7 +349,7 @@ map-same f same [] = refl
 map-same f same (s ∷ rest) = ap (λ v. v ∷ map f (map started rest)) (same s) ∙ ap (λ v. f s ∷ v) (map-same f same rest)
 
 abbrev with_ready : Index → List Bool → Index
-with_ready ix ready = record ix { ready = ready }
+with_ready ix ready = record ix { ready = ready; created = 0 }
 
 -- whoever was created is ready
 pub all-started-index : (rows new : List Stand) (ix : Index) (ready : List Bool) → new ≡ map started rows → IsReadySet new ready → IsIndexed rows ix → IsIndexed new (with_ready ix ready)
@@ -339,6 +361,7 @@ all-started-index rows new ix ready is bits h = record {
   lists = h.lists;
   dues = h.dues ∙ sym (map-same due_of started-due rows) ∙ ap (map due_of) (sym is);
   unfinished = h.unfinished ∙ sym (count-map is_unfinished started started-unfinished rows) ∙ ap (count_of is_unfinished) (sym is);
+  created = sym (none-created rows) ∙ ap (count_of is_created) (sym is);
   ending = h.ending ∙ sym (count-map may_end started started-end rows) ∙ ap (count_of may_end) (sym is);
 }
 
@@ -347,6 +370,14 @@ pub room-unfinished : (rows : List Stand) (ix : Index) → IsIndexed rows ix →
 room-unfinished rows ix h =
     let le : count_of is_unfinished rows ≤ length rows = count-most is_unfinished rows in
     let e : ix.unfinished ≡ count_of is_unfinished rows = h.unfinished in
+    let few : length rows ≤ 1024 = h.few in
+    omega (arith, le, e, few)
+
+-- there is room for one more that is created
+pub room-created : (rows : List Stand) (ix : Index) → IsIndexed rows ix → ix.created ≤ 1024
+room-created rows ix h =
+    let le : count_of is_created rows ≤ length rows = count-most is_created rows in
+    let e : ix.created ≡ count_of is_created rows = h.created in
     let few : length rows ≤ 1024 = h.few in
     omega (arith, le, e, few)
 

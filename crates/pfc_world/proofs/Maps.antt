@@ -1,6 +1,5 @@
 -- Every standing changes by one rule, and the table with it.
 use Rattle.std.proofs.Common.{◌≡◌, ℕ, ◌+◌, ◌<◌, ◌≤◌, Bool, true, false, ◌||◌, Option, Some, List, [], ◌∷◌, ◌++◌, length, get_or, map, take, drop, refl, sym, ap, ◌∙◌, subst, cond}
-use Rattle.std.specs.List.{list_any}
 use Rattle.std.proofs.lemmas.List.{length-map, get_or-map, take_at}
 use Rattle.std.proofs.Math.ListN.{get_or-map as at-map}
 use Rattle.pfc_state.specs.Seats.{Seat}
@@ -92,10 +91,6 @@ pub written : (change : Stand → Stand) (xs ys : List Seat) (n : ℕ) → n ≡
     → take n (ys ++ drop (length ys) xs) ≡ map (seat_by change) xs
 written change xs ys n len made =
     take_at ys (drop (length ys) xs) n (ap length made ∙ length-map xs (seat_by change) ∙ sym len) ∙ made
-
-pub list_any-stands : (test : Stand → Bool) (seats : List Seat) → list_any (λ seat. test seat.stand) seats ≡ list_any test (stands seats)
-list_any-stands test [] = refl
-list_any-stands test (s ∷ rest) = ap (λ b. test s.stand || b) (list_any-stands test rest)
 
 -- `woken_now`
 pub wakes : (seats : List Seat) (a : Option ℕ) (d m room : ℕ) (w : Table)

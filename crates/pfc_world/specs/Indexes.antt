@@ -3,7 +3,7 @@ use Rattle.std.specs.Prelude.{ℕ, suc, ◌+◌, ◌<◌, ◌≤◌, ◌≡◌, 
 use Rattle.pfc_links.specs.Members.{Lists, member_at, in_list}
 use Rattle.pfc_moments.specs.Moments.{moment_at}
 use Rattle.pfc_state.specs.declared.waits.Why.{Why}
-use Rattle.pfc_state.specs.Stands.{Stand, Waits, is_ready, due_of, is_unfinished, may_end}
+use Rattle.pfc_state.specs.Stands.{Stand, Waits, is_ready, is_created, due_of, is_unfinished, may_end}
 use Rattle.pfc_world.specs.declared.index.Index.{Index}
 use Rattle.pfc_world.specs.Lists.{list_count, list_of, member_of}
 use Rattle.pfc_world.specs.Tables.{at}
@@ -27,7 +27,7 @@ count_of holds [] = 0
 count_of holds (stand ∷ rest) = one_more (holds stand) (count_of holds rest)
 
 -- What is kept beside the rows is what they say: who is ready, who waits in which list, who is due, how many are
--- unfinished, and how many wait in a select with an open `terminate`.
+-- unfinished, how many are created, and how many wait in a select with an open `terminate`.
 pub record IsIndexed (rows : List Stand) (index : Index) : Type 0 where
   pub some : 0 < length rows
   pub few : length rows ≤ 1024
@@ -36,6 +36,7 @@ pub record IsIndexed (rows : List Stand) (index : Index) : Type 0 where
   pub lists : index.waits.lists ≡ list_count
   pub dues : index.dues ≡ map due_of rows
   pub unfinished : index.unfinished ≡ count_of is_unfinished rows
+  pub created : index.created ≡ count_of is_created rows
   pub ending : index.ending ≡ count_of may_end rows
 
 -- the lists are those of the processes that wait
@@ -62,6 +63,7 @@ pub record BeginsWait (old new : Index) (p : ℕ) (why : Why) (ticket : ℕ) : T
   pub lists : new.waits.lists ≡ old.waits.lists
   pub dues : new.dues ≡ set old.dues p (due_of (Waits why ticket []))
   pub unfinished : new.unfinished ≡ old.unfinished
+  pub created : new.created ≡ old.created
   pub ending : new.ending ≡ old.ending + number (may_end (Waits why ticket []))
 
 -- Process p is in a list, and it is counted where its wait has an open `terminate`.
@@ -78,4 +80,5 @@ pub record EndsWait (old new : Index) (p : ℕ) (ends : Bool) : Type 0 where
   pub members : new.waits.members ≡ set old.waits.members p None
   pub lists : new.waits.lists ≡ old.waits.lists
   pub dues : new.dues ≡ set old.dues p None
+  pub created : new.created ≡ old.created
   pub ending : new.ending + number ends ≡ old.ending

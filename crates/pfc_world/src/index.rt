@@ -13,13 +13,14 @@ use pfc_moments::Moments;
 use std::alloc::Global;
 
 /// Who is ready; who waits in which list; who is due, and when; how many processes are unfinished, main included;
-/// and how many wait in a select with an open `terminate`.
+/// how many of these are created and wait to be started; and how many wait in a select with an open `terminate`.
 #[derive(Drop)]
 pub(crate) struct Index {
     pub(crate) ready: Numbers,
     pub(crate) waits: Links,
     pub(crate) dues: Moments,
     pub(crate) unfinished: u32,
+    pub(crate) created: u32,
     pub(crate) ending: u32,
 }
 
@@ -37,6 +38,7 @@ impl Index {
             waits: Links::new(alloc, n, LISTS)?,
             dues: Moments::new(alloc, n)?,
             unfinished: 1,
+            created: 0,
             ending: 0,
         })
     }

@@ -6,11 +6,11 @@ ghost use Rattle.pfc_state.specs.Waits.{is_select, place_of_arm};
 ghost use Rattle.pfc_world.specs.Coend.{IsAtCoend};
 ghost use Rattle.pfc_world.specs.Firsts.{offer_at};
 ghost use Rattle.pfc_world.specs.Sought.{key_of};
-ghost use Rattle.pfc_world.specs.Tables.{at, start_table, some_ready, some_created};
+ghost use Rattle.pfc_world.specs.Tables.{at, start_table, some_ready};
 ghost use Rattle.pfc_world.specs.Tickets.{AreTickets, IsNew};
 ghost use Rattle.pfc_world.specs.Transitions.{begun, rested, placed, blocked, is_released, released, ended, finished, all_started, ticked, IsCreation};
 
-use crate::walks::{Sought, any_created, start_all, ticket_of};
+use crate::walks::{Sought, start_all, ticket_of};
 use crate::{Arm, Offer, Running, State, Why};
 use pfc_base::{Memory, RunFault};
 use pfc_state::Row;
@@ -292,12 +292,6 @@ impl Rows {
     {
         let row = &self.rows[p as usize];
         row.rank_on(condition)
-    }
-
-    pub(crate) fn some_created(&self) -> bool
-        ensures { result ≡ some_created self.now.rows }
-    {
-        any_created(&self.rows)
     }
 
     pub(crate) fn give_up(&mut self, r: Running)

@@ -1,7 +1,6 @@
 //! Walks over the rows of the table.
 ghost use Rattle.std.specs.Prelude.{◌≡◌, map};
-ghost use Rattle.std.specs.List.{list_any};
-ghost use Rattle.pfc_state.specs.Stands.{is_created, started};
+ghost use Rattle.pfc_state.specs.Stands.{started};
 ghost use Rattle.pfc_world.specs.Rows.{seat_by};
 ghost use Rattle.pfc_world.specs.Sought.{key_of};
 
@@ -16,12 +15,6 @@ pub(crate) enum Sought {
     Offering(Arm),
     /// who are barred at the resource, with a ticket above `after`
     BarredAt { resource: u32, after: Option<u64> },
-}
-
-pub(crate) fn any_created(rows: &[Row]) -> bool
-    ensures { result ≡ list_any (λ seat. is_created seat.stand) rows.now }
-{
-    rows.iter().any(|row| row.is_created())
 }
 
 /// Who is created is ready.

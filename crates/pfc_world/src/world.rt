@@ -204,6 +204,7 @@ impl World {
     {
         self.rows.create(p)?;
         self.index.unfinished += 1;
+        self.index.created += 1;
         Ok(())
     }
 
@@ -431,7 +432,7 @@ impl World {
     fn some_created(&self) -> bool
         ensures { result ≡ some_created self.now.rows }
     {
-        self.rows.some_created()
+        self.index.created > 0
     }
 
     fn start_created(&mut self)
@@ -439,6 +440,7 @@ impl World {
     {
         self.rows.start_created();
         show_ready(&self.rows, &mut self.index.ready);
+        self.index.created = 0;
     }
 
     /// Whoever's due moment has come is ready, one after the other.

@@ -31,7 +31,7 @@ impl Trial {
         for p in 1..MOST {
             trial.create(p);
         }
-        trial.start();
+        let _ = trial.coend(0);
         Ok(trial)
     }
 
@@ -52,14 +52,28 @@ impl Trial {
             && self.world.now() < LATEST
     }
 
-    fn start(&mut self) {
-        if self.may_act(0) {
-            self.world.tick();
-            let main = self.world.begin(0);
-            match self.world.coend(main) {
-                After::Goes(r) => self.world.rest(r),
-                After::Waits => {}
+    /// The process is at `coend`, in an action of its own, where it is ready: whether it waits there.
+    fn coend(&mut self, p: u32) -> bool {
+        if !self.may_act(p) {
+            return false;
+        }
+        self.world.tick();
+        let r = self.world.begin(p);
+        match self.world.coend(r) {
+            After::Goes(r) => {
+                self.world.rest(r);
+                false
             }
+            After::Waits => true,
+        }
+    }
+
+    /// The process finishes, in an action of its own, where it is ready.
+    fn finish(&mut self, p: u32) {
+        if self.may_act(p) {
+            self.world.tick();
+            let r = self.world.begin(p);
+            self.world.finish(r);
         }
     }
 
@@ -125,6 +139,24 @@ fn waits_end_in_order(rt: HostRuntime) -> Result<(), Fail> {
     held = held
         && trial.world.first_at(SEMAPHORE).is_none()
         && trial.world.ready_count() == MOST - 1;
+    assert!(rt; held);
+    Ok(())
+}
+
+#[test]
+fn only_created_children_are_started(rt: HostRuntime) -> Result<(), Fail> {
+    let mut trial = Trial::new(rt.alloc())?;
+    let mut held = true;
+    for p in 1..200 {
+        trial.finish(p);
+        held = held && !trial.coend(1000);
+        trial.create(p);
+        // both of these are refused, and not counted
+        trial.create(p);
+        trial.create(p + 1);
+        held = held && !trial.may_act(p) && trial.coend(p + 500) && trial.may_act(p);
+        held = held && !trial.coend(1000);
+    }
     assert!(rt; held);
     Ok(())
 }

@@ -6,4 +6,4 @@ pub returns : goal.returns
 returns c =
     first-index c.args.n _ c.requires.some c.requires.few
     (started-set c.args.n c.in_ok-ready.ready c.put.new.self c.requires.some c.in_ok-ready.ensures.room c.in_ok-ready.ensures.empty c.put.ensures)
-    (ap (λ v. v.members) c.in_ok-new.ensures) (ap (λ v. v.lists) c.in_ok-new.ensures) c.in_ok-new-2.ensures refl refl
+    (ap (λ v. v.members) c.in_ok-new.ensures) (ap (λ v. v.lists) c.in_ok-new.ensures) c.in_ok-new-2.ensures refl refl refl

@@ -1,0 +1,4 @@
+pub mod Delays
+pub mod Going
+pub mod Meeting
+pub mod Opens

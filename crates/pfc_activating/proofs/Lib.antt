@@ -1,0 +1,3 @@
+pub mod Activated
+pub mod Calling
+pub mod Ended

@@ -1,0 +1,10 @@
+use Rattle.std.proofs.Common.{List, refl, subst}
+use Rattle.pfc_pending.specs.declared.pending.Argument.{Argument}
+use Rattle.pfc_activating.specs.declared.entering.Waits.TheVariants as waits
+use Rattle.pfc_activating.specs.Calling.{IsCalled}
+use Rattle.pfc_activating.proofs.calls.calls_procedure.Goals as goal
+
+pub returns-in-Ok-clause-ok : goal.returns-in-Ok-clause-ok
+returns-in-Ok-clause-ok c = λ g c' choice a program is_at.
+    subst (λ (l : List Argument). IsCalled c.args.source.now c.args.state.now c.called.new.state c.args.p c.args.scope waits.Statement l c.in-Ok.done)
+    c.deref.ensures.value c.in-Ok.ensures.ok g c' choice a _ program is_at refl refl

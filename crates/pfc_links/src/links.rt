@@ -89,6 +89,14 @@ impl Links {
         self.process(self.previous[p as usize])
     }
 
+    /// Whether a process is in a list.
+    pub fn is_member(&self, p: u32) -> bool
+        requires { p < length self.now.members }
+        ensures { result ≡ is_some (member_at self.now.members p) }
+    {
+        self.members[p as usize].is_some()
+    }
+
     /// A process that is in no list is the last of this one from now on. Its ticket is above all others there.
     pub fn append(&mut self, p: u32, list: u32, ticket: u64)
         requires process { p < length self.old.members }

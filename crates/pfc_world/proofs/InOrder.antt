@@ -9,10 +9,10 @@ use Rattle.pfc_links.specs.Members.{IsFirst as IsFirstIn, IsLast as IsLastIn}
 use Rattle.pfc_state.specs.declared.waits.Arm.{Arm}
 use Rattle.pfc_state.specs.declared.waits.Why.{Why}
 use Rattle.pfc_state.specs.declared.waits.Why.TheVariants.{Coend, Semaphore, Send, Receive, Call, Meeting, Accept, Select, Enter, Condition, Resumer, Entrant, Barred, Sleep}
-use Rattle.pfc_state.specs.Stands.{Stand, Is_idle, Is_created, Is_ready, Waits, Is_done, ticket_of, is_above, ticket_offering, ticket_barred}
-use Rattle.pfc_state.specs.Waits.{same_why, has_arm}
+use Rattle.pfc_state.specs.Stands.{Stand, Is_idle, Is_created, Is_ready, Waits, Is_done, ticket_of, is_above, ticket_barred}
+use Rattle.pfc_state.specs.Waits.{same_why}
 use Rattle.pfc_world.specs.declared.walks.Sought.{Sought}
-use Rattle.pfc_world.specs.declared.walks.Sought.TheVariants.{At, Offering, BarredAt}
+use Rattle.pfc_world.specs.declared.walks.Sought.TheVariants.{At, BarredAt}
 use Rattle.pfc_world.specs.Firsts.{IsFirst, IsLast, IsNobody, GivesTickets}
 use Rattle.pfc_world.specs.Indexes.{AreListed}
 use Rattle.pfc_world.specs.Lists.{list_at, list_of, member_of}
@@ -59,11 +59,6 @@ given : (b : Bool) (ticket t : ℕ) → cond b (Some ticket) None ≡ Some t →
 given true ticket t h = cc
 given false ticket t h = cc
 
-offering-listed : (arm : Arm) (why : Why) (ticket : ℕ) (arms : List Arm) (t : ℕ) → ticket_offering arm (Waits why ticket arms) ≡ Some t
-    → member_of (Waits why ticket arms) ≡ in_list (list_at 7 0) t
-offering-listed arm (Select due terminate) ticket arms t h = ap (λ n. in_list (list_at 7 0) n) (given (has_arm arm arms) ticket t h)
-offering-listed arm _ ticket arms t h = no-ticket _ t h
-
 barred-listed : (resource : ℕ) (after : Option ℕ) (why : Why) (ticket : ℕ) (arms : List Arm) (t : ℕ) → ticket_barred resource after (Waits why ticket arms) ≡ Some t
     → member_of (Waits why ticket arms) ≡ in_list (list_at 12 resource) t
 barred-listed resource after (Barred g procedure) ticket arms t h =
@@ -79,11 +74,6 @@ sought-listed (At why) Is_idle t h = no-ticket _ t h
 sought-listed (At why) Is_created t h = no-ticket _ t h
 sought-listed (At why) Is_ready t h = no-ticket _ t h
 sought-listed (At why) Is_done t h = no-ticket _ t h
-sought-listed (Offering arm) (Waits why ticket arms) t h = offering-listed arm why ticket arms t h
-sought-listed (Offering arm) Is_idle t h = no-ticket _ t h
-sought-listed (Offering arm) Is_created t h = no-ticket _ t h
-sought-listed (Offering arm) Is_ready t h = no-ticket _ t h
-sought-listed (Offering arm) Is_done t h = no-ticket _ t h
 sought-listed (BarredAt resource after) (Waits why ticket arms) t h = barred-listed resource after why ticket arms t h
 sought-listed (BarredAt resource after) Is_idle t h = no-ticket _ t h
 sought-listed (BarredAt resource after) Is_created t h = no-ticket _ t h

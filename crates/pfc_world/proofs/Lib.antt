@@ -10,7 +10,9 @@ pub mod Indexes
 pub mod Kept
 pub mod Maps
 pub mod Nobody
+pub mod OfferLists
 pub mod Offering
+pub mod Offerers
 pub mod Open
 pub mod Ranking
 pub mod Ranks

@@ -6,6 +6,7 @@ pub mod Holders
 pub mod Indexes
 pub mod Lists
 pub mod Monitors
+pub mod Offers
 pub mod Partnering
 pub mod Partners
 pub mod Ready

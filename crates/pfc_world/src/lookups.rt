@@ -1,15 +1,18 @@
 //! Who is first, and who is last, among those who wait: walks along one list.
 ghost use Rattle.std.specs.Prelude.{◌≡◌, ◌<◌, length, IfSome, MatchOption};
-ghost use Rattle.pfc_state.specs.Stands.{IsWaiting};
+ghost use Rattle.pfc_state.specs.Stands.{IsWaiting, ticket_offering};
 ghost use Rattle.pfc_world.specs.Firsts.{first, last, lesser_rank, least_rank, IsFirst, IsLast, IsNobody};
 ghost use Rattle.pfc_world.specs.Indexes.{AreListed};
 ghost use Rattle.pfc_world.specs.Lists.{list_count};
+ghost use Rattle.pfc_world.specs.Offers.{AreOffered};
 ghost use Rattle.pfc_world.specs.Sought.{key_of, list_sought};
 ghost use Rattle.pfc_world.specs.Tables.{at};
 
-use crate::lists::{list_of, list_of_barred, list_of_condition, list_of_selects};
+use crate::Arm;
+use crate::lists::{list_of, list_of_barred, list_of_condition};
 use crate::rows::Rows;
 use crate::walks::Sought;
+use pfc_alternatives::Alternatives;
 use pfc_links::Links;
 
 /// The process of least ticket among those that are sought.
@@ -28,6 +31,27 @@ pub(crate) fn first_of(rows: &Rows, waits: &Links, sought: Sought) -> Option<u32
             return Some(p);
         }
         next = waits.next(p);
+    }
+    None
+}
+
+/// The process of least ticket among those that wait in a select with this alternative.
+pub(crate) fn first_offering(rows: &Rows, offers: &Alternatives, arm: Arm) -> Option<u32>
+    requires { AreOffered rows.now.rows offers.now }
+    ensures first { result ≡ first (ticket_offering arm) rows.now.rows }
+    ensures found { MatchOption result (IsNobody (ticket_offering arm) rows.now.rows) (IsFirst (ticket_offering arm) rows.now.rows) }
+    ensures waits { IfSome result (λ p. IsWaiting (at rows.now.rows p)) }
+    ensures within { IfSome result (λ p. p < length rows.now.rows) }
+{
+    // this also tells that no two tickets are equal
+    let _done = rows.done();
+    let mut next = offers.first(arm);
+    while let Some(node) = next {
+        let p = offers.process_of(node);
+        if rows.offers(p, arm) {
+            return Some(p);
+        }
+        next = offers.next(node);
     }
     None
 }
@@ -85,7 +109,6 @@ fn list_sought(sought: Sought) -> u32
 {
     match sought {
         Sought::At(why) => list_of(why),
-        Sought::Offering(_) => list_of_selects(),
         Sought::BarredAt { resource, .. } => list_of_barred(resource),
     }
 }

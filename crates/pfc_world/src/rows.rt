@@ -1,7 +1,7 @@
 //! The rows of the table: what each process stands at, who acts, the number of actions done, and the clock.
 ghost use Rattle.std.specs.Prelude.{◌≡◌, ℕ, ◌+◌, ◌*◌, ◌^◌, ◌<◌, ◌≤◌, true, false, None, Some, Option, [], length, map, is_some, IfOk, IfSome, MatchOption};
 ghost use Rattle.pfc_state.specs.declared.waits.Why.{Why};
-ghost use Rattle.pfc_state.specs.Stands.{Is_ready, Waits, Is_done, IsWaiting, is_ready, is_unfinished, is_at_coend, state_of, ticket_of, arms_of, may_end, rank_on};
+ghost use Rattle.pfc_state.specs.Stands.{Is_ready, Waits, Is_done, IsWaiting, is_ready, is_unfinished, is_at_coend, state_of, ticket_of, arms_of, may_end, rank_on, ticket_offering};
 ghost use Rattle.pfc_state.specs.Waits.{is_select, place_of_arm};
 ghost use Rattle.pfc_world.specs.Coend.{IsAtCoend};
 ghost use Rattle.pfc_world.specs.Firsts.{offer_at};
@@ -274,6 +274,23 @@ impl Rows {
             }),
             None => None,
         }
+    }
+
+    /// Whether a process waits in a select with this alternative.
+    pub(crate) fn offers(&self, p: u32, arm: Arm) -> bool
+        requires { p < length self.now.rows }
+        ensures { result ≡ is_some (ticket_offering arm (at self.now.rows p)) }
+    {
+        let row = &self.rows[p as usize];
+        row.ticket_offering(arm).is_some()
+    }
+
+    /// How many alternatives a process offers.
+    pub(crate) fn arm_count(&self, p: u32) -> usize
+        requires { p < length self.now.rows }
+        ensures { result ≡ length (arms_of (at self.now.rows p)) }
+    {
+        self.arms(p).len()
     }
 
     /// Whether a process is sought.

@@ -4,15 +4,13 @@ ghost use Rattle.pfc_state.specs.Stands.{started};
 ghost use Rattle.pfc_world.specs.Rows.{seat_by};
 ghost use Rattle.pfc_world.specs.Sought.{key_of};
 
-use pfc_state::{Arm, Row, Why};
+use pfc_state::{Row, Why};
 
 /// Which processes a walk looks for.
 #[derive(Clone, Copy)]
 pub(crate) enum Sought {
     /// whose wait is this one
     At(Why),
-    /// who wait in a select with this alternative
-    Offering(Arm),
     /// who are barred at the resource, with a ticket above `after`
     BarredAt { resource: u32, after: Option<u64> },
 }
@@ -32,7 +30,6 @@ pub(crate) fn ticket_of(row: &Row, sought: Sought) -> Option<u64>
 {
     match sought {
         Sought::At(why) => row.ticket_at(why),
-        Sought::Offering(arm) => row.ticket_offering(arm),
         Sought::BarredAt { resource, after } => row.ticket_barred(resource, after),
     }
 }

@@ -13,10 +13,11 @@ ghost use Rattle.pfc_world.specs.Tickets.{AreTickets, IsNew};
 ghost use Rattle.pfc_world.specs.Transitions.{begun, rested, placed, blocked, is_released, released, ended, finished, all_started, ticked, IsCreation};
 
 use crate::index::Index;
-use crate::lookups::{first_of, last_of, least_rank_of};
+use crate::lookups::{first_of, first_offering, last_of, least_rank_of};
 use crate::rows::Rows;
 use crate::walks::Sought;
 use crate::{After, Arm, Offer, Running, Settled, State, Why};
+use pfc_alternatives::Alternatives;
 use pfc_base::{Memory, RunFault};
 use pfc_lists::Numbers;
 use std::alloc::Global;
@@ -29,17 +30,19 @@ use std::marker::Model;
 pub struct World {
     pub(crate) rows: Rows,
     pub(crate) index: Index,
+    /// who waits in selects, by alternatives
+    offers: Alternatives,
 }
 
 impl Model for World {
     ghost use Rattle.pfc_world.specs.Tables.{Table};
-    ghost use Rattle.pfc_world.specs.Indexes.{IsIndexed};
+    ghost use Rattle.pfc_world.specs.Offers.{IsKept};
 
     ghost Value = { Table };
 
     ghost view = { λ w. w.rows };
 
-    ghost invariant = { λ w. IsIndexed w.rows.rows w.index };
+    ghost invariant = { λ w. IsKept w.rows w.index w.offers };
 }
 
 impl World {
@@ -54,6 +57,7 @@ impl World {
         Ok(World {
             rows: Rows::with_processes(alloc, n, arms)?,
             index: Index::new(alloc, n)?,
+            offers: Alternatives::new(alloc, n, arms)?,
         })
     }
 
@@ -162,6 +166,7 @@ impl World {
         let p = r.number();
         let ticket = self.rows.done() + 1;
         self.rows.block_select(r, arms, due, terminate);
+        self.offers.offer(p, arms, ticket);
         let why = Why::Select { due, terminate };
         self.index.begin_wait(p, why, ticket);
     }
@@ -183,8 +188,10 @@ impl World {
         ensures fresh { IsNew self.old.rows self.old.done → IsNew self.new.rows self.new.done }
     {
         let ends = self.rows.may_end(p);
+        let arms = self.rows.arm_count(p);
         self.rows.wake(p);
         self.index.wake(p, ends);
+        self.offers.withdraw(p, arms);
     }
 
     /// A process that waits in a select with `terminate` finishes there; main is ready where it waits at
@@ -306,7 +313,7 @@ impl World {
         ensures waits { IfSome result (λ offer. IsWaiting (at self.now.rows offer.process)) }
         ensures within { IfSome result (λ offer. offer.process < length self.now.rows) }
     {
-        match first_of(&self.rows, &self.index.waits, Sought::Offering(arm)) {
+        match first_offering(&self.rows, &self.offers, arm) {
             Some(p) => self.offer_at(p, arm),
             None => None,
         }
@@ -425,8 +432,10 @@ impl World {
         ensures { self.new ≡ placed self.old p Is_done }
     {
         let ends = self.rows.may_end(p);
+        let arms = self.rows.arm_count(p);
         self.rows.end(p);
         self.index.end(p, ends);
+        self.offers.withdraw(p, arms);
     }
 
     fn some_created(&self) -> bool

@@ -6,7 +6,7 @@ ghost use Rattle.pfc_world.specs.Tables.{at};
 ghost use Rattle.pfc_state.specs.Waits.{is_select};
 
 use pfc_base::Memory;
-use pfc_world::{After, Arm, Offer, State, Why, World};
+use pfc_world::{After, Arm, Offer, Partner, State, Why, World};
 use std::alloc::Global;
 use std::test::Fail;
 
@@ -373,6 +373,151 @@ fn alternatives_at_one_channel(rt: HostRuntime) -> Result<(), Fail> {
         held = held
             && trial.world.first_offer(Arm::Receive(0)) == *receives
             && trial.world.first_offer(Arm::Send(0)) == *sends;
+    }
+    assert!(rt; held);
+    Ok(())
+}
+
+/// A process that is met in a select, or in a plain statement.
+fn met(process: u32, alternative: Option<u32>) -> Option<Partner> {
+    Some(Partner {
+        process,
+        alternative,
+    })
+}
+
+#[test]
+fn partners_at_one_channel_in_turn(rt: HostRuntime) -> Result<(), Fail> {
+    let mut trial = Trial::new(rt.alloc())?;
+    // selects and plain waits by turns; channels 3 and 67 share a list, and so do two alternatives of process 7
+    trial.select(5, &[Arm::Send(3), Arm::Receive(67)], None);
+    trial.select(6, &[Arm::Receive(3), Arm::Accept(3)], None);
+    trial.wait(2, Why::Receive(3));
+    trial.select(
+        7,
+        &[
+            Arm::Receive(67),
+            Arm::Accept(0),
+            Arm::Receive(3),
+            Arm::Receive(3),
+        ],
+        None,
+    );
+    trial.wait(1, Why::Receive(3));
+    trial.select(8, &[Arm::Receive(3)], Some(900_000));
+    let mut held = trial.world.first_open_to(Arm::Receive(67)) == met(5, Some(1))
+        && trial.world.first_open_to(Arm::Accept(3)) == met(6, Some(1))
+        && trial.world.first_open_to(Arm::Send(67)).is_none();
+    let turns = [
+        (6, met(6, Some(0))),
+        (2, met(2, None)),
+        (8, met(7, Some(2))),
+        (7, met(7, Some(2))),
+        (1, met(1, None)),
+    ];
+    for (p, partner) in turns.iter() {
+        held = held && trial.world.first_open_to(Arm::Receive(3)) == *partner;
+        trial.free(*p);
+    }
+    held = held && trial.world.first_open_to(Arm::Receive(3)).is_none();
+    assert!(rt; held);
+    Ok(())
+}
+
+#[test]
+fn a_select_withdrawn_from_the_middle(rt: HostRuntime) -> Result<(), Fail> {
+    let mut trial = Trial::new(rt.alloc())?;
+    let mut held = true;
+    for p in 1..MOST {
+        trial.select(p, &[Arm::Receive(0), Arm::Send(1), Arm::Receive(0)], None);
+    }
+    trial.free(512);
+    trial.select(512, &[Arm::Send(1), Arm::Accept(0)], None);
+    for p in 1..MOST {
+        let receiver = trial.world.first_offer(Arm::Receive(0));
+        let sender = trial.world.first_offer(Arm::Send(1));
+        held = held
+            && (p == 512 || receiver == Some(Offer { process: p, arm: 0 }))
+            && (p == 512 || sender == Some(Offer { process: p, arm: 1 }));
+        if p != 512 {
+            trial.free(p);
+        }
+    }
+    held = held
+        && trial.world.first_offer(Arm::Receive(0)).is_none()
+        && trial.world.first_offer(Arm::Send(1))
+            == Some(Offer {
+                process: 512,
+                arm: 0,
+            })
+        && trial.world.first_offer(Arm::Accept(0))
+            == Some(Offer {
+                process: 512,
+                arm: 1,
+            });
+    assert!(rt; held);
+    Ok(())
+}
+
+/// A wait in a select with two alternatives, as the plain list has it.
+#[derive(Clone, Copy)]
+struct PlainSelect {
+    arms: [Arm; 2],
+    ticket: u64,
+}
+
+/// The process of least ticket that waits with the alternative, by the plain list, and its first place there.
+fn offer_sought(waits: &[Option<PlainSelect>; 64], arm: Arm) -> Option<Offer> {
+    let mut least = LATEST;
+    let mut found = None;
+    for (p, wait) in waits.iter().enumerate() {
+        if let Some(wait) = *wait {
+            if wait.ticket < least && (wait.arms[0] == arm || wait.arms[1] == arm) {
+                least = wait.ticket;
+                found = Some(Offer {
+                    process: p as u32,
+                    arm: u32::from(wait.arms[0] != arm),
+                });
+            }
+        }
+    }
+    found
+}
+
+/// An alternative. Channel 0 shares its list with channel 64, and no channel with an entry.
+fn alternative(word: u64) -> Arm {
+    let number = (word / 3 % 3 * 32) as u32;
+    match word % 3 {
+        0 => Arm::Send(number),
+        1 => Arm::Receive(number),
+        _ => Arm::Accept(number),
+    }
+}
+
+#[test]
+fn random_selects_are_those_of_a_plain_list(rt: HostRuntime) -> Result<(), Fail> {
+    let mut trial = Trial::new(rt.alloc())?;
+    let mut waits: [Option<PlainSelect>; 64] = [None; 64];
+    let mut word: u64 = 1;
+    let mut held = true;
+    for _i in 0..3000 {
+        word = word.wrapping_mul(75) % 65537;
+        let p = (word % 64) as u32;
+        let arms = [alternative(word / 64), alternative(word / 640)];
+        if p > 0 && waits[p as usize].is_none() {
+            trial.select(p, &arms, None);
+            waits[p as usize] = Some(PlainSelect {
+                arms,
+                ticket: trial.world.done(),
+            });
+        } else if p > 0 {
+            trial.free(p);
+            waits[p as usize] = None;
+        }
+        for kind in 0..9 {
+            let arm = alternative(kind);
+            held = held && trial.world.first_offer(arm) == offer_sought(&waits, arm);
+        }
     }
     assert!(rt; held);
     Ok(())

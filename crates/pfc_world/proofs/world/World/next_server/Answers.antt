@@ -9,13 +9,13 @@ use Rattle.pfc_world.proofs.world.World.next_server.Goals as goal
 
 pub returns-in_default : goal.returns-in_default
 returns-in_default c =
-    let listed : AreListed c.self.inside.rows.rows c.self.inside.index.waits = record { members = c.self.invariant.waits; count = c.self.invariant.lists } in
+    let listed : AreListed c.self.inside.rows.rows c.self.inside.index.waits = record { members = c.self.invariant.indexed.waits; count = c.self.invariant.indexed.lists } in
     let empty : IsEmpty c.self.inside.index.waits.members (list_at 7 0) = subst (λ n. IsEmpty c.self.inside.index.waits.members n) c.list_of_selects.ensures.list c.in_default.ensures in
     subst (λ w. IsNoServer w.rows) c.self.view_is (no-server c.self.inside.rows.rows c.self.inside.index.waits listed empty)
 
 pub returns-then-first-eq0 : goal.returns-then-first-eq0
 returns-then-first-eq0 c =
-    let listed : AreListed c.self.inside.rows.rows c.self.inside.index.waits = record { members = c.self.invariant.waits; count = c.self.invariant.lists } in
+    let listed : AreListed c.self.inside.rows.rows c.self.inside.index.waits = record { members = c.self.invariant.indexed.waits; count = c.self.invariant.indexed.lists } in
     let first : IsFirst c.self.inside.index.waits.members (list_at 7 0) 0 =
     subst (λ p. IsFirst c.self.inside.index.waits.members (list_at 7 0) p) c.if-first-eq0.true
     (subst (λ n. IsFirst c.self.inside.index.waits.members n c.in-Some.first) c.list_of_selects.ensures.list c.in-Some.ensures) in

@@ -4,4 +4,4 @@ use Rattle.pfc_world.proofs.Counting.{created-some}
 use Rattle.pfc_world.proofs.world.World.some_created.Goals as goal
 
 pub returns : goal.returns
-returns c = created-some c.self.inside.rows.rows c.self.inside.index.created c.self.invariant.created ∙ ap (λ w. some_created w.rows) c.self.view_is
+returns c = created-some c.self.inside.rows.rows c.self.inside.index.created c.self.invariant.indexed.created ∙ ap (λ w. some_created w.rows) c.self.view_is

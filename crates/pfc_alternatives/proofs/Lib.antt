@@ -1,0 +1,3 @@
+mod All
+mod One
+mod Places

@@ -1,0 +1,38 @@
+//! How many objects of a kind there are.
+ghost use Rattle.std.specs.Prelude.{◌≡◌, ◌<◌, true, All};
+ghost use Rattle.pfc_semantics.specs.Objects.{of_kind};
+ghost use Rattle.pfc_state.specs.Waits.{same_truth};
+
+use pfc_types::{ModuleHead, Scopes};
+
+/// Whether this is a resource, or whether it is a monitor.
+fn is_of_kind(head: ModuleHead, resource: bool) -> bool
+    ensures { result ≡ same_truth head.resource resource }
+{
+    head.resource == resource
+}
+
+/// How many resources there are, or how many monitors.
+pub(crate) fn module_count(scopes: &Scopes, resource: bool) -> u32
+    ensures { result ≡ of_kind resource scopes.now.modules }
+{
+    let mut count = 0;
+    for k in 0..scopes.modules() {
+        if is_of_kind(scopes.module(k), resource) {
+            count += 1;
+        }
+    }
+    count
+}
+
+/// Whether these numbers are all below another.
+pub(crate) fn are_below(numbers: &[u32], end: u32) -> bool
+    ensures { result ≡ true → All (λ n. n < end) numbers.now }
+{
+    for n in numbers {
+        if *n >= end {
+            return false;
+        }
+    }
+    true
+}

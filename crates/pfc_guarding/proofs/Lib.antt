@@ -1,0 +1,4 @@
+pub mod Performing
+pub mod Pushing
+pub mod Trying
+pub mod Waits

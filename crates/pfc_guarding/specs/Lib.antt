@@ -1,0 +1,4 @@
+pub mod Barring
+pub mod Scanning
+pub mod Trying
+pub mod Under

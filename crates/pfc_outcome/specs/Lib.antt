@@ -6,3 +6,4 @@ pub mod Meanings
 pub mod Options
 pub mod Outcomes
 pub mod Requests
+pub mod WalkOptions

@@ -111,12 +111,16 @@ asked_with rows (Some source) = Some (record {
 abbrev pub asked_by : List Row → Option Asked
 asked_by rows = asked_with rows (source_of (first_of (codes "file") rows) (number_at (codes "make") 1 most_made rows))
 
--- where the command takes the words
-abbrev pub taken : Kinds → List Row → Option Asked
-taken [] rows = asked_by rows
-taken (fault ∷ faults) rows = None
+-- where a command takes the words, what its rows ask for
+abbrev pub taken : (List Row → Option Asked) → Kinds → List Row → Option Asked
+taken by [] rows = by rows
+taken by (fault ∷ faults) rows = None
 
--- What the words ask for; nothing where the command does not take them, or where not exactly one of FILE and `--make` is given.
+-- what the words ask for by a command; nothing where it does not take them
+abbrev pub options_by : App → (List Row → Option Asked) → List Text → Option Asked
+options_by command by words = taken by (fault_of command words) (matches_of command words)
+
+-- What the words of `pfc` ask for; nothing where the command does not take them, or where not exactly one of FILE and `--make` is given.
 -- The first word is the program's name.
 abbrev pub options_of : List Text → Option Asked
-options_of words = taken (fault_of pfc_command words) (matches_of pfc_command words)
+options_of words = options_by pfc_command (λ rows. asked_by rows) words

@@ -11,13 +11,13 @@ use pfc_base::Memory;
 use std::alloc::{AllocError, Global};
 
 /// The seed where the words give none.
-const USUAL_SEED: u64 = 1;
+pub(crate) const USUAL_SEED: u64 = 1;
 
 /// The limit of actions where the words give none.
-const USUAL_LIMIT: u64 = 1_000_000;
+pub(crate) const USUAL_LIMIT: u64 = 1_000_000;
 
 /// The greatest limit of actions.
-const MOST_ACTIONS: u64 = 100_000_000;
+pub(crate) const MOST_ACTIONS: u64 = 100_000_000;
 
 /// The greatest size of a made text.
 const MOST_MADE: u64 = 31;
@@ -70,7 +70,7 @@ pub fn read_words<'a>(alloc: Global, words: &'a [String]) -> Result<Option<Optio
 }
 
 /// An error of the command is one of the words, unless memory was refused.
-fn refused_for_words(error: &Error) -> Result<(), Memory>
+pub(crate) fn refused_for_words(error: &Error) -> Result<(), Memory>
     ensures { IfOk result (λ done. kind_of error.now ≢ ErrorKind.OutOfMemory) }
 {
     if error.kind() == ErrorKind::OutOfMemory {
@@ -96,35 +96,35 @@ fn command<'a>(alloc: Global) -> Result<Command<'a>, AllocError>
 }
 
 /// The command with one more argument.
-fn with<'a>(command: Command<'a>, arg: Arg<'a>) -> Result<Command<'a>, AllocError>
+pub(crate) fn with<'a>(command: Command<'a>, arg: Arg<'a>) -> Result<Command<'a>, AllocError>
     requires { arg.global ≡ false }
     ensures { IfOk result (λ more. app_of more ≡ with_rule (app_of command.entry) (rule_of arg.entry)) }
 {
     command.arg(arg)
 }
 
-fn file<'a>(alloc: Global) -> Arg<'a>
+pub(crate) fn file<'a>(alloc: Global) -> Arg<'a>
     ensures rule { rule_of result ≡ file_rule }
     ensures local { result.global ≡ false }
 {
     Arg::new(alloc, "file").action(ArgAction::Set)
 }
 
-fn word<'a>(alloc: Global, name: &'a str) -> Arg<'a>
+pub(crate) fn word<'a>(alloc: Global, name: &'a str) -> Arg<'a>
     ensures rule { rule_of result ≡ with_word name.entry.now }
     ensures local { result.global ≡ false }
 {
     Arg::new(alloc, name).long(name).action(ArgAction::Set)
 }
 
-fn flag<'a>(alloc: Global, name: &'a str) -> Arg<'a>
+pub(crate) fn flag<'a>(alloc: Global, name: &'a str) -> Arg<'a>
     ensures rule { rule_of result ≡ flag name.entry.now }
     ensures local { result.global ≡ false }
 {
     Arg::new(alloc, name).long(name).action(ArgAction::SetTrue)
 }
 
-fn number<'a>(alloc: Global, name: &'a str, least: u64, greatest: u64) -> Arg<'a>
+pub(crate) fn number<'a>(alloc: Global, name: &'a str, least: u64, greatest: u64) -> Arg<'a>
     ensures rule { rule_of result ≡ with_number name.entry.now least greatest }
     ensures local { result.global ≡ false }
 {
@@ -164,13 +164,13 @@ fn source_in<'a>(matches: &ArgMatches<'a>) -> Option<Source<'a>>
 }
 
 /// The word of an option, where one is given.
-fn word_in<'a>(matches: &ArgMatches<'a>, name: &str) -> Option<&'a str>
+pub(crate) fn word_in<'a>(matches: &ArgMatches<'a>, name: &str) -> Option<&'a str>
     ensures { option_map (λ word. word.now) result ≡ first_of name.now (rows_of (found_of matches.now)) }
 {
     matches.get_str(name)
 }
 
-fn is_set<'a>(matches: &ArgMatches<'a>, name: &str) -> bool
+pub(crate) fn is_set<'a>(matches: &ArgMatches<'a>, name: &str) -> bool
     ensures { result ≡ is_set name.now (rows_of (found_of matches.now)) }
 {
     match word_in(matches, name) {
@@ -180,7 +180,12 @@ fn is_set<'a>(matches: &ArgMatches<'a>, name: &str) -> bool
 }
 
 /// The number of an option, where one is given, from `least` to `most`.
-fn number_in<'a>(matches: &ArgMatches<'a>, name: &str, least: u64, most: u64) -> Option<u64>
+pub(crate) fn number_in<'a>(
+    matches: &ArgMatches<'a>,
+    name: &str,
+    least: u64,
+    most: u64,
+) -> Option<u64>
     ensures number { result ≡ number_at name.now least most (rows_of (found_of matches.now)) }
     ensures within { IfSome result (λ n. n ≤ most) }
 {

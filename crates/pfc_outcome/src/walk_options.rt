@@ -1,0 +1,74 @@
+//! The options of the walker's command line.
+ghost use Rattle.std.specs.Prelude.{◌≡◌, ◌≤◌, IfOk, IfSome, option_map, false};
+ghost use Rattle.clap.specs.Words.{app_of, found_of, rows_of, rule_of};
+ghost use Rattle.pfc_outcome.specs.Options.{most_actions};
+ghost use Rattle.pfc_outcome.specs.Asked.{asked_of, texts_of};
+ghost use Rattle.pfc_outcome.specs.WalkOptions.{needed_file_rule, walk_asked_by, walk_command, walk_options_of};
+
+use crate::options::{
+    MOST_ACTIONS, Options, Source, USUAL_LIMIT, USUAL_SEED, file, flag, is_set, number, number_in,
+    refused_for_words, with, word, word_in,
+};
+use clap::{Arg, ArgMatches, Command};
+use pfc_base::Memory;
+use std::alloc::{AllocError, Global};
+
+/// What the words of the walker ask for; nothing where the command refuses them, help and version among the refusals. FILE is
+/// required, and no code text can be asked for. The first word is the program's name.
+#[tactic(none)]
+pub fn read_walk_words<'a>(
+    alloc: Global,
+    words: &'a [String],
+) -> Result<Option<Options<'a>>, Memory>
+    ensures options { IfOk result (λ options. option_map asked_of options ≡ walk_options_of (texts_of words.entry.now)) }
+    ensures within { IfOk result (λ options. IfSome options (λ asked. asked.limit ≤ most_actions)) }
+    ensures codeless { IfOk result (λ options. IfSome options (λ asked. asked.code ≡ false)) }
+{
+    let command = command(alloc)?;
+    match command.try_get_matches_from(words) {
+        Ok(matches) => Ok(walk_options_in(&matches)),
+        Err(error) => {
+            refused_for_words(&error)?;
+            Ok(None)
+        }
+    }
+}
+
+/// The command and its options, without a rule between two of them.
+fn command<'a>(alloc: Global) -> Result<Command<'a>, AllocError>
+    ensures { IfOk result (λ command. app_of command ≡ walk_command) }
+{
+    let command = Command::new(alloc, "pfcwalk");
+    let command = with(command, needed_file(alloc))?;
+    let command = with(command, number(alloc, "seed", 0, u64::MAX))?;
+    let command = with(command, flag(alloc, "unfair"))?;
+    let command = with(command, number(alloc, "limit", 1, MOST_ACTIONS))?;
+    let command = with(command, word(alloc, "input"))?;
+    let command = with(command, word(alloc, "script"))?;
+    with(command, flag(alloc, "list"))
+}
+
+fn needed_file<'a>(alloc: Global) -> Arg<'a>
+    ensures rule { rule_of result ≡ needed_file_rule }
+    ensures local { result.global ≡ false }
+{
+    file(alloc).required(true)
+}
+
+/// The options in the matches of the command.
+fn walk_options_in<'a>(matches: &ArgMatches<'a>) -> Option<Options<'a>>
+    ensures options { option_map asked_of result ≡ walk_asked_by (rows_of (found_of matches.now)) }
+    ensures within { IfSome result (λ asked. asked.limit ≤ most_actions) }
+    ensures codeless { IfSome result (λ asked. asked.code ≡ false) }
+{
+    Some(Options {
+        source: Source::File(word_in(matches, "file")?),
+        seed: number_in(matches, "seed", 0, u64::MAX).unwrap_or(USUAL_SEED),
+        unfair: is_set(matches, "unfair"),
+        limit: number_in(matches, "limit", 1, MOST_ACTIONS).unwrap_or(USUAL_LIMIT),
+        input: word_in(matches, "input"),
+        script: word_in(matches, "script"),
+        list: is_set(matches, "list"),
+        code: false,
+    })
+}

@@ -110,7 +110,7 @@ impl Alternatives {
     }
 }
 
-/// More places than a table of processes has.
+/// A bound of the places, far above those of any table of processes.
 const MOST_PLACES: u32 = 2_000_000_000;
 
 impl Alternatives {

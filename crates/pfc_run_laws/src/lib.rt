@@ -1,6 +1,6 @@
 //! Laws of the runs of a text. Each function does nothing: its contract is the law.
 //!
-//! It promises what the definition of a run says of every run, whatever the program. It runs nothing.
+//! It promises that what was written stays: the output of a run begins with what it was before. It runs nothing.
 #![tactic(auto)]
 
 mod laws;

@@ -1,0 +1,53 @@
+//! What a process is at, while the same names are in view.
+ghost use Rattle.std.specs.Prelude.{◌≡◌};
+ghost use Rattle.pfc_types.specs.rules.Expressions.{Env as Known};
+ghost use Rattle.pfc_semantics.specs.Alternatives.{context};
+ghost use Rattle.pfc_program.specs.declared.tables.Tables.{Tables};
+ghost use Rattle.pfc_pending.specs.Ahead.{begun_ahead, step_ahead};
+ghost use Rattle.pfc_pending.specs.Waiting.{waiting};
+ghost use Rattle.pfc_rewriting.specs.Going.{going_ahead, HasRoom};
+
+use pfc_pending::{At, Begun, Deed, Pending, Step};
+use pfc_program::Names;
+
+/// The line of the statement that a process is in, what is at hand, and what is pending behind it, the innermost last.
+#[derive(Drop)]
+pub struct Going<'t> {
+    pub line: u32,
+    pub at: At<'t>,
+    pub pending: Vec<Pending<'t>>,
+}
+
+/// Where rewriting comes to: the action, or other names in view.
+#[derive(Drop)]
+pub(crate) enum Came<'t> {
+    Deed(Deed<'t>),
+    Names(Names),
+}
+
+impl<'t> Going<'t> {
+    /// Goes on with a step on the same line, in room that was taken before for the one part that it may put among those that are
+    /// pending.
+    #[tactic(auto, using(crate::proofs::Waiting::parts))]
+    pub(crate) fn go_on(&mut self, step: Step<'t>)
+        requires { HasRoom self.old }
+        ensures { (t : Tables) (env : Known) → going_ahead t env self.new ≡ step_ahead t (context env self.old.line) (waiting t self.old.pending.items) step.entry }
+    {
+        match step {
+            Step::On(at) => self.at = at,
+            Step::Under(part, at) => {
+                self.pending.push(part).unwrap();
+                self.at = at;
+            }
+        }
+    }
+
+    /// Goes on with a step of a statement, which has its own line.
+    pub(crate) fn begin(&mut self, begun: Begun<'t>)
+        requires { HasRoom self.old }
+        ensures { (t : Tables) (env : Known) → going_ahead t env self.new ≡ begun_ahead t env (waiting t self.old.pending.items) begun.entry }
+    {
+        self.line = begun.line;
+        self.go_on(begun.step);
+    }
+}

@@ -1,0 +1,69 @@
+//! The action that comes next for a process.
+ghost use Rattle.std.specs.Prelude.{◌≡◌, ◌<◌, length, set, IfOk, OnErr};
+ghost use Rattle.pfc_semantics.specs.Configurations.{Config};
+ghost use Rattle.pfc_activities.specs.declared.activities.Activity.{Activity as HeldActivity};
+ghost use Rattle.pfc_activities.specs.Views.{doing_ahead, deed_of};
+ghost use Rattle.pfc_activities.specs.Relation.{IsIn};
+ghost use Rattle.pfc_pending.specs.declared.at_hand.At.TheVariants as at;
+ghost use Rattle.pfc_acting.specs.Acting.{with_at, StandsBefore, IsBeforeDeed};
+
+use pfc_activities::{Doing, Source, State};
+use pfc_base::Memory;
+use pfc_pending::{At, Deed};
+use pfc_program::Program;
+use pfc_rewriting::{Going, next_deed};
+use std::alloc::Global;
+use std::mem;
+
+/// The one action that comes next for what a process is at. What is left behind it is pending then. Its only refusal is want of memory,
+/// which leaves the process before the same action.
+fn rewrite<'t>(
+    alloc: Global,
+    program: &Program<'t>,
+    doing: &mut Doing<'t>,
+) -> Result<Deed<'t>, Memory>
+    ensures ok { IfOk result (λ deed. deed_of program.now.tables doing.new deed ≡ doing_ahead program.now.tables doing.old) }
+    ensures err { OnErr result (doing_ahead program.now.tables doing.new ≡ doing_ahead program.now.tables doing.old) }
+{
+    let mut going = Going {
+        line: doing.line,
+        at: mem::replace(&mut doing.at, At::Rest),
+        pending: mem::replace(&mut doing.pending, Vec::new(alloc)),
+    };
+    let came = next_deed(alloc, program, &mut doing.names, &mut going);
+    doing.line = going.line;
+    doing.at = going.at;
+    doing.pending = going.pending;
+    came
+}
+
+/// The action that comes next for the process with this number. Its only refusal is want of memory, which leaves the process before the same
+/// action.
+pub(crate) fn next<'t>(
+    alloc: Global,
+    source: &'t Source<'t>,
+    state: &mut State<'t>,
+    p: u32,
+) -> Result<Deed<'t>, Memory>
+    requires { p < length state.old.activities.items }
+    ensures ok { IfOk result (λ deed. (c : Config) → StandsBefore source.now state.old c p → IsBeforeDeed source.now state.new c p deed) }
+    ensures err { OnErr result ((c : Config) → StandsBefore source.now state.old c p → StandsBefore source.now state.new c p) }
+    ensures count { length state.new.activities.items ≡ length state.old.activities.items }
+    ensures world { state.new.world ≡ state.old.world }
+{
+    let activity = &mut state.activities[p as usize];
+    match rewrite(alloc, &source.program, &mut activity.doing) {
+        Ok(deed) => Ok(deed),
+        Err(Memory) => Err(Memory),
+    }
+}
+
+/// The process is before this action again, which was not done. Where there is no such process, nothing changes.
+pub(crate) fn put_back<'t>(state: &mut State<'t>, p: u32, deed: Deed<'t>)
+    ensures activity { (a : HeldActivity) → IsIn state.old.activities.items p a → state.new.activities.items ≡ set state.old.activities.items p (with_at a (at.Deed deed.entry)) }
+    ensures rest { state.new ≡ record state.old { activities = state.new.activities } }
+{
+    if (p as usize) < state.activities.len() {
+        state.activities[p as usize].doing.at = At::Deed(deed);
+    }
+}

@@ -1,0 +1,4 @@
+pub mod Accepting
+pub mod Coming
+pub mod Matching
+pub mod Waiting

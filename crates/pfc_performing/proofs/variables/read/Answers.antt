@@ -1,0 +1,14 @@
+use Rattle.std.proofs.Common.{refl, ap}
+use Rattle.pfc_pending.specs.declared.actions.Deed.{Deed}
+use Rattle.pfc_pending.specs.declared.actions.Deed.TheVariants as deed
+use Rattle.pfc_performing.proofs.Performed.{done_so, given_so, stays_same}
+use Rattle.pfc_performing.proofs.variables.read.Goals as goal
+
+pub returns-in-Ok : goal.returns-in-Ok
+returns-in-Ok c = λ source.
+    done_so source c.args.state.now c.reads.new.state c.args.p (deed.Reads c.args.spot) c.in-Ok.done (c.in-Ok.ensures.ok source)
+
+pub returns-in-Err : goal.returns-in-Err
+returns-in-Err c = λ source.
+    given_so source c.args.state.now c.reads.new.state c.args.p (deed.Reads c.args.spot) _ (stays_same c.args.state.now c.reads.new.state c.args.p c.in-Err.ensures.err)
+    (ap deed.Reads c.in-Err.ensures.given)

@@ -1,0 +1,13 @@
+//! A program that runs by rewriting its source text.
+//!
+//! It promises that a run is the run of the definitions: the same processes are picked, the same actions are done, the same bytes are written,
+//! and the ending is theirs. It joins the crates below it, and rewrites nothing itself.
+#![tactic(auto)]
+
+mod output;
+mod runs;
+mod standings;
+mod turns;
+mod walker;
+
+pub use walker::Walker;

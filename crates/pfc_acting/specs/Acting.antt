@@ -13,7 +13,7 @@ use Rattle.pfc_activities.specs.declared.state.State.{State}
 use Rattle.pfc_activities.specs.Programs.{IsProgram}
 use Rattle.pfc_activities.specs.Views.{doing_ahead, deed_of}
 use Rattle.pfc_activities.specs.Relation.{IsAt}
-use Rattle.pfc_performing.specs.Performing.{IsAction}
+pub use Rattle.pfc_performing.specs.Performing.{IsAction}
 
 -- ## Before an action
 

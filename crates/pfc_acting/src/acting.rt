@@ -14,7 +14,7 @@ use std::alloc::Global;
 
 /// One action of a process that is ready: all that is quiet, and then the action that comes next. What it writes is put behind `out`, and a
 /// select that has something to choose among asks the picker. Its only refusal is want of memory, which leaves the process before the same
-/// action and the output as it was; a choice may have been made.
+/// action, and the output and the picker as they were.
 pub fn act<'t>(
     alloc: Global,
     source: &'t Source<'t>,
@@ -27,6 +27,7 @@ pub fn act<'t>(
     ensures ok { IfOk result (λ d. IsActed source.now state.old state.new p picker.old picker.new out.old out.new d) }
     ensures err { OnErr result ((c : Config) → StandsBefore source.now state.old c p → StandsBefore source.now state.new c p) }
     ensures kept { OnErr result (out.new ≡ out.old) }
+    ensures unchosen { OnErr result (picker.new ≡ picker.old) }
 {
     let deed = next(alloc, source, state, p)?;
     match perform(alloc, source, state, p, deed, picker, out) {

@@ -91,13 +91,23 @@ fn take_at<'t>(
     take_open(alloc, source, state, p, open, met)
 }
 
-/// The place that is taken among so many matched alternatives: the first with `pri`, else the one that the picker chooses.
-fn place_among(picker: &mut Picker, pri: bool, matched: u32) -> u32
+/// The place that is taken among so many matched alternatives: the first with `pri`, else the one that the picker chooses next. Nothing is
+/// drawn.
+fn place_among(picker: &Picker, pri: bool, matched: u32) -> u32
     requires { 0 < matched }
-    ensures place { result ≡ place_taken pri (choice_among picker.old (if pri then 0 else matched)) }
-    ensures after { picker.new ≡ behind_choice picker.old (if pri then 0 else matched) }
+    ensures { result ≡ place_taken pri (choice_among picker.now (if pri then 0 else matched)) }
 {
-    if pri { 0 } else { picker.choose(matched) }
+    if pri { 0 } else { picker.next_choice(matched) }
+}
+
+/// The choice among so many matched alternatives is made: without `pri` the picker is behind it.
+fn choose_among(picker: &mut Picker, pri: bool, matched: u32)
+    requires { 0 < matched }
+    ensures { picker.new ≡ behind_choice picker.old (if pri then 0 else matched) }
+{
+    if !pri {
+        picker.choose(matched);
+    }
 }
 
 /// The decision, over the alternatives that communicate, in room that was taken before.
@@ -118,6 +128,7 @@ fn decide<'t>(
     ensures ok { IfOk result (λ d. PerformsChosen source.now state.old state.new picker.old picker.new p select.entry d) }
     ensures err { OnErr result (StaysAt state.old state.new p) }
     ensures given { IfErr result (λ given. given ≡ select.entry) }
+    ensures unchosen { OnErr result (picker.new ≡ picker.old) }
 {
     let matched = matches(&state.world, p, arms);
     if matched == 0 {
@@ -125,14 +136,17 @@ fn decide<'t>(
     }
     let place = place_among(picker, select.pri, matched);
     match take_at(alloc, source, state, p, &select, arms, place) {
-        Ok(done) => Ok(done),
+        Ok(done) => {
+            choose_among(picker, select.pri, matched);
+            Ok(done)
+        }
         Err(Memory) => Err(select),
     }
 }
 
 /// The deciding action of a select: by the choice of the picker, which is asked for one exactly where a plain select has something to choose
-/// among. It is refused where memory is, and where something does not fit that fits in every run; nothing is to be seen of it then, but that
-/// a choice may have been made.
+/// among. It is refused where memory is, and where something does not fit that fits in every run; nothing is to be seen of it then, and no
+/// choice was made.
 pub fn decides<'t>(
     alloc: Global,
     source: &Source<'t>,
@@ -145,6 +159,7 @@ pub fn decides<'t>(
     ensures ok { IfOk result (λ d. PerformsChosen source.now state.old state.new picker.old picker.new p select.entry d) }
     ensures err { OnErr result (StaysAt state.old state.new p) }
     ensures given { IfErr result (λ given. given ≡ select.entry) }
+    ensures unchosen { OnErr result (picker.new ≡ picker.old) }
 {
     let Ok(()) = room_here(state, p) else {
         return Err(select);

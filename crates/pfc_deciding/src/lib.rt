@@ -2,8 +2,8 @@
 //!
 //! It promises that the select does what the definitions say, by the first of five steps that applies: a matched alternative is taken, or the
 //! `else` part; an open `timeout 0` is taken; the process waits with all that is open, or the action is a fault. A choice is asked for exactly
-//! where a plain select has something to choose among. What is refused changes nothing that is to be seen, and the select is given back; a
-//! choice that was made by then stays made.
+//! where a plain select has something to choose among. What is refused changes nothing that is to be seen, no choice is made, and the select is
+//! given back.
 #![tactic(auto)]
 
 mod accepting;

@@ -96,6 +96,7 @@ fn decide<'t>(
     ensures ok { (out : List ℕ) → IfOk result (λ d. IsDone source.now state.old state.new p (deed.Decides select.entry) picker.old picker.new out out d) }
     ensures err { OnErr result (StaysAt state.old state.new p) }
     ensures given { IfErr result (λ given. given ≡ deed.Decides select.entry) }
+    ensures unchosen { OnErr result (picker.new ≡ picker.old) }
 {
     match decides(alloc, source, state, p, select, picker) {
         Ok(done) => Ok(done),
@@ -104,7 +105,7 @@ fn decide<'t>(
 }
 
 /// Performs the action of a process; what it writes is put behind `out`, and a select that has something to choose among asks the picker. Its
-/// only refusal is want of memory: then the action is given back, and all is as it was, but that a choice may have been made.
+/// only refusal is want of memory: then the action is given back, and all is as it was.
 pub fn perform<'t>(
     alloc: Global,
     source: &'t Source<'t>,
@@ -119,6 +120,7 @@ pub fn perform<'t>(
     ensures err { OnErr result (StaysAt state.old state.new p) }
     ensures given { IfErr result (λ given. given ≡ deed.entry) }
     ensures kept { OnErr result (out.new ≡ out.old) }
+    ensures unchosen { OnErr result (picker.new ≡ picker.old) }
 {
     match deed {
         Deed::Prints(bytes, width) => print(state, p, bytes, width, out),

@@ -3,7 +3,7 @@ ghost use Rattle.std.specs.Prelude.{◌≡◌, ◌<◌, ◌≤◌, length};
 ghost use Rattle.pfc_sched.specs.Picks.{Picking, first_picking, picked, after_pick, chosen, after_choice, item_of, named};
 
 use crate::number_list::Picks;
-use crate::words::{next_word, words_of};
+use crate::words::{coming_word, next_word, words_of};
 use pfc_world::{State, World};
 use rand_pcg::Lcg64Xsh32;
 use std::marker::Model;
@@ -98,6 +98,17 @@ impl Picker {
                 *item = (*item + 1).min(end);
                 pick_named(world, next)
             }
+        }
+    }
+
+    /// The number that the next choice among `m` would give: in fair mode the next word modulo `m`, else 0. Nothing is drawn.
+    pub fn next_choice(&self, m: u32) -> u32
+        requires { 0 < m }
+        ensures { result ≡ chosen self.now m }
+    {
+        match &self.mode {
+            Mode::Fair { words } => coming_word(words) % m,
+            Mode::Unfair { .. } | Mode::Script { .. } => 0,
         }
     }
 

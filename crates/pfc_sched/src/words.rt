@@ -21,3 +21,12 @@ pub(crate) fn next_word(words: &mut Lcg64Xsh32) -> u32
 {
     words.next_word()
 }
+
+/// The next word, from 0 to 2^32 - 1, of a generator that stays as it is.
+#[tactic(auto, unfolding(crate::specs::Words::word))]
+pub(crate) fn coming_word(words: &Lcg64Xsh32) -> u32
+    ensures { result ≡ word words.now }
+{
+    let mut coming = words.clone().unwrap();
+    coming.next_word()
+}

@@ -15,6 +15,6 @@ returns-then-matched-eq0-clause-ok c =
 
 pub returns-in-Ok-clause-ok : goal.returns-in-Ok-clause-ok
 returns-in-Ok-clause-ok c =
-    taken_chosen c.args.source.now c.args.state.now c.take_at.new.state c.args.picker.now c.place_among-place.new.picker c.args.p c.args.select c.args.arms.now
-    c.matches-matched.result c.place_among-place.result c.in-Ok.done c.requires.arms c.matches-matched.ensures (omega arith) c.place_among-place.ensures.place
-    c.place_among-place.ensures.after c.in-Ok.ensures.ok
+    taken_chosen c.args.source.now c.args.state.now c.take_at.new.state c.args.picker.now c.choose_among.new.picker c.args.p c.args.select c.args.arms.now
+    c.matches-matched.result c.place_among-place.result c.in-Ok.done c.requires.arms c.matches-matched.ensures (omega arith) c.place_among-place.ensures
+    c.choose_among.ensures c.in-Ok.ensures.ok

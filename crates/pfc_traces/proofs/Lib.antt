@@ -1,0 +1,5 @@
+pub mod Acting
+pub mod Effects
+pub mod Reading
+pub mod Replaying
+pub mod Rows

@@ -27,12 +27,16 @@ walk_free = refl
 
 -- a command that is given by its rules, and what its rows ask for
 module _ (rules : App) (simple : is_simple rules ≡ true) (free : is_simple_and_free rules ≡ true) (by : List Row → Option Asked) where
+  pub found_rows : (command : App) (words : List Text) (rows : List Row) → command ≡ rules
+      → (is_simple command ≡ true → rows ≡ matches_of command words) → rows ≡ matches_of rules words
+  found_rows command words rows is given = subst (λ x. is_simple x ≡ true → rows ≡ matches_of x words) is given simple
+
   pub taken_words : (command : App) (words : List Text) (rows : List Row) → command ≡ rules
       → (is_simple command ≡ true → rows ≡ matches_of command words) → (is_simple_and_free command ≡ true → fault_of command words ≡ [])
       → by rows ≡ options_by rules by words
   taken_words command words rows is given faultless =
       let faults : fault_of rules words ≡ [] = subst (λ x. is_simple_and_free x ≡ true → fault_of x words ≡ []) is faultless free in
-      let found : rows ≡ matches_of rules words = subst (λ x. is_simple x ≡ true → rows ≡ matches_of x words) is given simple in
+      let found : rows ≡ matches_of rules words = found_rows command words rows is given in
       rw (faults, ← found) refl
 
   among : (faults : Kinds) (kind : ErrorKind) (rows : List Row) → IsAmong kind faults → None ≡ taken by faults rows

@@ -6,6 +6,7 @@ use Rattle.pfc_outcome.specs.Options.{Asked, Source, from_file, made}
 use Rattle.pfc_outcome.specs.declared.options.Options.{Options}
 use Rattle.pfc_outcome.specs.declared.options.Source.{Source as AskedSource}
 use Rattle.pfc_outcome.specs.declared.options.Source.TheVariants.{File, Made}
+use Rattle.pfc_outcome.specs.declared.walk_options.WalkOptions.{WalkOptions}
 
 -- the words as texts
 abbrev pub texts_of : List (String Global) → List (List ℕ)
@@ -26,3 +27,6 @@ asked_of options = record {
   list = options.list;
   code = options.code;
 }
+
+abbrev pub walk_asked_of : WalkOptions → Asked
+walk_asked_of walk = asked_of walk.options

@@ -1,9 +1,9 @@
 //! The options of the walker's command line.
-ghost use Rattle.std.specs.Prelude.{◌≡◌, ◌≤◌, IfOk, IfSome, option_map, false};
+ghost use Rattle.std.specs.Prelude.{◌≡◌, ◌≤◌, IfOk, IfSome, option_map, codes, false};
 ghost use Rattle.clap.specs.Words.{app_of, found_of, rows_of, rule_of};
-ghost use Rattle.pfc_outcome.specs.Options.{most_actions};
-ghost use Rattle.pfc_outcome.specs.Asked.{asked_of, texts_of};
-ghost use Rattle.pfc_outcome.specs.WalkOptions.{needed_file_rule, walk_asked_by, walk_command, walk_options_of};
+ghost use Rattle.pfc_outcome.specs.Options.{is_set, most_actions};
+ghost use Rattle.pfc_outcome.specs.Asked.{walk_asked_of, texts_of};
+ghost use Rattle.pfc_outcome.specs.WalkOptions.{asks_for_trace, needed_file_rule, walk_asked_by, walk_command, walk_options_of};
 
 use crate::options::{
     MOST_ACTIONS, Options, Source, USUAL_LIMIT, USUAL_SEED, file, flag, is_set, number, number_in,
@@ -13,16 +13,26 @@ use clap::{Arg, ArgMatches, Command};
 use pfc_base::Memory;
 use std::alloc::{AllocError, Global};
 
+/// What the words of the walker ask for.
+#[derive(Clone, Copy)]
+pub struct WalkOptions<'a> {
+    /// The text to be run, and how.
+    pub options: Options<'a>,
+    /// Whether the trace of the run is asked for, in place of its output and its report.
+    pub trace: bool,
+}
+
 /// What the words of the walker ask for; nothing where the command refuses them, help and version among the refusals. FILE is
 /// required, and no code text can be asked for. The first word is the program's name.
 #[tactic(none)]
 pub fn read_walk_words<'a>(
     alloc: Global,
     words: &'a [String],
-) -> Result<Option<Options<'a>>, Memory>
-    ensures options { IfOk result (λ options. option_map asked_of options ≡ walk_options_of (texts_of words.entry.now)) }
-    ensures within { IfOk result (λ options. IfSome options (λ asked. asked.limit ≤ most_actions)) }
-    ensures codeless { IfOk result (λ options. IfSome options (λ asked. asked.code ≡ false)) }
+) -> Result<Option<WalkOptions<'a>>, Memory>
+    ensures options { IfOk result (λ walk. option_map walk_asked_of walk ≡ walk_options_of (texts_of words.entry.now)) }
+    ensures trace { IfOk result (λ walk. IfSome walk (λ asked. asked.trace ≡ asks_for_trace (texts_of words.entry.now))) }
+    ensures within { IfOk result (λ walk. IfSome walk (λ asked. asked.options.limit ≤ most_actions)) }
+    ensures codeless { IfOk result (λ walk. IfSome walk (λ asked. asked.options.code ≡ false)) }
 {
     let command = command(alloc)?;
     match command.try_get_matches_from(words) {
@@ -45,7 +55,8 @@ fn command<'a>(alloc: Global) -> Result<Command<'a>, AllocError>
     let command = with(command, number(alloc, "limit", 1, MOST_ACTIONS))?;
     let command = with(command, word(alloc, "input"))?;
     let command = with(command, word(alloc, "script"))?;
-    with(command, flag(alloc, "list"))
+    let command = with(command, flag(alloc, "list"))?;
+    with(command, flag(alloc, "trace"))
 }
 
 fn needed_file<'a>(alloc: Global) -> Arg<'a>
@@ -56,12 +67,13 @@ fn needed_file<'a>(alloc: Global) -> Arg<'a>
 }
 
 /// The options in the matches of the command.
-fn walk_options_in<'a>(matches: &ArgMatches<'a>) -> Option<Options<'a>>
-    ensures options { option_map asked_of result ≡ walk_asked_by (rows_of (found_of matches.now)) }
-    ensures within { IfSome result (λ asked. asked.limit ≤ most_actions) }
-    ensures codeless { IfSome result (λ asked. asked.code ≡ false) }
+fn walk_options_in<'a>(matches: &ArgMatches<'a>) -> Option<WalkOptions<'a>>
+    ensures options { option_map walk_asked_of result ≡ walk_asked_by (rows_of (found_of matches.now)) }
+    ensures trace { IfSome result (λ asked. asked.trace ≡ is_set (codes "trace") (rows_of (found_of matches.now))) }
+    ensures within { IfSome result (λ asked. asked.options.limit ≤ most_actions) }
+    ensures codeless { IfSome result (λ asked. asked.options.code ≡ false) }
 {
-    Some(Options {
+    let options = Options {
         source: Source::File(word_in(matches, "file")?),
         seed: number_in(matches, "seed", 0, u64::MAX).unwrap_or(USUAL_SEED),
         unfair: is_set(matches, "unfair"),
@@ -70,5 +82,9 @@ fn walk_options_in<'a>(matches: &ArgMatches<'a>) -> Option<Options<'a>>
         script: word_in(matches, "script"),
         list: is_set(matches, "list"),
         code: false,
+    };
+    Some(WalkOptions {
+        options,
+        trace: is_set(matches, "trace"),
     })
 }

@@ -1,7 +1,7 @@
 //! What command lines ask for.
 
 use pfc_base::Memory;
-use pfc_outcome::{Options, Source, make_text, read_words};
+use pfc_outcome::{Options, Source, make_text, read_walk_words, read_words};
 use std::alloc::Global;
 use std::test::Fail;
 
@@ -47,6 +47,23 @@ a.pas -V|
 a.pas --version|
 --seed 5|
 ~|~
+";
+
+/// Words of the walker behind the program's name, and behind `|` whether they ask for a trace; nothing where they are refused.
+const WALK_WORDS: &str = "\
+a.pas|without
+a.pas --trace|trace
+--trace a.pas --list --unfair|trace
+a.pas --list --script picks|without
+a.pas --input --trace|
+a.pas --input=--trace|without
+a.pas -- --trace|
+-- --trace|without
+a.pas --trace --trace|
+a.pas --trace=true|
+a.pas --trac|
+--trace|
+a.pas --trace --code|
 ";
 
 /// The words of a line, the program's name before them.
@@ -106,6 +123,26 @@ fn is_read(alloc: Global, line: &str) -> Result<bool, Memory> {
         Some(options) => Ok(!owed.is_empty() && is_asked(&options, owed)),
         None => Ok(owed.is_empty()),
     }
+}
+
+/// Whether the walker reads from the words of a line what its line says.
+fn is_walk_read(alloc: Global, line: &str) -> Result<bool, Memory> {
+    let Some((text, owed)) = line.split_once('|') else {
+        return Ok(false);
+    };
+    let words = words_of(alloc, text)?;
+    Ok(match read_walk_words(alloc, &words)? {
+        Some(walk) => owed == if walk.trace { "trace" } else { "without" },
+        None => owed.is_empty(),
+    })
+}
+
+#[test]
+fn words_of_the_walker_are_read(rt: HostRuntime) -> Result<(), Fail> {
+    for line in WALK_WORDS.lines() {
+        assert!(rt; is_walk_read(rt.alloc(), line)?, "in {line}");
+    }
+    Ok(())
 }
 
 #[test]

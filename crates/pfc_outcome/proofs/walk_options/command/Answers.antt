@@ -1,6 +1,6 @@
-use Rattle.std.proofs.Common.{◌∙◌, ap, ap₂}
+use Rattle.std.proofs.Common.{◌∙◌, ap₂}
 use Rattle.std.proofs.lemmas.Result.{IfOk-weaker}
-use Rattle.clap.specs.Words.{Rule, with_rule}
+use Rattle.clap.specs.Words.{with_rule}
 use Rattle.pfc_outcome.proofs.walk_options.command.Goals as goal
 
 pub returns : goal.returns
@@ -11,4 +11,5 @@ returns c =
     let four = c.in_ok-command-4.ensures ∙ ap₂ with_rule three c.number-2.ensures.rule in
     let five = c.in_ok-command-5.ensures ∙ ap₂ with_rule four c.word.ensures.rule in
     let six = c.in_ok-command-6.ensures ∙ ap₂ with_rule five c.word-2.ensures.rule in
-    IfOk-weaker c.with-7.result _ _ (λ more h. h ∙ ap₂ with_rule six c.flag-2.ensures.rule) c.with-7.ensures
+    let seven = c.in_ok-command-7.ensures ∙ ap₂ with_rule six c.flag-2.ensures.rule in
+    IfOk-weaker c.with-8.result _ _ (λ more h. h ∙ ap₂ with_rule seven c.flag-3.ensures.rule) c.with-8.ensures

@@ -1,3 +1,5 @@
+pub mod Acted
 pub mod Gathering
+pub mod Joining
 pub mod OneTurn
-pub mod Told
+pub mod Reported

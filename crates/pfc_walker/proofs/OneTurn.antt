@@ -1,5 +1,5 @@
 -- The run from a configuration on, by its first turn.
-use Rattle.std.proofs.Common.{◌≡◌, ◌≢◌, ◌-◌, arith, ℕ, zero, suc, ◌+◌, ◌<◌, ◌*◌, ◌^◌, Bool, true, false, List, [], ◌++◌, length, if◌then◌else◌, Option, Some, None, refl, sym, ap, ◌∙◌, subst, append-nil}
+use Rattle.std.proofs.Common.{◌≡◌, ◌≢◌, ◌-◌, arith, ℕ, zero, suc, ◌+◌, ◌<◌, ◌*◌, ◌^◌, Bool, true, false, List, [], ◌∷◌, ◌++◌, length, if◌then◌else◌, Option, Some, None, refl, sym, ap, ◌∙◌, subst, append-nil}
 use Rattle.std.proofs.KnownBytes.{Appends-nil}
 use Rattle.pfc_io.specs.Writes.{AppendsFront}
 use Rattle.pfc_io.proofs.Written.{AppendsFront-none, AppendsFront-whole}
@@ -20,8 +20,8 @@ use Rattle.pfc_semantics.specs.Programs.{Program}
 use Rattle.pfc_semantics.specs.Configurations.{Config, FaultAt}
 use Rattle.pfc_semantics.specs.Time.{terminated_over, settled_config}
 use Rattle.pfc_semantics.specs.Selects.{choices}
-use Rattle.pfc_semantics.specs.Steps.{next_of}
-use Rattle.pfc_semantics.specs.Events.{step}
+use Rattle.pfc_semantics.specs.Steps.{next_of, effect}
+use Rattle.pfc_semantics.specs.Events.{Event, step}
 use Rattle.pfc_semantics.specs.Runs.{Run, is_done, ending_at, ended_with, unless_ended, by_pick, behind_event, choice_among, behind_choice, run_from}
 use Rattle.pfc_activities.specs.declared.changes.Done.{Done}
 use Rattle.pfc_activities.specs.declared.changes.Done.TheVariants.{Stepped, Faulted}
@@ -29,8 +29,10 @@ use Rattle.pfc_activities.specs.declared.source.Source.{Source}
 use Rattle.pfc_activities.specs.declared.state.State.{State}
 use Rattle.pfc_activities.specs.Relation.{Stands, Reports, MayAct}
 use Rattle.pfc_activities.proofs.Acting.{reports_of}
-use Rattle.pfc_performing.specs.Performing.{IsAction}
-use Rattle.pfc_walker.specs.Courses.{EndsAlike, IsPassed, on_the_way, Completes, IsBrokenOff, Continues, IsPick, step_by, behind_step}
+use Rattle.pfc_walker.specs.Courses.{GoesOn, IsPassed, on_the_way, Completes, IsBrokenOff, Continues, IsPick}
+use Rattle.pfc_walker.specs.Telling.{AreTold, IsTold, step_by, behind_step}
+use Rattle.pfc_walker.specs.declared.telling.Told.{Told}
+use Rattle.pfc_walker.proofs.Joining.{goes_here, told_as, told_end, told_still, told_twice}
 
 -- ## Settling prints nothing, and is no fault
 
@@ -105,26 +107,29 @@ module _ (g : Program) (limit : ℕ) (picking : Picking) (c : Config) where
 
   -- a run that ends before its first action
   pub completes :
-      (s : State) (left : ℕ) (ending : Ending) (out : List ℕ)
+      (told : Told) (s : State) (left : ℕ) (ending : Ending) (out : List ℕ)
       → run_from g limit left picking c ≡ ended_with (settled_config c) ending → Reports s (settled_config c)
-      → Completes (run_from g limit left picking c) c s ending (Some out) (Some out)
-  completes s left ending out e reports =
+      → Completes told (run_from g limit left picking c) c s ending (Some out) (Some out)
+  completes told s left ending out e reports =
       record {
         ends = sym (ap (λ (f : Run). f.ending) e);
         reports = subst (λ (f : Run). Reports s f.config) (sym e) reports;
         bytes = [];
-        output = ap (λ (f : Run). f.config.output) e ∙ settled_output c ∙ sym (append-nil c.output);
+        tells = subst (λ (f : Run). AreTold told c f.config f.events []) (sym e) (told_still told c (settled_config c) (settled_output c));
         written = Appends-nil (Some out);
       }
 
   -- a run that is broken off before its first action
-  pub not_begun : (left : ℕ) (out now : List ℕ) → now ≡ out → IsBrokenOff g limit (run_from g limit left picking c) c (Some out) (Some now)
-  not_begun left out now e =
+  pub not_begun :
+      (told : Told) (left : ℕ) (out now : List ℕ) → now ≡ out
+      → IsBrokenOff told g limit (run_from g limit left picking c) c (Some out) (Some now)
+  not_begun told left out now e =
       record {
         config = c;
-        passed = on_the_way left picking c (record { ending = refl; config = refl });
+        events = [];
+        passed = on_the_way left picking c [] (goes_here (run_from g limit left picking c));
         bytes = [];
-        output = sym (append-nil c.output);
+        tells = told_still told c c refl;
         front = subst (λ (x : List ℕ). AppendsFront (Some out) (Some x) []) (sym e) (AppendsFront-none (Some out) []);
       }
 
@@ -138,77 +143,89 @@ run_of g limit left picking c pick e some is =
 
 -- ## A turn, by what settling left
 
-module _ (source : Source) (g : Program) (limit left : ℕ) (picking : Picking) (c : Config) (s : State) (out : List ℕ) (stands : Stands source s (settled_config c)) where
-  abbrev d : Config
-  d = settled_config c
+module _
+    (told : Told) (source : Source) (g : Program) (limit left : ℕ) (picking : Picking) (c : Config) (s : State) (out : List ℕ)
+    (stands : Stands source s (settled_config c))
+  where
+    abbrev d : Config
+    d = settled_config c
 
-  table : s.world ≡ d.table
-  table = stands.mirrors.agrees.table
+    table : s.world ≡ d.table
+    table = stands.mirrors.agrees.table
 
-  reports : Reports s d
-  reports = reports_of source s d stands
+    reports : Reports s d
+    reports = reports_of source s d stands
 
-  sound : d.fault ≡ None
-  sound = stands.quiet.sound
+    sound : d.fault ≡ None
+    sound = stands.quiet.sound
 
-  pub turn_over : is_done (at s.world.rows 0) ≡ true → Completes (run_from g limit left picking c) c s Finished (Some out) (Some out)
-  turn_over over =
-      completes g limit picking c s left Finished out
-      (ended g limit picking c Finished (ends_finished d sound (ap (λ (w : Table). is_done (at w.rows 0)) (sym table) ∙ over)) left) reports
+    pub turn_over : is_done (at s.world.rows 0) ≡ true → Completes told (run_from g limit left picking c) c s Finished (Some out) (Some out)
+    turn_over over =
+        completes g limit picking c told s left Finished out
+        (ended g limit picking c Finished (ends_finished d sound (ap (λ (w : Table). is_done (at w.rows 0)) (sym table) ∙ over)) left) reports
 
-  module _ (goes : is_done (at s.world.rows 0) ≡ false) where
-    on : is_done (at d.table.rows 0) ≡ false
-    on = ap (λ (w : Table). is_done (at w.rows 0)) (sym table) ∙ goes
+    module _ (goes : is_done (at s.world.rows 0) ≡ false) where
+      on : is_done (at d.table.rows 0) ≡ false
+      on = ap (λ (w : Table). is_done (at w.rows 0)) (sym table) ∙ goes
 
-    pub turn_dead : some_ready s.world.rows ≡ false → Completes (run_from g limit left picking c) c s Deadlock (Some out) (Some out)
-    turn_dead nobody =
-        completes g limit picking c s left Deadlock out
-        (ended g limit picking c Deadlock (ends_dead d sound on (ap (λ (w : Table). some_ready w.rows) (sym table) ∙ nobody)) left) reports
+      pub turn_dead : some_ready s.world.rows ≡ false → Completes told (run_from g limit left picking c) c s Deadlock (Some out) (Some out)
+      turn_dead nobody =
+          completes g limit picking c told s left Deadlock out
+          (ended g limit picking c Deadlock (ends_dead d sound on (ap (λ (w : Table). some_ready w.rows) (sym table) ∙ nobody)) left) reports
 
-    module _ (ready : some_ready s.world.rows ≡ true) where
-      further : ending_at d ≡ None
-      further = goes_further d sound on (ap (λ (w : Table). some_ready w.rows) (sym table) ∙ ready)
+      module _ (ready : some_ready s.world.rows ≡ true) where
+        further : ending_at d ≡ None
+        further = goes_further d sound on (ap (λ (w : Table). some_ready w.rows) (sym table) ∙ ready)
 
-      pub turn_limit : left ≡ 0 → Completes (run_from g limit left picking c) c s (Limit limit) (Some out) (Some out)
-      turn_limit none =
-          completes g limit picking c s left (Limit limit) out
-          (ap (λ (n : ℕ). run_from g limit n picking c) none ∙ limited g limit picking c further) reports
+        pub turn_limit : left ≡ 0 → Completes told (run_from g limit left picking c) c s (Limit limit) (Some out) (Some out)
+        turn_limit none =
+            completes g limit picking c told s left (Limit limit) out
+            (ap (λ (n : ℕ). run_from g limit n picking c) none ∙ limited g limit picking c further) reports
 
-      module _ (some : left ≢ 0) (pick : Pick) (is : pick ≡ picked picking s.world.rows) where
-        there : pick ≡ picked picking d.table.rows
-        there = is ∙ ap (λ (w : Table). picked picking w.rows) table
+        module _ (some : left ≢ 0) (pick : Pick) (is : pick ≡ picked picking s.world.rows) where
+          there : pick ≡ picked picking d.table.rows
+          there = is ∙ ap (λ (w : Table). picked picking w.rows) table
 
-        -- no process was picked
-        pub turn_ends :
-            (ending : Ending) → by_pick d (after_pick picking s.world.rows) (behind_pick g limit picking c (left - 1)) pick ≡ ended_with d ending
-            → Completes (run_from g limit left picking c) c s ending (Some out) (Some out)
-        turn_ends ending e =
-            completes g limit picking c s left ending out
-            (run_of g limit left picking c pick further some there
-            ∙ ap (λ (w : Table). by_pick d (after_pick picking w.rows) (behind_pick g limit picking c (left - 1)) pick) (sym table) ∙ e)
-            reports
+          -- no process was picked
+          pub turn_ends :
+              (ending : Ending) → by_pick d (after_pick picking s.world.rows) (behind_pick g limit picking c (left - 1)) pick ≡ ended_with d ending
+              → Completes told (run_from g limit left picking c) c s ending (Some out) (Some out)
+          turn_ends ending e =
+              completes g limit picking c told s left ending out
+              (run_of g limit left picking c pick further some there
+              ∙ ap (λ (w : Table). by_pick d (after_pick picking w.rows) (behind_pick g limit picking c (left - 1)) pick) (sym table) ∙ e)
+              reports
 
-        -- one was
-        pub turn_goes : (p : ℕ) → pick ≡ Process p → IsPick g limit (left - 1) picking (after_pick picking s.world.rows) c d p
-        turn_goes p process =
-            let behind : Picking = after_pick picking d.table.rows in
-            let one : left ≡ (left - 1) + 1 = omega (arith, some) in
-            let f : run_from g limit ((left - 1) + 1) picking c ≡ behind_pick g limit picking c (left - 1) p
-            = ap (λ (n : ℕ). run_from g limit n picking c) (sym one) ∙ run_of g limit left picking c (Process p) further some (sym process ∙ there) in
-            let pick_there : IsPick g limit (left - 1) picking behind c d p = record {
-              output = settled_output c;
-              goes = record { ending = sym (ap (λ (x : Run). x.ending) f); config = sym (ap (λ (x : Run). x.config) f) };
-            } in
-            subst (λ (w : Table). IsPick g limit (left - 1) picking (after_pick picking w.rows) c d p) (sym table) pick_there
+          -- one was
+          pub turn_goes : (p : ℕ) → pick ≡ Process p → IsPick g limit (left - 1) picking (after_pick picking s.world.rows) c d p
+          turn_goes p process =
+              let behind : Picking = after_pick picking d.table.rows in
+              let one : left ≡ (left - 1) + 1 = omega (arith, some) in
+              let f : run_from g limit ((left - 1) + 1) picking c ≡ behind_pick g limit picking c (left - 1) p
+              = ap (λ (n : ℕ). run_from g limit n picking c) (sym one) ∙ run_of g limit left picking c (Process p) further some (sym process ∙ there) in
+              let pick_there : IsPick g limit (left - 1) picking behind c d p = record {
+                output = settled_output c;
+                goes = record {
+                  ending = sym (ap (λ (x : Run). x.ending) f);
+                  config = sym (ap (λ (x : Run). x.config) f);
+                  events = ap (λ (x : Run). x.events) f;
+                };
+              } in
+              subst (λ (w : Table). IsPick g limit (left - 1) picking (after_pick picking w.rows) c d p) (sym table) pick_there
 
 -- ## Behind an action
 
 module _
-    (source : Source) (g : Program) (limit left : ℕ) (picking behind : Picking) (c d : Config) (p : ℕ) (pick : IsPick g limit left picking behind c d p)
+    (told : Told) (source : Source) (g : Program) (limit left : ℕ) (picking behind : Picking) (c d : Config) (p : ℕ)
+    (pick : IsPick g limit left picking behind c d p)
   where
+    abbrev acted : List Event
+    acted = (step_by g d p behind).event ∷ []
+
     module _ (new : State) (picking' : Picking) (out now : List ℕ) where
       pub continues :
-          IsAction source g new d p (next_of g d p) behind picking' out now Stepped → Continues source g limit (left + 1) picking picking' c new (Some out) (Some now)
+          IsTold told source g new d p behind picking' out now Stepped
+          → Continues told source g limit (left + 1) picking picking' c new (Some out) (Some now)
       continues action =
           let t : Config = (step_by g d p behind).config in
           record {
@@ -216,13 +233,14 @@ module _
             rest = left;
             one = refl;
             stands = action.ends.stands refl;
-            same = subst (λ (x : Picking). EndsAlike (run_from g limit left x t) (run_from g limit (left + 1) picking c)) (sym action.picked) pick.goes;
+            events = acted;
+            same = subst (λ (x : Picking). GoesOn acted (run_from g limit left x t) (run_from g limit (left + 1) picking c)) (sym action.picked) pick.goes;
             bytes = action.bytes;
-            output = action.ends.output ∙ ap (λ (x : List ℕ). x ++ action.bytes) pick.output;
+            tells = told_twice told c d t [] acted [] action.bytes (told_still told c d pick.output) action.tells;
             written = action.written;
           }
 
-      module _ (line : ℕ) (fault : RunFault) (action : IsAction source g new d p (next_of g d p) behind picking' out now (Faulted line fault)) where
+      module _ (line : ℕ) (fault : RunFault) (action : IsTold told source g new d p behind picking' out now (Faulted line fault)) where
         -- the run ends in the fault
         over :
             run_from g limit left (behind_step g d p behind) (step_by g d p behind).config
@@ -232,9 +250,19 @@ module _
             ended g limit (behind_step g d p behind) t (Fault p line fault)
             (ends_in_fault (settled_config t) (record { process = p; line = line; fault = fault }) (settled_fault t ∙ action.ends.tells)) left
 
+        -- what is told of the fault is all that is told
+        told_fault :
+            AreTold told c (run_from g limit (left + 1) picking c).config (run_from g limit (left + 1) picking c).events (action.bytes ++ [])
+        told_fault =
+            let t : Config = (step_by g d p behind).config in
+            let rest : Run = run_from g limit left (behind_step g d p behind) t in
+            told_end told c t acted rest (run_from g limit (left + 1) picking c) action.bytes [] pick.goes
+            (told_twice told c d t [] acted [] action.bytes (told_still told c d pick.output) action.tells)
+            (subst (λ (f : Run). AreTold told t f.config f.events []) (sym over) (told_still told t (settled_config t) (settled_output t)))
+
         pub faulted :
             (end : State) → Reports end (settled_config (step_by g d p behind).config)
-            → Completes (run_from g limit (left + 1) picking c) c end (Fault p line fault) (Some out) (Some now)
+            → Completes told (run_from g limit (left + 1) picking c) c end (Fault p line fault) (Some out) (Some now)
         faulted end reports =
             let t : Config = (step_by g d p behind).config in
             let same = pick.goes in
@@ -243,7 +271,9 @@ module _
               ends = sym (ap (λ (f : Run). f.ending) over) ∙ same.ending;
               reports = subst (λ (x : Config). Reports end x) config reports;
               bytes = action.bytes;
-              output = sym (ap (λ (x : Config). x.output) config) ∙ settled_output t ∙ action.ends.output ∙ ap (λ (x : List ℕ). x ++ action.bytes) pick.output;
+              tells =
+                  told_as told c (run_from g limit (left + 1) picking c).config (run_from g limit (left + 1) picking c).events (action.bytes ++ []) action.bytes
+                  (append-nil action.bytes) told_fault;
               written = action.written;
             }
 

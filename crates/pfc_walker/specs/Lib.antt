@@ -1,3 +1,4 @@
 pub mod Courses
 pub mod Lines
+pub mod Telling
 pub mod Walks

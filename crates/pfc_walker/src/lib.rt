@@ -4,10 +4,14 @@
 //! and the ending is theirs. It joins the crates below it, and rewrites nothing itself.
 #![tactic(auto)]
 
+mod actions;
 mod output;
 mod runs;
 mod standings;
+mod telling;
 mod turns;
 mod walker;
 
+pub use actions::a_walker_is_before_its_actions;
+pub use telling::Told;
 pub use walker::Walker;

@@ -9,7 +9,7 @@ ghost use Rattle.pfc_activities.specs.Programs.{IsProgram};
 ghost use Rattle.pfc_activities.specs.Relation.{MayAct, Stands};
 ghost use Rattle.pfc_walker.specs.Courses.{IsTurn, IsPick};
 
-use pfc_acting::act;
+use crate::telling::{Told, act_told};
 use pfc_activities::{Done, Source, State};
 use pfc_sched::{Pick, Picker};
 use pfc_settling::settle;
@@ -46,7 +46,7 @@ fn script(picker: &Picker, why: ScriptWhy) -> Ending
     }
 }
 
-/// One action of the process that was picked, whose bytes stand behind `out`. It answers the ending that this is, or None where the run goes
+/// One action of the process that was picked, of which is told behind `out`. It answers the ending that this is, or None where the run goes
 /// on.
 fn act_out<'t>(
     alloc: Global,
@@ -54,14 +54,15 @@ fn act_out<'t>(
     state: &mut State<'t>,
     p: u32,
     picker: &mut Picker,
+    told: Told,
     out: &mut Output,
 ) -> Option<Ending>
     requires may { MayAct state.old p }
     requires before { (g : Program) × (c : Config) × IsProgram source.now g × Stands source.now state.old c }
-    ensures turn { (g : Program) (limit left : ℕ) (picking : Picking) (c d : Config) → IsProgram source.now g → Stands source.now state.old d → IsPick g limit left picking picker.old c d p → IsTurn source.now g limit (left + 1) picking picker.new c state.new result (Some out.old) (Some out.new) }
+    ensures turn { (g : Program) (limit left : ℕ) (picking : Picking) (c d : Config) → IsProgram source.now g → Stands source.now state.old d → IsPick g limit left picking picker.old c d p → IsTurn told source.now g limit (left + 1) picking picker.new c state.new result (Some out.old) (Some out.new) }
     ensures written { result ≢ Some Ending.SinkFailed }
 {
-    let Ok(done) = act(alloc, source, state, p, picker, out) else {
+    let Ok(done) = act_told(alloc, source, state, p, picker, told, out) else {
         return Some(Ending::Memory);
     };
     match done {
@@ -77,7 +78,7 @@ fn act_out<'t>(
     }
 }
 
-/// One turn of a run: its ending, or the action of the process that is picked, which prints to `out`. It answers the ending, or None where
+/// One turn of a run: its ending, or the action of the process that is picked, of which is told behind `out`. It answers the ending, or None where
 /// the run goes on.
 pub(crate) fn turn<'t>(
     alloc: Global,
@@ -86,10 +87,11 @@ pub(crate) fn turn<'t>(
     picker: &mut Picker,
     limit: u64,
     left: u64,
+    told: Told,
     out: &mut Output,
 ) -> Option<Ending>
     requires before { (g : Program) × (c : Config) × IsProgram source.now g × Stands source.now state.old c }
-    ensures turn { (g : Program) (c : Config) → IsProgram source.now g → Stands source.now state.old c → IsTurn source.now g limit left picker.old picker.new c state.new result (Some out.old) (Some out.new) }
+    ensures turn { (g : Program) (c : Config) → IsProgram source.now g → Stands source.now state.old c → IsTurn told source.now g limit left picker.old picker.new c state.new result (Some out.old) (Some out.new) }
     ensures some { result ≡ None → 0 < left }
     ensures written { result ≢ Some Ending.SinkFailed }
 {
@@ -107,7 +109,7 @@ pub(crate) fn turn<'t>(
         return Some(Ending::Memory);
     }
     match picker.pick(&state.world) {
-        Pick::Process(p) => act_out(alloc, source, state, p, picker, out),
+        Pick::Process(p) => act_out(alloc, source, state, p, picker, told, out),
         Pick::Nobody => Some(Ending::Deadlock),
         Pick::NotReady(p) => Some(script(picker, ScriptWhy::NotReady(p))),
         Pick::NoProcess(p) => Some(script(picker, ScriptWhy::NoProcess(p))),

@@ -40,7 +40,7 @@ impl<'t> Walker<'t> {
         })
     }
 
-    /// Whether the output is not empty and has no line end at its end. It is known where a run was not broken off.
+    /// Whether the output is not empty and has no line end at its end. It is known where the output was told and the run not broken off.
     pub fn open_line(&self) -> bool
         ensures { result ≡ self.now.in_line }
     {

@@ -1,5 +1,5 @@
 use Rattle.std.proofs.Common.{◌≡◌, ◌<◌, ◌≤◌, length, get_or, ap, arith}
-use Rattle.pfc_walker.proofs.Told.{told_all, told_more}
+use Rattle.pfc_walker.proofs.Reported.{told_all, told_more}
 use Rattle.pfc_walker.proofs.standings.standings_of.Goals as goal
 
 pub returns-in_default : goal.returns-in_default

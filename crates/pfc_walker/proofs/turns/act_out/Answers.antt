@@ -1,18 +1,16 @@
 use Rattle.std.proofs.Common.{rules, ap, ◌∙◌, subst}
 use Rattle.pfc_semantics.specs.Programs.{Program}
 use Rattle.pfc_semantics.specs.Configurations.{Config}
-use Rattle.pfc_semantics.specs.Steps.{next_of}
 use Rattle.pfc_world.specs.Tables.{Table}
 use Rattle.pfc_activities.specs.declared.changes.Done.{Done}
-use Rattle.pfc_performing.specs.Performing.{IsAction}
 use Rattle.pfc_acting.proofs.Before.{before_any}
-use Rattle.pfc_walker.specs.Courses.{step_by}
+use Rattle.pfc_walker.specs.Telling.{IsTold, step_by}
 use Rattle.pfc_walker.proofs.OneTurn.{not_begun, continues, faulted}
 use Rattle.pfc_walker.proofs.turns.act_out.Goals as goal
 
 pub returns-in_default-clause-turn : goal.returns-in_default-clause-turn
 returns-in_default-clause-turn c = λ g limit left picking c' d program stands pick.
-    not_begun g limit picking c' _ c.args.out.now c.act.new.out (search rules)
+    not_begun g limit picking c' c.args.told _ c.args.out.now c.act_told.new.out (search rules)
 
 pub settle-requires : goal.settle-requires
 settle-requires c =
@@ -22,19 +20,19 @@ settle-requires c =
 
 pub returns-in-Stepped-clause-turn : goal.returns-in-Stepped-clause-turn
 returns-in-Stepped-clause-turn c = λ g limit left picking c' d program stands pick.
-    continues c.args.source.now g limit left picking c.args.picker.now c' d c.args.p pick c.act.new.state c.act.new.picker c.args.out.now c.act.new.out
+    continues c.args.told c.args.source.now g limit left picking c.args.picker.now c' d c.args.p pick c.act_told.new.state c.act_told.new.picker c.args.out.now c.act_told.new.out
     (subst
-    (λ (x : Done). IsAction c.args.source.now g c.act.new.state d c.args.p (next_of g d c.args.p) c.args.picker.now c.act.new.picker c.args.out.now c.act.new.out x)
+    (λ (x : Done). IsTold c.args.told c.args.source.now g c.act_told.new.state d c.args.p c.args.picker.now c.act_told.new.picker c.args.out.now c.act_told.new.out x)
     c.in-Stepped.is
     (c.in-Ok.ensures.ok g d program (before_any c.args.source.now c.args.state.now d c.args.p c.requires.may.within stands)))
 
 pub returns-in-Faulted-clause-turn : goal.returns-in-Faulted-clause-turn
 returns-in-Faulted-clause-turn c = λ g limit left picking c' d program stands pick.
     let action = c.in-Ok.ensures.ok g d program (before_any c.args.source.now c.args.state.now d c.args.p c.requires.may.within stands) in
-    faulted c.args.source.now g limit left picking c.args.picker.now c' d c.args.p pick c.act.new.state c.act.new.picker c.args.out.now c.act.new.out
+    faulted c.args.told c.args.source.now g limit left picking c.args.picker.now c' d c.args.p pick c.act_told.new.state c.act_told.new.picker c.args.out.now c.act_told.new.out
     c.in-Faulted.line c.in-Faulted.fault
     (subst
-    (λ (x : Done). IsAction c.args.source.now g c.act.new.state d c.args.p (next_of g d c.args.p) c.args.picker.now c.act.new.picker c.args.out.now c.act.new.out x)
+    (λ (x : Done). IsTold c.args.told c.args.source.now g c.act_told.new.state d c.args.p c.args.picker.now c.act_told.new.picker c.args.out.now c.act_told.new.out x)
     c.in-Faulted.is action)
     c.settle.new.state
     (c.settle.ensures.reports (step_by g d c.args.p c.args.picker.now).config action.ends.reports)

@@ -12,19 +12,19 @@ use Rattle.pfc_walker.proofs.turns.turn.Goals as goal
 
 pub returns-then-is_over-clause-turn : goal.returns-then-is_over-clause-turn
 returns-then-is_over-clause-turn c = λ g c' program stands.
-    turn_over c.args.source.now g c.args.limit c.args.left c.args.picker.now c' c.settle-settled.new.state c.args.out.now (c.settle-settled.ensures.stands c.args.source.now c' stands) (sym c.is_over.ensures ∙ c.if-is_over.true)
+    turn_over c.args.told c.args.source.now g c.args.limit c.args.left c.args.picker.now c' c.settle-settled.new.state c.args.out.now (c.settle-settled.ensures.stands c.args.source.now c' stands) (sym c.is_over.ensures ∙ c.if-is_over.true)
 
 pub returns-in-NobodyReady-clause-turn : goal.returns-in-NobodyReady-clause-turn
 returns-in-NobodyReady-clause-turn c = λ g c' program stands.
-    turn_dead c.args.source.now g c.args.limit c.args.left c.args.picker.now c' c.settle-settled.new.state c.args.out.now (c.settle-settled.ensures.stands c.args.source.now c' stands) (sym c.is_over.ensures ∙ c.if-is_over.false) c.in-NobodyReady.ensures.left.nobody
+    turn_dead c.args.told c.args.source.now g c.args.limit c.args.left c.args.picker.now c' c.settle-settled.new.state c.args.out.now (c.settle-settled.ensures.stands c.args.source.now c' stands) (sym c.is_over.ensures ∙ c.if-is_over.false) c.in-NobodyReady.ensures.left.nobody
 
 pub returns-then-left-eq0-clause-turn : goal.returns-then-left-eq0-clause-turn
 returns-then-left-eq0-clause-turn c = λ g c' program stands.
-    turn_limit c.args.source.now g c.args.limit c.args.left c.args.picker.now c' c.settle-settled.new.state c.args.out.now (c.settle-settled.ensures.stands c.args.source.now c' stands) (sym c.is_over.ensures ∙ c.if-is_over.false)
+    turn_limit c.args.told c.args.source.now g c.args.limit c.args.left c.args.picker.now c' c.settle-settled.new.state c.args.out.now (c.settle-settled.ensures.stands c.args.source.now c' stands) (sym c.is_over.ensures ∙ c.if-is_over.false)
     (left_ready c.settle-settled.result c.settle-settled.new.state.world.rows c.settle-settled.ensures.left c.in_default.not-NobodyReady) c.if-left-eq0.true
 
 pub returns-then-is_worn_out-clause-turn : goal.returns-then-is_worn_out-clause-turn
-returns-then-is_worn_out-clause-turn c = λ g c' program stands. not_begun g c.args.limit c.args.picker.now c' c.args.left c.args.out.now c.args.out.now refl
+returns-then-is_worn_out-clause-turn c = λ g c' program stands. not_begun g c.args.limit c.args.picker.now c' c.args.told c.args.left c.args.out.now c.args.out.now refl
 
 pub act_out-requires-clause-may : goal.act_out-requires-clause-may
 act_out-requires-clause-may c =
@@ -41,41 +41,41 @@ act_out-requires-clause-before c =
 pub returns-in-Process-clause-turn : goal.returns-in-Process-clause-turn
 returns-in-Process-clause-turn c = λ g c' program stands.
     let one : (c.args.left - 1) + 1 ≡ c.args.left = omega (arith, c.if-left-eq0.false) in
-    let pick = turn_goes c.args.source.now g c.args.limit c.args.left c.args.picker.now c' c.settle-settled.new.state c.args.out.now (c.settle-settled.ensures.stands c.args.source.now c' stands) (sym c.is_over.ensures ∙ c.if-is_over.false)
+    let pick = turn_goes c.args.told c.args.source.now g c.args.limit c.args.left c.args.picker.now c' c.settle-settled.new.state c.args.out.now (c.settle-settled.ensures.stands c.args.source.now c' stands) (sym c.is_over.ensures ∙ c.if-is_over.false)
     (left_ready c.settle-settled.result c.settle-settled.new.state.world.rows c.settle-settled.ensures.left c.in_default.not-NobodyReady) c.if-left-eq0.false (Process c.in-Process.p) (sym c.in-Process.is ∙ c.pick.ensures.pick) c.in-Process.p refl in
-    subst (λ n. IsTurn c.args.source.now g c.args.limit n c.args.picker.now c.act_out.new.picker c' c.act_out.new.state c.act_out.result (Some c.args.out.now) (Some c.act_out.new.out)) one
+    subst (λ n. IsTurn c.args.told c.args.source.now g c.args.limit n c.args.picker.now c.act_out.new.picker c' c.act_out.new.state c.act_out.result (Some c.args.out.now) (Some c.act_out.new.out)) one
     (c.act_out.ensures.turn g c.args.limit (c.args.left - 1) c.args.picker.now c' (settled_config c') program
     (c.settle-settled.ensures.stands c.args.source.now c' stands)
     (subst (λ (x : Picking). IsPick g c.args.limit (c.args.left - 1) c.args.picker.now x c' (settled_config c') c.in-Process.p) (sym c.pick.ensures.after) pick))
 
 pub returns-in-Nobody-clause-turn : goal.returns-in-Nobody-clause-turn
 returns-in-Nobody-clause-turn c = λ g c' program stands.
-    turn_ends c.args.source.now g c.args.limit c.args.left c.args.picker.now c' c.settle-settled.new.state c.args.out.now (c.settle-settled.ensures.stands c.args.source.now c' stands) (sym c.is_over.ensures ∙ c.if-is_over.false)
+    turn_ends c.args.told c.args.source.now g c.args.limit c.args.left c.args.picker.now c' c.settle-settled.new.state c.args.out.now (c.settle-settled.ensures.stands c.args.source.now c' stands) (sym c.is_over.ensures ∙ c.if-is_over.false)
     (left_ready c.settle-settled.result c.settle-settled.new.state.world.rows c.settle-settled.ensures.left c.in_default.not-NobodyReady) c.if-left-eq0.false Nobody (sym c.in-Nobody.is ∙ c.pick.ensures.pick) Deadlock refl
 
 pub returns-in-NotReady-clause-turn : goal.returns-in-NotReady-clause-turn
 returns-in-NotReady-clause-turn c = λ g c' program stands.
     subst
-    (λ (e : Ending). IsCourse g c.args.limit (run_from g c.args.limit c.args.left c.args.picker.now c') c' c.settle-settled.new.state e (Some c.args.out.now) (Some c.args.out.now))
+    (λ (e : Ending). IsCourse c.args.told g c.args.limit (run_from g c.args.limit c.args.left c.args.picker.now c') c' c.settle-settled.new.state e (Some c.args.out.now) (Some c.args.out.now))
     (sym (c.script.ensures ∙ ap (λ (x : Picking). Script (item_of x) (Not_ready c.in-NotReady.p)) c.pick.ensures.after))
-    (turn_ends c.args.source.now g c.args.limit c.args.left c.args.picker.now c' c.settle-settled.new.state c.args.out.now (c.settle-settled.ensures.stands c.args.source.now c' stands) (sym c.is_over.ensures ∙ c.if-is_over.false)
+    (turn_ends c.args.told c.args.source.now g c.args.limit c.args.left c.args.picker.now c' c.settle-settled.new.state c.args.out.now (c.settle-settled.ensures.stands c.args.source.now c' stands) (sym c.is_over.ensures ∙ c.if-is_over.false)
     (left_ready c.settle-settled.result c.settle-settled.new.state.world.rows c.settle-settled.ensures.left c.in_default.not-NobodyReady) c.if-left-eq0.false (NotReady c.in-NotReady.p) (sym c.in-NotReady.is ∙ c.pick.ensures.pick)
     (Script (item_of (after_pick c.args.picker.now c.settle-settled.new.state.world.rows)) (Not_ready c.in-NotReady.p)) refl)
 
 pub returns-in-NoProcess-clause-turn : goal.returns-in-NoProcess-clause-turn
 returns-in-NoProcess-clause-turn c = λ g c' program stands.
     subst
-    (λ (e : Ending). IsCourse g c.args.limit (run_from g c.args.limit c.args.left c.args.picker.now c') c' c.settle-settled.new.state e (Some c.args.out.now) (Some c.args.out.now))
+    (λ (e : Ending). IsCourse c.args.told g c.args.limit (run_from g c.args.limit c.args.left c.args.picker.now c') c' c.settle-settled.new.state e (Some c.args.out.now) (Some c.args.out.now))
     (sym (c.script-in-NoProcess.ensures ∙ ap (λ (x : Picking). Script (item_of x) (No_process c.in-NoProcess.p)) c.pick.ensures.after))
-    (turn_ends c.args.source.now g c.args.limit c.args.left c.args.picker.now c' c.settle-settled.new.state c.args.out.now (c.settle-settled.ensures.stands c.args.source.now c' stands) (sym c.is_over.ensures ∙ c.if-is_over.false)
+    (turn_ends c.args.told c.args.source.now g c.args.limit c.args.left c.args.picker.now c' c.settle-settled.new.state c.args.out.now (c.settle-settled.ensures.stands c.args.source.now c' stands) (sym c.is_over.ensures ∙ c.if-is_over.false)
     (left_ready c.settle-settled.result c.settle-settled.new.state.world.rows c.settle-settled.ensures.left c.in_default.not-NobodyReady) c.if-left-eq0.false (NoProcess c.in-NoProcess.p) (sym c.in-NoProcess.is ∙ c.pick.ensures.pick)
     (Script (item_of (after_pick c.args.picker.now c.settle-settled.new.state.world.rows)) (No_process c.in-NoProcess.p)) refl)
 
 pub returns-in-ScriptEnd-clause-turn : goal.returns-in-ScriptEnd-clause-turn
 returns-in-ScriptEnd-clause-turn c = λ g c' program stands.
     subst
-    (λ (e : Ending). IsCourse g c.args.limit (run_from g c.args.limit c.args.left c.args.picker.now c') c' c.settle-settled.new.state e (Some c.args.out.now) (Some c.args.out.now))
+    (λ (e : Ending). IsCourse c.args.told g c.args.limit (run_from g c.args.limit c.args.left c.args.picker.now c') c' c.settle-settled.new.state e (Some c.args.out.now) (Some c.args.out.now))
     (sym (c.script-in-ScriptEnd.ensures ∙ ap (λ (x : Picking). Script (item_of x) Ended) c.pick.ensures.after))
-    (turn_ends c.args.source.now g c.args.limit c.args.left c.args.picker.now c' c.settle-settled.new.state c.args.out.now (c.settle-settled.ensures.stands c.args.source.now c' stands) (sym c.is_over.ensures ∙ c.if-is_over.false)
+    (turn_ends c.args.told c.args.source.now g c.args.limit c.args.left c.args.picker.now c' c.settle-settled.new.state c.args.out.now (c.settle-settled.ensures.stands c.args.source.now c' stands) (sym c.is_over.ensures ∙ c.if-is_over.false)
     (left_ready c.settle-settled.result c.settle-settled.new.state.world.rows c.settle-settled.ensures.left c.in_default.not-NobodyReady) c.if-left-eq0.false ScriptEnd (sym c.in-ScriptEnd.is ∙ c.pick.ensures.pick)
     (Script (item_of (after_pick c.args.picker.now c.settle-settled.new.state.world.rows)) Ended) refl)

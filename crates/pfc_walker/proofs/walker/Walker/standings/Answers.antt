@@ -1,4 +1,4 @@
-use Rattle.pfc_walker.proofs.Told.{told_so}
+use Rattle.pfc_walker.proofs.Reported.{told_so}
 use Rattle.pfc_walker.proofs.walker.Walker.standings.Goals as goal
 
 pub returns : goal.returns

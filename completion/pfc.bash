@@ -1,6 +1,8 @@
-# Completion of pfc for bash: source this file.
+# Completion of pfc and pfcwalk for bash: source this file.
 _pfc() {
     local word=${COMP_WORDS[COMP_CWORD]} before=${COMP_WORDS[COMP_CWORD - 1]}
+    local options='--seed --unfair --limit --input --script --list --code --make --help --version'
+    if [ "${COMP_WORDS[0]##*/}" = pfcwalk ]; then options='--seed --unfair --limit --input --script --list --trace --help --version'; fi
     COMPREPLY=()
     case $before in
     --seed | --limit | --make) return ;;
@@ -11,7 +13,7 @@ _pfc() {
         ;;
     esac
     case $word in
-    -*) mapfile -t COMPREPLY < <(compgen -W '--seed --unfair --limit --input --script --list --code --make --help --version' -- "$word") ;;
+    -*) mapfile -t COMPREPLY < <(compgen -W "$options" -- "$word") ;;
     *)
         mapfile -t COMPREPLY < <(compgen -f -X '!*.@(pas|pfc)' -- "$word"; compgen -d -- "$word")
         compopt -o filenames
@@ -19,4 +21,4 @@ _pfc() {
     esac
 }
 shopt -s extglob
-complete -F _pfc pfc
+complete -F _pfc pfc pfcwalk

@@ -6,6 +6,7 @@ use crate::texts::files_of;
 use pfc_base::decimal;
 use pfc_io::{MemoryShelf, MemorySink, Shelf, Sink, write_all};
 use pfc_top::pfc;
+use pfc_walk::walk;
 use std::alloc::Global;
 use std::str;
 
@@ -21,7 +22,7 @@ struct Way {
     write: u64,
     /// The most bytes that one write takes, at least 1.
     most: usize,
-    /// The words of the command line.
+    /// The words of the command line, the name of the program first.
     words: Vec<String>,
     ghost some: { 0 < most },
 }
@@ -77,7 +78,7 @@ fn run_each<O: Sink>(
         return Err(Stop);
     };
     for (at, line) in texts.lines().enumerate() {
-        let (status, bytes) = run(alloc, files_of(alloc, line)?, way)?;
+        let (status, bytes) = run(alloc, line, way)?;
         let mut written = Vec::from_slice(alloc, file.as_bytes())?;
         for number in [at as i64 + 1, i64::from(status)] {
             written.push(b' ')?;
@@ -91,13 +92,54 @@ fn run_each<O: Sink>(
     Ok(())
 }
 
-/// The status and the bytes of a run over these files.
-fn run(alloc: Global, files: Vec<(String, Vec<u8>)>, way: &Way) -> Result<(u8, Vec<u8>), Stop> {
-    let mut shelf = MemoryShelf::new(files, Vec::from_slice(alloc, &[way.load])?);
+/// The status and the bytes of the run that a line describes.
+fn run(alloc: Global, line: &str, way: &Way) -> Result<(u8, Vec<u8>), Stop> {
+    let (own, files) = own_words(line);
+    let words = all_words(alloc, &way.words, own)?;
+    let mut shelf = MemoryShelf::new(
+        files_of(alloc, files)?,
+        Vec::from_slice(alloc, &[way.load])?,
+    );
     let fails = Vec::from_slice(alloc, &[way.write])?;
     let mut sink = MemorySink::new(alloc, MOST, way.most, fails)?;
-    let answer = pfc(alloc, &way.words, &mut shelf, &mut sink);
-    Ok((answer.status, sink.written))
+    let status = status_of(alloc, &words, &mut shelf, &mut sink);
+    Ok((status, sink.written))
+}
+
+/// The words that a line has of its own, and what it says of files: `$`, a blank, the words and a tab may stand before these.
+fn own_words(line: &str) -> (&str, &str) {
+    let Some(rest) = line.strip_prefix("$ ") else {
+        return ("", line);
+    };
+    match rest.split_once('\t') {
+        Some(both) => both,
+        None => ("", rest),
+    }
+}
+
+/// Some words, and behind them those of a text, apart by blanks.
+fn all_words(alloc: Global, words: &[String], more: &str) -> Result<Vec<String>, Stop> {
+    let mut all = Vec::new(alloc);
+    for word in words {
+        all.push(word.clone()?)?;
+    }
+    for word in more.split_whitespace() {
+        all.push(String::from_str(alloc, word)?)?;
+    }
+    Ok(all)
+}
+
+/// The status by the program that the first word names: `pfcwalk`, or else `pfc`.
+fn status_of(
+    alloc: Global,
+    words: &[String],
+    shelf: &mut MemoryShelf,
+    sink: &mut MemorySink,
+) -> u8 {
+    match words.first() {
+        Some(name) if name.as_str() == "pfcwalk" => walk(alloc, words, shelf, sink),
+        _ => pfc(alloc, words, shelf, sink).status,
+    }
 }
 
 /// Adds bytes with `\n` for each line end; where there are more than 4,000, their number and the last 100.

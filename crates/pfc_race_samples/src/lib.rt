@@ -1,0 +1,2 @@
+//! Samples of the race reports of runs.
+#![tactic(auto)]

@@ -1,0 +1,4 @@
+pub mod Laws
+pub mod Ordered
+pub mod RunSteps
+pub mod Seen

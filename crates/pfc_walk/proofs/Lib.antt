@@ -1,0 +1,5 @@
+pub mod Courses
+pub mod Meant
+pub mod Outcomes
+pub mod Readings
+pub mod Traced

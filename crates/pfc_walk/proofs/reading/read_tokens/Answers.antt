@@ -1,0 +1,24 @@
+use Rattle.std.proofs.Common.{rules, ℕ, ap, ◌∙◌}
+use Rattle.pfc_tree.specs.views.Parts.{tree_view}
+use Rattle.pfc_outcome.specs.Outcomes.{syntax_refusal}
+use Rattle.pfc_walk.specs.declared.reading.Unread.TheVariants.{Refused}
+use Rattle.pfc_walk.proofs.Readings.{tokens_read, tokens_refusal, syntax_refused}
+use Rattle.pfc_walk.proofs.reading.read_tokens.Goals as goal
+
+pub returns-in-Ok-clause-sound : goal.returns-in-Ok-clause-sound
+returns-in-Ok-clause-sound c =
+    tokens_read c.args.tokens.now c.in-Ok.tree c.read_tree.result c.in-Ok.ensures.tree c.in-Ok.ensures.level c.read_tree.ensures.same c.read_tree.ensures.sound
+
+pub returns-in-Ok-clause-none : goal.returns-in-Ok-clause-none
+returns-in-Ok-clause-none c =
+    tokens_refusal c.args.tokens.now c.args.end (tree_view c.in-Ok.tree) c.read_tree.result c.in-Ok.ensures.tree c.in-Ok.ensures.level c.read_tree.ensures.none
+
+pub returns-in-Err-Unexpected-clause-none : goal.returns-in-Err-Unexpected-clause-none
+returns-in-Err-Unexpected-clause-none c =
+    syntax_refused c.args.tokens.now c.args.end 201 c.in-Err-Unexpected.at c.refused_at.result
+    (c.refused_at.ensures ∙ ap (λ (i : ℕ). Refused (syntax_refusal c.args.tokens.now c.args.end 201 i)) c.in-Err-Unexpected.at-is) (search rules)
+
+pub returns-in-Err-Deep-clause-none : goal.returns-in-Err-Deep-clause-none
+returns-in-Err-Deep-clause-none c =
+    syntax_refused c.args.tokens.now c.args.end 202 c.in-Err-Deep.at c.refused_at-in-Err-Deep.result
+    (c.refused_at-in-Err-Deep.ensures ∙ ap (λ (i : ℕ). Refused (syntax_refusal c.args.tokens.now c.args.end 202 i)) c.in-Err-Deep.at-is) (search rules)

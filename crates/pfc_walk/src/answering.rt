@@ -1,0 +1,133 @@
+//! The answer to a text: its refusal, or its run, behind what is listed of it.
+ghost use Rattle.std.specs.Prelude.{◌≡◌, ◌≤◌, Ok, IfOk, IfErr, IsErrOf, length, if◌then◌else◌, [], false};
+ghost use Rattle.pfc_io.specs.Counts.{Rose};
+ghost use Rattle.pfc_report.specs.Listings.{listing_text};
+ghost use Rattle.pfc_tree.specs.trees.Parts.{ProgramTree};
+ghost use Rattle.pfc_tree.specs.views.Parts.{tree_view};
+ghost use Rattle.pfc_outcome.specs.Loaded.{asks};
+ghost use Rattle.pfc_outcome.specs.Outcomes.{behind, stopped_at, without_run};
+ghost use Rattle.pfc_outcome.specs.Requests.{policy_of};
+ghost use Rattle.pfc_walk.specs.Answers.{IsAnswerToText, IsWritten, Replies};
+ghost use Rattle.pfc_walk.specs.Reading.{IsFitting, IsNoPolicy};
+ghost use Rattle.pfc_walk.specs.Traces.{IsToldOfText, program_told};
+ghost use Rattle.pfc_walk.specs.Meanings.{whole_meaning};
+
+use crate::reading::{Sound, Unread, read};
+use crate::replies::Stop;
+use crate::reporting::with_labels;
+use crate::running::run;
+use crate::writing::say;
+use pfc_base::Memory;
+use pfc_io::Sink;
+use pfc_outcome::{Loaded, Options, an_outcome_is_one};
+use pfc_report::{listing, refusal_line, report};
+use pfc_sched::{Policy, ScriptFault, read_script};
+use pfc_state::{Ending, ScriptWhy};
+use pfc_walker::Told;
+use std::alloc::Global;
+
+/// The status of a refused text.
+const REFUSED: u8 = 1;
+
+/// The status of a script that is no list of numbers.
+const SCRIPT_REFUSED: u8 = 10;
+
+/// Answers a text of at most 262,144 bytes: runs its program, or writes the line of its refusal. Of a text whose program has more
+/// than 200,000 instructions nothing is promised: it is run. No code text may be asked for.
+pub(crate) fn answer<O: Sink>(
+    alloc: Global,
+    options: &Options<'_>,
+    loaded: &Loaded,
+    told: Told,
+    sink: &mut O,
+) -> Result<u8, Stop>
+    requires short { length loaded.now.text ≤ 262144 }
+    requires codeless { options.now.code ≡ false }
+    ensures replies { IsFitting loaded.now.text → Replies (IsToldOfText told whole_meaning loaded.now.text (asks options.now loaded.now)) result (O.written sink.old) (O.written sink.new) }
+    ensures sound { IfOk result (λ status. IsAnswerToText status) }
+    ensures cut { IsErrOf result Stop.WriteFailed → Rose (O.faults sink.old) (O.faults sink.new) }
+{
+    an_outcome_is_one();
+    let text = loaded.text.bytes();
+    let listing = listed(alloc, text, options.list)?;
+    match read(alloc, text) {
+        Ok(sound) => answer_sound(alloc, &sound, options, loaded, told, &listing, sink),
+        Err(Unread::Refused(refusal)) => {
+            let line = refusal_line(alloc, &refusal)?;
+            refuse(&listing, &line, REFUSED, sink)
+        }
+        Err(Unread::Memory) => Err(Stop::Memory),
+    }
+}
+
+/// The listing of the text, where it is asked for.
+fn listed(alloc: Global, text: &[u8], list: bool) -> Result<Vec<u8>, Memory>
+    ensures { IfOk result (λ bytes. bytes.items ≡ (if list then listing_text text.now else [])) }
+{
+    if list {
+        return listing(alloc, text);
+    }
+    Ok(Vec::new(alloc))
+}
+
+/// Writes the line that stands for a run, behind a listing, and answers the status.
+fn refuse<O: Sink>(listing: &[u8], line: &[u8], status: u8, sink: &mut O) -> Result<u8, Stop>
+    requires { IsAnswerToText status }
+    ensures written { IsWritten (behind listing.now (without_run status line.now)) result (O.written sink.old) (O.written sink.new) }
+    ensures sound { IfOk result (λ status. IsAnswerToText status) }
+    ensures cut { IsErrOf result Stop.WriteFailed → Rose (O.faults sink.old) (O.faults sink.new) }
+{
+    say(sink, listing)?;
+    say(sink, line)?;
+    Ok(status)
+}
+
+/// Runs a checked program, or writes the line of a script that is no list of numbers, behind a listing.
+fn answer_sound<O: Sink>(
+    alloc: Global,
+    sound: &Sound,
+    options: &Options<'_>,
+    loaded: &Loaded,
+    told: Told,
+    listing: &[u8],
+    sink: &mut O,
+) -> Result<u8, Stop>
+    ensures written { IsWritten (program_told told listing.now (tree_view sound.now.checked.0) (asks options.now loaded.now)) result (O.written sink.old) (O.written sink.new) }
+    ensures sound { IfOk result (λ status. IsAnswerToText status) }
+    ensures cut { IsErrOf result Stop.WriteFailed → Rose (O.faults sink.old) (O.faults sink.new) }
+{
+    match policy(alloc, options, loaded) {
+        Ok(policy) => run(alloc, sound, options, loaded, policy, told, listing, sink),
+        Err(ScriptFault::NotANumber { item }) => {
+            let line = script_line(alloc, item)?;
+            refuse(listing, &line, SCRIPT_REFUSED, sink)
+        }
+        Err(ScriptFault::Memory) => Err(Stop::Memory),
+    }
+}
+
+/// Who picks: the script where there is one, else what the words ask for.
+fn policy(alloc: Global, options: &Options<'_>, loaded: &Loaded) -> Result<Policy, ScriptFault>
+    ensures picks { IfOk result (λ policy. policy_of (asks options.now loaded.now) ≡ Ok policy) }
+    ensures none { IfErr result (λ fault. IsNoPolicy (asks options.now loaded.now) fault) }
+{
+    if options.script.is_some() {
+        return Ok(Policy::Script(read_script(alloc, loaded.script.bytes())?));
+    }
+    if options.unfair {
+        return Ok(Policy::Unfair);
+    }
+    Ok(Policy::Fair { seed: options.seed })
+}
+
+/// The line of a script whose item of this number is no number.
+fn script_line(alloc: Global, item: u64) -> Result<Vec<u8>, Memory>
+    ensures { (tree : ProgramTree) → IfOk result (λ line. line.items ≡ (stopped_at whole_meaning tree item).bytes) }
+{
+    let stopped = Ending::Script {
+        item,
+        why: ScriptWhy::NotANumber,
+    };
+    let image = with_labels(alloc, Vec::new(alloc));
+    report(alloc, &stopped, &[], &image, false)
+}

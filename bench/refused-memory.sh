@@ -4,18 +4,28 @@
 # each text counts its runs. It needs rt and cc: the built program takes its memory from the C library, in front of which a small
 # library stands that refuses one call.
 #
-#   bench/refused-memory.sh [STEP]
+#   bench/refused-memory.sh [STEP [PROGRAM ..]]
 #
-# With STEP only each STEP-th growth is refused in the longest text, which has very many; 1 without it.
+# With STEP only each STEP-th growth is refused in the longest text, which has very many; 1 without it. The programs are out/pfc and
+# out/pfcwalk, as the scripts build them, where none is named; pfcwalk has texts of every construct besides, and pfc the code.
 set -e
 here="$(cd "$(dirname "$0")" && pwd)"
-program="$here/../out/pfc"
 step="${1-1}"
+shift || true
 work="$(mktemp -d)"
 trap 'rm -rf "$work"' EXIT
+if [ $# = 0 ]; then
+    echo 'program a; begin writeln(1+2) end.' > "$work/sum.pas"
+    for name in pfc pfcwalk; do
+        "$here/../$name" "$work/sum.pas" > /dev/null
+        set -- "$@" "$here/../out/$name"
+    done
+fi
+programs=()
+for program in "$@"; do programs+=("$(readlink -f "$program")"); done
+examples="$here/../examples"
 cd "$work"
 echo 'program a; begin writeln(1+2) end.' > sum.pas
-"$here/../pfc" sum.pas > /dev/null
 
 cat > refuse.c <<'C'
 #define _GNU_SOURCE
@@ -80,25 +90,35 @@ refuse_each() {
         if [ "$status" = 8 ]; then
             wanting=$((wanting + 1))
         elif [ "$status" != "$wanted" ]; then
-            echo "$name: without its growth $number it ends with status $status"
+            echo "$(basename "$program"), $name: without its growth $number it ends with status $status"
             exit 1
         fi
         if ! cmp -s -n "$(stat -c %s part)" part whole; then
-            echo "$name: without its growth $number it writes something else"
+            echo "$(basename "$program"), $name: without its growth $number it writes something else"
             exit 1
         fi
         number=$((number + each))
     done
-    echo "$name: $runs growths refused, $wanting of them with status 8; each wrote a front of its $(stat -c %s whole) bytes"
+    echo "$(basename "$program"), $name: $runs growths refused, $wanting of them with status 8; each wrote a front of its $(stat -c %s whole) bytes"
 }
 
-refuse_each 'the sum' 1 sum.pas
-refuse_each 'the sum, listed' 1 sum.pas --list --code
 echo 0 0 0 0 > script
 echo 'program i; var a: integer; begin read(a); writeln(a) end.' > read.pas
 echo 5 > input
-refuse_each 'an input and a script' 1 read.pas --input input --script script
 echo 'program w; begin writeln(x) end.' > wrong.pas
-refuse_each 'a refused text' 1 wrong.pas --list
 python3 -c "print('program a; var i: integer; begin write(i' + ',i' * 66665 + ') end.')" > longest.pas
-refuse_each 'the longest row' "$step" longest.pas
+for program in "${programs[@]}"; do
+    refuse_each 'the sum' 1 sum.pas
+    refuse_each 'the sum, listed' 1 sum.pas --list
+    refuse_each 'an input and a script' 1 read.pas --input input --script script
+    refuse_each 'a refused text' 1 wrong.pas --list
+    case $(basename "$program") in
+    pfc) refuse_each 'the sum, with its code' 1 sum.pas --list --code ;;
+    pfcwalk)
+        for example in lost_update procedures ranked_delays barrier replicated rendezvous; do
+            refuse_each "$example" 1 "$examples/$example.pas"
+        done
+        ;;
+    esac
+    refuse_each 'the longest row' "$step" longest.pas
+done

@@ -93,6 +93,13 @@ pub found_at :
 found_at source s c p found found_is (a, is_at) =
     subst (λ (b : Activity). IsAt source s c p b (doing_ahead source.program.tables b.doing)) (sym (found_is ∙ is_at.before.there.is found)) is_at
 
+-- before its action
+pub deed_at :
+    (source : Source) (s : State) (c : Config) (p : ℕ) (found : Activity) (x : Deed)
+    → found ≡ get_or s.activities.items p found → IsBeforeDeed source s c p x → IsAt source s c p found (deed_of source.program.tables found.doing x)
+deed_at source s c p found x found_is (a, is_at) =
+    subst (λ (b : Activity). IsAt source s c p b (deed_of source.program.tables b.doing x)) (sym (found_is ∙ is_at.before.there.is found)) is_at
+
 -- one of some
 some_of : (xs : List Activity) (p : ℕ) → p < length xs → Activity
 some_of [] p within = absurd (omega (arith, within))

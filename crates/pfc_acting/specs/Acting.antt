@@ -1,7 +1,6 @@
 -- One action of a process.
 use Rattle.std.specs.Prelude.{ℕ, List}
 use Rattle.pfc_pending.specs.declared.actions.Deed.{Deed}
-use Rattle.pfc_pending.specs.declared.at_hand.At.{At}
 use Rattle.pfc_sched.specs.Picks.{Picking}
 use Rattle.pfc_semantics.specs.Programs.{Program}
 use Rattle.pfc_semantics.specs.Configurations.{Config}
@@ -16,10 +15,6 @@ use Rattle.pfc_activities.specs.Relation.{IsAt}
 pub use Rattle.pfc_performing.specs.Performing.{IsAction}
 
 -- ## Before an action
-
--- it has this at hand
-abbrev pub with_at : Activity → At → Activity
-with_at a x = record a { doing = record a.doing { at = x } }
 
 -- The state stands for the configuration, except that what process p showed while it waited is not compared.
 abbrev pub StandsBefore : Source → State → Config → ℕ → Type 0

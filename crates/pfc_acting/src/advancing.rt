@@ -1,11 +1,10 @@
 //! The action that comes next for a process.
-ghost use Rattle.std.specs.Prelude.{◌≡◌, ◌<◌, length, set, IfOk, OnErr};
+ghost use Rattle.std.specs.Prelude.{◌≡◌, IfOk, OnErr};
 ghost use Rattle.pfc_semantics.specs.Configurations.{Config};
-ghost use Rattle.pfc_activities.specs.declared.activities.Activity.{Activity as HeldActivity};
+ghost use Rattle.pfc_activities.specs.declared.source.Source.{Source as HeldSource};
 ghost use Rattle.pfc_activities.specs.Views.{doing_ahead, deed_of};
-ghost use Rattle.pfc_activities.specs.Relation.{IsIn};
-ghost use Rattle.pfc_pending.specs.declared.at_hand.At.TheVariants as at;
-ghost use Rattle.pfc_acting.specs.Acting.{with_at, StandsBefore, IsBeforeDeed};
+ghost use Rattle.pfc_activities.specs.Relation.{MayAct};
+ghost use Rattle.pfc_acting.specs.Acting.{StandsBefore, IsBeforeDeed};
 
 use pfc_activities::{Doing, Source, State};
 use pfc_base::Memory;
@@ -37,19 +36,18 @@ fn rewrite<'t>(
     came
 }
 
-/// The action that comes next for the process with this number. Its only refusal is want of memory, which leaves the process before the same
-/// action.
-pub(crate) fn next<'t>(
+/// The action that comes next for a process that is ready, taken from it. Its only refusal is want of memory, which leaves the process before
+/// the same action.
+pub fn next<'t>(
     alloc: Global,
     source: &'t Source<'t>,
     state: &mut State<'t>,
     p: u32,
 ) -> Result<Deed<'t>, Memory>
-    requires { p < length state.old.activities.items }
+    requires { MayAct state.old p }
     ensures ok { IfOk result (λ deed. (c : Config) → StandsBefore source.now state.old c p → IsBeforeDeed source.now state.new c p deed) }
     ensures err { OnErr result ((c : Config) → StandsBefore source.now state.old c p → StandsBefore source.now state.new c p) }
-    ensures count { length state.new.activities.items ≡ length state.old.activities.items }
-    ensures world { state.new.world ≡ state.old.world }
+    ensures may { MayAct state.new p }
 {
     let activity = &mut state.activities[p as usize];
     match rewrite(alloc, &source.program, &mut activity.doing) {
@@ -59,11 +57,11 @@ pub(crate) fn next<'t>(
 }
 
 /// The process is before this action again, which was not done. Where there is no such process, nothing changes.
-pub(crate) fn put_back<'t>(state: &mut State<'t>, p: u32, deed: Deed<'t>)
-    ensures activity { (a : HeldActivity) → IsIn state.old.activities.items p a → state.new.activities.items ≡ set state.old.activities.items p (with_at a (at.Deed deed.entry)) }
-    ensures rest { state.new ≡ record state.old { activities = state.new.activities } }
+pub fn put_back<'t>(state: &mut State<'t>, p: u32, deed: Deed<'t>)
+    ensures { (source : HeldSource) (c : Config) → IsBeforeDeed source state.old c p deed.entry → StandsBefore source state.new c p }
 {
-    if (p as usize) < state.activities.len() {
-        state.activities[p as usize].doing.at = At::Deed(deed);
+    if p as usize >= state.activities.len() {
+        return;
     }
+    state.activities[p as usize].doing.at = At::Deed(deed);
 }

@@ -8,3 +8,4 @@ mod acting;
 mod advancing;
 
 pub use acting::act;
+pub use advancing::{next, put_back};

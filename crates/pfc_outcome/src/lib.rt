@@ -14,4 +14,4 @@ pub use laws::an_outcome_is_one;
 pub use loading::{Loaded, load_asked, load_files};
 pub use making::make_text;
 pub use options::{Options, Source, read_words};
-pub use walk_options::{WalkOptions, read_walk_words};
+pub use walk_options::{Shown, WalkOptions, read_walk_words};

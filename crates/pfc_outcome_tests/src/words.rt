@@ -1,7 +1,9 @@
 //! What command lines ask for.
 
 use pfc_base::Memory;
-use pfc_outcome::{Options, Source, make_text, read_walk_words, read_words};
+use pfc_outcome::{
+    Options, Shown, Source, WalkOptions, make_text, read_walk_words, read_words,
+};
 use std::alloc::Global;
 use std::test::Fail;
 
@@ -49,16 +51,31 @@ a.pas --version|
 ~|~
 ";
 
-/// Words of the walker behind the program's name, and behind `|` whether they ask for a trace; nothing where they are refused.
+/// Words of the walker behind the program's name, and behind `|` what they show of the run and its limit; nothing where they are refused.
 const WALK_WORDS: &str = "\
-a.pas|without
-a.pas --trace|trace
---trace a.pas --list --unfair|trace
-a.pas --list --script picks|without
+a.pas|output 1000000
+a.pas --trace|trace 1000000
+--trace a.pas --list --unfair|trace 1000000
+a.pas --list --script picks|output 1000000
+a.pas --races|races 2000
+a.pas --races --limit 2001|races 2000
+a.pas --limit 2000 --races|races 2000
+a.pas --races --limit 7 --list|races 7
+a.pas --limit 2001|output 2001
+a.pas --trace --limit 2001|trace 2001
+a.pas --input=--races|output 1000000
+-- --races|output 1000000
+a.pas --trace --races|
+a.pas --races --limit 7 --trace|
+a.pas --races --races|
+a.pas --races=true|
+a.pas --race|
+--races|
+a.pas --races --limit 0|
 a.pas --input --trace|
-a.pas --input=--trace|without
+a.pas --input=--trace|output 1000000
 a.pas -- --trace|
--- --trace|without
+-- --trace|output 1000000
 a.pas --trace --trace|
 a.pas --trace=true|
 a.pas --trac|
@@ -125,6 +142,19 @@ fn is_read(alloc: Global, line: &str) -> Result<bool, Memory> {
     }
 }
 
+/// Whether the walker's options are what is shown and the limit of the table.
+fn is_walk_asked(walk: &WalkOptions<'_>, owed: &str) -> bool {
+    let name = match walk.shown {
+        Shown::Output => "output",
+        Shown::Trace => "trace",
+        Shown::Races => "races",
+    };
+    let Some((shown, limit)) = owed.split_once(' ') else {
+        return false;
+    };
+    shown == name && limit.parse::<u64>().ok() == Some(walk.options.limit)
+}
+
 /// Whether the walker reads from the words of a line what its line says.
 fn is_walk_read(alloc: Global, line: &str) -> Result<bool, Memory> {
     let Some((text, owed)) = line.split_once('|') else {
@@ -132,7 +162,7 @@ fn is_walk_read(alloc: Global, line: &str) -> Result<bool, Memory> {
     };
     let words = words_of(alloc, text)?;
     Ok(match read_walk_words(alloc, &words)? {
-        Some(walk) => owed == if walk.trace { "trace" } else { "without" },
+        Some(walk) => is_walk_asked(&walk, owed),
         None => owed.is_empty(),
     })
 }

@@ -5,7 +5,7 @@ use Rattle.pfc_io.specs.Writes.{AppendsFront}
 use Rattle.pfc_io.proofs.Written.{AppendsFront-none, AppendsFront-whole}
 use Rattle.pfc_base.specs.declared.faults.RunFault.{RunFault}
 use Rattle.pfc_state.specs.declared.endings.Ending.{Ending}
-use Rattle.pfc_state.specs.declared.endings.Ending.TheVariants.{Finished, Fault, Deadlock, Limit}
+use Rattle.pfc_state.specs.declared.endings.Ending.TheVariants.{Finished, Fault, Deadlock, Limit, Memory as NoMemory}
 use Rattle.pfc_sched.specs.Picks.{Picking, picked, after_pick}
 use Rattle.pfc_sched.specs.declared.picking.Pick.{Pick}
 use Rattle.pfc_sched.specs.declared.picking.Pick.TheVariants.{Process}
@@ -21,15 +21,16 @@ use Rattle.pfc_semantics.specs.Configurations.{Config, FaultAt}
 use Rattle.pfc_semantics.specs.Time.{terminated_over, settled_config}
 use Rattle.pfc_semantics.specs.Selects.{choices}
 use Rattle.pfc_semantics.specs.Steps.{next_of, effect}
-use Rattle.pfc_semantics.specs.Events.{Event, step}
+use Rattle.pfc_semantics.specs.Events.{Event, Step, step}
 use Rattle.pfc_semantics.specs.Runs.{Run, is_done, ending_at, ended_with, unless_ended, by_pick, behind_event, choice_among, behind_choice, run_from}
+use Rattle.pfc_races.specs.RunSteps.{of_process, steps_behind, steps_from, unless_over}
 use Rattle.pfc_activities.specs.declared.changes.Done.{Done}
 use Rattle.pfc_activities.specs.declared.changes.Done.TheVariants.{Stepped, Faulted}
 use Rattle.pfc_activities.specs.declared.source.Source.{Source}
 use Rattle.pfc_activities.specs.declared.state.State.{State}
 use Rattle.pfc_activities.specs.Relation.{Stands, Reports, MayAct}
 use Rattle.pfc_activities.proofs.Acting.{reports_of}
-use Rattle.pfc_walker.specs.Courses.{GoesOn, IsPassed, on_the_way, Completes, IsBrokenOff, Continues, IsPick}
+use Rattle.pfc_walker.specs.Courses.{GoesOn, IsPassed, on_the_way, Completes, IsBrokenOff, Continues, IsOver, IsPick}
 use Rattle.pfc_walker.specs.Telling.{AreTold, IsTold, step_by, behind_step}
 use Rattle.pfc_walker.specs.declared.telling.Told.{Told}
 use Rattle.pfc_walker.proofs.Joining.{goes_here, told_as, told_end, told_still, told_twice}
@@ -141,12 +142,24 @@ run_of g limit left picking c pick e some is =
     let one : left ≡ suc (left - 1) = omega (arith, some) in
     ap (λ (n : ℕ). run_from g limit n picking c) one ∙ by_a_pick g limit picking c (left - 1) pick e is
 
+-- ## The first step
+
+pub ended_steps : (g : Program) (picking : Picking) (c : Config) (ending : Ending) → ending_at (settled_config c) ≡ Some ending → (left : ℕ) → steps_from g left picking c ≡ []
+ended_steps g picking c ending e zero = refl
+ended_steps g picking c ending e (suc left) = ap (unless_over _) e
+
+-- of a process that is picked, or none
+steps_of : (g : Program) (left : ℕ) (picking : Picking) (c : Config) (pick : Pick)
+    → ending_at (settled_config c) ≡ None → left ≢ 0 → pick ≡ picked picking (settled_config c).table.rows
+    → steps_from g left picking c
+    ≡ of_process (λ p. steps_behind g (after_pick picking (settled_config c).table.rows) (settled_config c) p (steps_from g (left - 1))) pick
+steps_of g left picking c pick e some is =
+    let one : left ≡ suc (left - 1) = omega (arith, some) in
+    ap (λ (n : ℕ). steps_from g n picking c) one ∙ ap (unless_over _) e ∙ ap (of_process _) (sym is)
+
 -- ## A turn, by what settling left
 
-module _
-    (told : Told) (source : Source) (g : Program) (limit left : ℕ) (picking : Picking) (c : Config) (s : State) (out : List ℕ)
-    (stands : Stands source s (settled_config c))
-  where
+module _ (source : Source) (g : Program) (limit left : ℕ) (picking : Picking) (c : Config) (s : State) (stands : Stands source s (settled_config c)) where
     abbrev d : Config
     d = settled_config c
 
@@ -159,28 +172,42 @@ module _
     sound : d.fault ≡ None
     sound = stands.quiet.sound
 
-    pub turn_over : is_done (at s.world.rows 0) ≡ true → Completes told (run_from g limit left picking c) c s Finished (Some out) (Some out)
+    pub turn_over : is_done (at s.world.rows 0) ≡ true → IsOver g limit left picking c s Finished
     turn_over over =
-        completes g limit picking c told s left Finished out
-        (ended g limit picking c Finished (ends_finished d sound (ap (λ (w : Table). is_done (at w.rows 0)) (sym table) ∙ over)) left) reports
+        let e : ending_at d ≡ Some Finished = ends_finished d sound (ap (λ (w : Table). is_done (at w.rows 0)) (sym table) ∙ over) in
+        record {
+          course = λ told out. completes g limit picking c told s left Finished out (ended g limit picking c Finished e left) reports;
+          none = λ other. ended_steps g picking c Finished e left;
+        }
+
+    -- no action is counted any more
+    pub turn_worn_out : IsOver g limit left picking c s NoMemory
+    turn_worn_out = record { course = λ told out. not_begun g limit picking c told left out out refl; none = λ other. absurd (other refl) }
 
     module _ (goes : is_done (at s.world.rows 0) ≡ false) where
       on : is_done (at d.table.rows 0) ≡ false
       on = ap (λ (w : Table). is_done (at w.rows 0)) (sym table) ∙ goes
 
-      pub turn_dead : some_ready s.world.rows ≡ false → Completes told (run_from g limit left picking c) c s Deadlock (Some out) (Some out)
+      pub turn_dead : some_ready s.world.rows ≡ false → IsOver g limit left picking c s Deadlock
       turn_dead nobody =
-          completes g limit picking c told s left Deadlock out
-          (ended g limit picking c Deadlock (ends_dead d sound on (ap (λ (w : Table). some_ready w.rows) (sym table) ∙ nobody)) left) reports
+          let e : ending_at d ≡ Some Deadlock = ends_dead d sound on (ap (λ (w : Table). some_ready w.rows) (sym table) ∙ nobody) in
+          record {
+            course = λ told out. completes g limit picking c told s left Deadlock out (ended g limit picking c Deadlock e left) reports;
+            none = λ other. ended_steps g picking c Deadlock e left;
+          }
 
       module _ (ready : some_ready s.world.rows ≡ true) where
         further : ending_at d ≡ None
         further = goes_further d sound on (ap (λ (w : Table). some_ready w.rows) (sym table) ∙ ready)
 
-        pub turn_limit : left ≡ 0 → Completes told (run_from g limit left picking c) c s (Limit limit) (Some out) (Some out)
+        pub turn_limit : left ≡ 0 → IsOver g limit left picking c s (Limit limit)
         turn_limit none =
-            completes g limit picking c told s left (Limit limit) out
-            (ap (λ (n : ℕ). run_from g limit n picking c) none ∙ limited g limit picking c further) reports
+            record {
+              course = λ told out.
+                  completes g limit picking c told s left (Limit limit) out
+                  (ap (λ (n : ℕ). run_from g limit n picking c) none ∙ limited g limit picking c further) reports;
+              none = λ other. ap (λ (n : ℕ). steps_from g n picking c) none;
+            }
 
         module _ (some : left ≢ 0) (pick : Pick) (is : pick ≡ picked picking s.world.rows) where
           there : pick ≡ picked picking d.table.rows
@@ -189,12 +216,15 @@ module _
           -- no process was picked
           pub turn_ends :
               (ending : Ending) → by_pick d (after_pick picking s.world.rows) (behind_pick g limit picking c (left - 1)) pick ≡ ended_with d ending
-              → Completes told (run_from g limit left picking c) c s ending (Some out) (Some out)
-          turn_ends ending e =
+              → (told : Told) (out : List ℕ) → Completes told (run_from g limit left picking c) c s ending (Some out) (Some out)
+          turn_ends ending e told out =
               completes g limit picking c told s left ending out
               (run_of g limit left picking c pick further some there
               ∙ ap (λ (w : Table). by_pick d (after_pick picking w.rows) (behind_pick g limit picking c (left - 1)) pick) (sym table) ∙ e)
               reports
+
+          pub no_step : ((steps : ℕ → List Step) → of_process steps pick ≡ []) → steps_from g left picking c ≡ []
+          no_step none = steps_of g left picking c pick further some there ∙ none _
 
           -- one was
           pub turn_goes : (p : ℕ) → pick ≡ Process p → IsPick g limit (left - 1) picking (after_pick picking s.world.rows) c d p
@@ -210,6 +240,8 @@ module _
                   config = sym (ap (λ (x : Run). x.config) f);
                   events = ap (λ (x : Run). x.events) f;
                 };
+                steps =
+                    ap (λ (n : ℕ). steps_from g n picking c) (sym one) ∙ steps_of g left picking c (Process p) further some (sym process ∙ there);
               } in
               subst (λ (w : Table). IsPick g limit (left - 1) picking (after_pick picking w.rows) c d p) (sym table) pick_there
 

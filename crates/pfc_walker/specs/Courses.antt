@@ -1,5 +1,5 @@
 -- What runs, and turns of runs, come to.
-use Rattle.std.specs.Prelude.{ℕ, ◌+◌, ◌≡◌, Bool, List, [], ◌∷◌, ◌++◌, Option, Some, None}
+use Rattle.std.specs.Prelude.{ℕ, ◌+◌, ◌≡◌, ◌≢◌, Bool, List, [], ◌∷◌, ◌++◌, Option, Some, None}
 use Rattle.std.specs.Io.KnownBytes.{Appends}
 use Rattle.pfc_io.specs.Writes.{AppendsFront}
 use Rattle.pfc_sched.specs.Picks.{Picking}
@@ -10,6 +10,7 @@ use Rattle.pfc_semantics.specs.Programs.{Program}
 use Rattle.pfc_semantics.specs.Configurations.{Config}
 use Rattle.pfc_semantics.specs.Events.{Event}
 use Rattle.pfc_semantics.specs.Runs.{Run, run_from}
+use Rattle.pfc_races.specs.RunSteps.{steps_from}
 use Rattle.pfc_activities.specs.declared.source.Source.{Source}
 use Rattle.pfc_activities.specs.declared.state.State.{State}
 use Rattle.pfc_activities.specs.Relation.{Stands, Reports}
@@ -96,6 +97,12 @@ pub record IsPick (g : Program) (limit left : ℕ) (picking behind : Picking) (c
   pub goes :
       GoesOn ((step_by g d p behind).event ∷ []) (run_from g limit left (behind_step g d p behind) (step_by g d p behind).config)
       (run_from g limit (left + 1) picking c)
+  pub steps : steps_from g (left + 1) picking c ≡ step_by g d p behind ∷ steps_from g left (behind_step g d p behind) (step_by g d p behind).config
+
+-- the run from a configuration on comes to this ending before its first action, unless memory is wanting
+pub record IsOver (g : Program) (limit left : ℕ) (picking : Picking) (c : Config) (new : State) (ending : Ending) : Type 0 where
+  pub course : (told : Told) (out : List ℕ) → IsCourse told g limit (run_from g limit left picking c) c new ending (Some out) (Some out)
+  pub none : ending ≢ Memory → steps_from g left picking c ≡ []
 
 -- ## Gathered bytes
 

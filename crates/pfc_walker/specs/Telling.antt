@@ -6,7 +6,7 @@ use Rattle.pfc_semantics.specs.Programs.{Program}
 use Rattle.pfc_semantics.specs.Configurations.{Config}
 use Rattle.pfc_semantics.specs.Selects.{choices}
 use Rattle.pfc_semantics.specs.Steps.{next_of}
-use Rattle.pfc_semantics.specs.Events.{Event, Step, step}
+use Rattle.pfc_semantics.specs.Events.{Event}
 use Rattle.pfc_semantics.specs.Runs.{choice_among, behind_choice}
 use Rattle.pfc_activities.specs.declared.changes.Done.{Done}
 use Rattle.pfc_activities.specs.declared.source.Source.{Source}
@@ -14,6 +14,7 @@ use Rattle.pfc_activities.specs.declared.state.State.{State}
 use Rattle.pfc_activities.specs.Programs.{IsProgram}
 use Rattle.pfc_activities.specs.Relation.{Ends}
 use Rattle.pfc_acting.specs.Acting.{StandsBefore}
+pub use Rattle.pfc_watching.specs.Watching.{step_by}
 use Rattle.pfc_walker.specs.declared.telling.Told.{Told}
 use Rattle.pfc_walker.specs.declared.telling.Told.TheVariants.{Output, Trace}
 
@@ -21,10 +22,6 @@ use Rattle.pfc_walker.specs.declared.telling.Told.TheVariants.{Output, Trace}
 abbrev pub AreTold : Told → Config → Config → List Event → List ℕ → Type 0
 AreTold Output c d events bytes = d.output ≡ c.output ++ bytes
 AreTold Trace c d events bytes = bytes ≡ trace_text (actors events)
-
--- the step of process p, with the choice that the picker makes
-abbrev pub step_by : Program → Config → ℕ → Picking → Step
-step_by g d p picking = step g d p (choice_among picking (choices g d p (next_of g d p)))
 
 -- who picks behind it
 abbrev pub behind_step : Program → Config → ℕ → Picking → Picking

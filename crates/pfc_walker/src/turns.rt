@@ -1,50 +1,20 @@
 //! One turn of a run: an ending, or an action.
-ghost use Rattle.std.specs.Prelude.{◌≡◌, ◌≢◌, ℕ, ◌+◌, ◌<◌, ◌*◌, ◌^◌, false, Some, None};
-ghost use Rattle.pfc_sched.specs.Picks.{Picking, item_of};
-ghost use Rattle.pfc_world.specs.Tables.{at};
+ghost use Rattle.std.specs.Prelude.{◌≡◌, ◌≢◌, ℕ, ◌+◌, ◌<◌, Some, None};
+ghost use Rattle.pfc_sched.specs.Picks.{Picking};
 ghost use Rattle.pfc_semantics.specs.Programs.{Program};
 ghost use Rattle.pfc_semantics.specs.Configurations.{Config};
-ghost use Rattle.pfc_semantics.specs.Runs.{is_done};
 ghost use Rattle.pfc_activities.specs.Programs.{IsProgram};
 ghost use Rattle.pfc_activities.specs.Relation.{MayAct, Stands};
 ghost use Rattle.pfc_walker.specs.Courses.{IsTurn, IsPick};
 
+use crate::actors::next_actor;
 use crate::telling::{Told, act_told};
 use pfc_activities::{Done, Source, State};
-use pfc_sched::{Pick, Picker};
+use pfc_sched::Picker;
 use pfc_settling::settle;
 use pfc_values::Output;
-use pfc_world::{Ending, ScriptWhy, Settled, State as Standing};
+use pfc_world::Ending;
 use std::alloc::Global;
-
-/// How many actions may be done, and how far the clock may go: past that, which never comes, a run counts as want of memory.
-const MOST_ACTIONS: u64 = 1_000_000_000_000_000_000;
-
-/// Main has finished.
-fn is_over(state: &State) -> bool
-    ensures { result ≡ is_done (at state.now.world.rows 0) }
-{
-    // a table has a row for main
-    state.world.processes() > 0 && matches!(state.world.state(0), Standing::Done)
-}
-
-/// So much was done, or the clock is so far, that no action is counted any more.
-fn is_worn_out(state: &State) -> bool
-    ensures done { result ≡ false → state.now.world.done < 10 ^ 18 }
-    ensures moment { result ≡ false → state.now.world.moment < 2 * 10 ^ 18 }
-{
-    state.world.done() >= MOST_ACTIONS || state.world.now() >= MOST_ACTIONS
-}
-
-/// The script gave no ready process.
-fn script(picker: &Picker, why: ScriptWhy) -> Ending
-    ensures { result ≡ Ending.Script (item_of picker.now) why }
-{
-    Ending::Script {
-        item: picker.item(),
-        why,
-    }
-}
 
 /// One action of the process that was picked, of which is told behind `out`. It answers the ending that this is, or None where the run goes
 /// on.
@@ -95,24 +65,8 @@ pub(crate) fn turn<'t>(
     ensures some { result ≡ None → 0 < left }
     ensures written { result ≢ Some Ending.SinkFailed }
 {
-    let settled = settle(alloc, state);
-    if is_over(state) {
-        return Some(Ending::Finished);
-    }
-    if let Settled::NobodyReady = settled {
-        return Some(Ending::Deadlock);
-    }
-    if left == 0 {
-        return Some(Ending::Limit(limit));
-    }
-    if is_worn_out(state) {
-        return Some(Ending::Memory);
-    }
-    match picker.pick(&state.world) {
-        Pick::Process(p) => act_out(alloc, source, state, p, picker, told, out),
-        Pick::Nobody => Some(Ending::Deadlock),
-        Pick::NotReady(p) => Some(script(picker, ScriptWhy::NotReady(p))),
-        Pick::NoProcess(p) => Some(script(picker, ScriptWhy::NoProcess(p))),
-        Pick::ScriptEnd => Some(script(picker, ScriptWhy::Ended)),
+    match next_actor(alloc, state, picker, limit, left) {
+        Ok(p) => act_out(alloc, source, state, p, picker, told, out),
+        Err(ending) => Some(ending),
     }
 }

@@ -12,4 +12,5 @@ returns c =
     let five = c.in_ok-command-5.ensures ∙ ap₂ with_rule four c.word.ensures.rule in
     let six = c.in_ok-command-6.ensures ∙ ap₂ with_rule five c.word-2.ensures.rule in
     let seven = c.in_ok-command-7.ensures ∙ ap₂ with_rule six c.flag-2.ensures.rule in
-    IfOk-weaker c.with-8.result _ _ (λ more h. h ∙ ap₂ with_rule seven c.flag-3.ensures.rule) c.with-8.ensures
+    let eight = c.in_ok-command-8.ensures ∙ ap₂ with_rule seven c.flag-3.ensures.rule in
+    IfOk-weaker c.with-9.result _ _ (λ more h. h ∙ ap₂ with_rule eight c.flag-4.ensures.rule) c.with-9.ensures

@@ -1,9 +1,7 @@
 //! What command lines ask for.
 
 use pfc_base::Memory;
-use pfc_outcome::{
-    Options, Shown, Source, WalkOptions, make_text, read_walk_words, read_words,
-};
+use pfc_outcome::{Options, Shown, Source, WalkOptions, make_text, read_walk_words, read_words};
 use std::alloc::Global;
 use std::test::Fail;
 

@@ -14,7 +14,7 @@ use Rattle.pfc_outcome.specs.Options.{Asked}
 use Rattle.pfc_outcome.specs.Requests.{Request, request_of}
 use Rattle.pfc_outcome.specs.declared.loading.Loaded.{Loaded}
 use Rattle.pfc_walk.specs.Answers.{Gives, GivesFront, GivesFrontOfAll, GivesOne, IsAnswerToText, IsStatus, IsWritten, Replies, ended}
-use Rattle.pfc_walker.specs.declared.telling.Told.{Told}
+use Rattle.pfc_outcome.specs.declared.walk_options.Shown.{Shown}
 use Rattle.pfc_walk.specs.Traces.{IsToldOf, IsToldOfText, listing_by}
 use Rattle.pfc_walk.proofs.Traced.{told_once, told_through, told_without}
 use Rattle.pfc_walk.specs.Meanings.{whole_meaning}
@@ -93,14 +93,14 @@ replied is outcome here one (Err Memory) old new h = λ other there. subst (λ (
 
 -- what was written is the one outcome of a text, which has no run
 pub refused_replies :
-    (told : Told) (text : List ℕ) (request : Request) (outcome : Outcome) → outcome.ran ≡ None → IsOutcomeOfText whole_meaning text request outcome
+    (shown : Shown) (text : List ℕ) (request : Request) (outcome : Outcome) → outcome.ran ≡ None → IsOutcomeOfText whole_meaning text request outcome
     → ((a b : Outcome) → IsOutcomeOfText whole_meaning text request a → IsOutcomeOfText whole_meaning text request b → a ≡ b)
     → (reply : Result ℕ Stop) (old new : Option (List ℕ)) → IsWritten outcome reply old new
-    → Replies (IsToldOfText told whole_meaning text request) reply old new
-refused_replies told text request outcome none here one reply old new h =
-    replied (IsToldOfText told whole_meaning text request) outcome
-    (told_without told (listing_written request text) (IsOutcomeOfText whole_meaning text request) outcome none here)
-    (told_once told (listing_written request text) (IsOutcomeOfText whole_meaning text request) one) reply old new h
+    → Replies (IsToldOfText shown whole_meaning text request) reply old new
+refused_replies shown text request outcome none here one reply old new h =
+    replied (IsToldOfText shown whole_meaning text request) outcome
+    (told_without shown (listing_written request text) (IsOutcomeOfText whole_meaning text request) outcome none here)
+    (told_once shown (listing_written request text) (IsOutcomeOfText whole_meaning text request) one) reply old new h
 
 -- ## What was loaded
 
@@ -132,30 +132,30 @@ module _ (files : List File) (asked : Asked) (loaded : Loaded) (are : AreLoaded 
   same_listing : listing_written loaded_request loaded.text ≡ listing_by files asked
   same_listing = ap₂ (λ (r : Request) (x : List ℕ). listing_written r x) (sym request_is) (sym are.text)
 
-  told_up : (told : Told) (outcome : Outcome) → IsToldOfText told whole_meaning loaded.text loaded_request outcome → IsToldOf told whole_meaning asked files outcome
-  told_up told outcome is =
-      told_through told (listing_written loaded_request loaded.text) (listing_by files asked) (IsOutcomeOfText whole_meaning loaded.text loaded_request)
+  told_up : (shown : Shown) (outcome : Outcome) → IsToldOfText shown whole_meaning loaded.text loaded_request outcome → IsToldOf shown whole_meaning asked files outcome
+  told_up shown outcome is =
+      told_through shown (listing_written loaded_request loaded.text) (listing_by files asked) (IsOutcomeOfText whole_meaning loaded.text loaded_request)
       (IsOutcomeOf whole_meaning asked files) same_listing files_up outcome is
 
-  told_down : (told : Told) (outcome : Outcome) → IsToldOf told whole_meaning asked files outcome → IsToldOfText told whole_meaning loaded.text loaded_request outcome
-  told_down told outcome is =
-      told_through told (listing_by files asked) (listing_written loaded_request loaded.text) (IsOutcomeOf whole_meaning asked files)
+  told_down : (shown : Shown) (outcome : Outcome) → IsToldOf shown whole_meaning asked files outcome → IsToldOfText shown whole_meaning loaded.text loaded_request outcome
+  told_down shown outcome is =
+      told_through shown (listing_by files asked) (listing_written loaded_request loaded.text) (IsOutcomeOf whole_meaning asked files)
       (IsOutcomeOfText whole_meaning loaded.text loaded_request) (sym same_listing) files_down outcome is
 
   pub files_replies :
-      (told : Told) (reply : Result ℕ Stop) (old new : Option (List ℕ))
-      → Replies (IsToldOfText told whole_meaning loaded.text loaded_request) reply old new → Replies (IsToldOf told whole_meaning asked files) reply old new
-  files_replies told (Ok status) old new h = (h.0, told_up told h.0 h.1, h.2)
-  files_replies told (Err WriteFailed) old new h = (h.0, told_up told h.0 h.1, h.2)
-  files_replies told (Err Memory) old new h = λ outcome is. h outcome (told_down told outcome is)
+      (shown : Shown) (reply : Result ℕ Stop) (old new : Option (List ℕ))
+      → Replies (IsToldOfText shown whole_meaning loaded.text loaded_request) reply old new → Replies (IsToldOf shown whole_meaning asked files) reply old new
+  files_replies shown (Ok status) old new h = (h.0, told_up shown h.0 h.1, h.2)
+  files_replies shown (Err WriteFailed) old new h = (h.0, told_up shown h.0 h.1, h.2)
+  files_replies shown (Err Memory) old new h = λ outcome is. h outcome (told_down shown outcome is)
 
 -- a file that is too long
 pub long_outcome :
-    (told : Told) (shelf : Option (List File)) (files : List File) (asked : Asked) → shelf ≡ Some files → Lacks shelf (names_by asked) long
-    → IsToldOf told whole_meaning asked files (without_run 9 [])
-long_outcome told shelf files asked tells lacks =
+    (shown : Shown) (shelf : Option (List File)) (files : List File) (asked : Asked) → shelf ≡ Some files → Lacks shelf (names_by asked) long
+    → IsToldOf shown whole_meaning asked files (without_run 9 [])
+long_outcome shown shelf files asked tells lacks =
     let h : first_lack files (names_by asked) ≡ Some long = subst (λ (t : Option (List File)). Lacks t (names_by asked) long) tells lacks in
-    told_without told (listing_by files asked) (IsOutcomeOf whole_meaning asked files) (without_run 9 []) refl
+    told_without shown (listing_by files asked) (IsOutcomeOf whole_meaning asked files) (without_run 9 []) refl
     (subst (λ (l : Option Lack). IsOutcomeOfFiles whole_meaning l files asked (without_run 9 [])) (sym h) refl)
 
 -- ## Statuses

@@ -1,17 +1,22 @@
 //! The answer to a text: its refusal, or its run, behind what is listed of it.
 ghost use Rattle.std.specs.Prelude.{◌≡◌, ◌≤◌, Ok, IfOk, IfErr, IsErrOf, length, if◌then◌else◌, [], false};
+ghost use Rattle.std.specs.Io.KnownBytes.{Appends};
 ghost use Rattle.pfc_io.specs.Counts.{Rose};
+ghost use Rattle.pfc_io.specs.Writes.{AppendsFront};
 ghost use Rattle.pfc_report.specs.Listings.{listing_text};
 ghost use Rattle.pfc_tree.specs.trees.Parts.{ProgramTree};
 ghost use Rattle.pfc_tree.specs.views.Parts.{tree_view};
 ghost use Rattle.pfc_outcome.specs.Loaded.{asks};
 ghost use Rattle.pfc_outcome.specs.Outcomes.{behind, stopped_at, without_run};
-ghost use Rattle.pfc_outcome.specs.Requests.{policy_of};
+ghost use Rattle.pfc_outcome.specs.Requests.{policy_of, settings_of};
+ghost use Rattle.pfc_outcome.specs.WalkOptions.{most_watched};
+ghost use Rattle.pfc_sched.specs.declared.picking.Policy.{Policy as Picks};
 ghost use Rattle.pfc_walk.specs.Answers.{IsAnswerToText, IsWritten, Replies};
 ghost use Rattle.pfc_walk.specs.Reading.{IsFitting, IsNoPolicy};
-ghost use Rattle.pfc_walk.specs.Traces.{IsToldOfText, program_told};
+ghost use Rattle.pfc_walk.specs.Traces.{IsToldOfText, program_shown, races_by, races_shown, run_shown, told_in};
 ghost use Rattle.pfc_walk.specs.Meanings.{whole_meaning};
 
+use crate::racing::lines_of_races;
 use crate::reading::{Sound, Unread, read};
 use crate::replies::Stop;
 use crate::reporting::with_labels;
@@ -19,7 +24,7 @@ use crate::running::run;
 use crate::writing::say;
 use pfc_base::Memory;
 use pfc_io::Sink;
-use pfc_outcome::{Loaded, Options, an_outcome_is_one};
+use pfc_outcome::{Loaded, Options, Shown, an_outcome_is_one};
 use pfc_report::{listing, refusal_line, report};
 use pfc_sched::{Policy, ScriptFault, read_script};
 use pfc_state::{Ending, ScriptWhy};
@@ -38,12 +43,13 @@ pub(crate) fn answer<O: Sink>(
     alloc: Global,
     options: &Options<'_>,
     loaded: &Loaded,
-    told: Told,
+    shown: Shown,
     sink: &mut O,
 ) -> Result<u8, Stop>
     requires short { length loaded.now.text ≤ 262144 }
     requires codeless { options.now.code ≡ false }
-    ensures replies { IsFitting loaded.now.text → Replies (IsToldOfText told whole_meaning loaded.now.text (asks options.now loaded.now)) result (O.written sink.old) (O.written sink.new) }
+    requires few { shown ≡ Shown.Races → options.now.limit ≤ most_watched }
+    ensures replies { IsFitting loaded.now.text → Replies (IsToldOfText shown whole_meaning loaded.now.text (asks options.now loaded.now)) result (O.written sink.old) (O.written sink.new) }
     ensures sound { IfOk result (λ status. IsAnswerToText status) }
     ensures cut { IsErrOf result Stop.WriteFailed → Rose (O.faults sink.old) (O.faults sink.new) }
 {
@@ -51,7 +57,7 @@ pub(crate) fn answer<O: Sink>(
     let text = loaded.text.bytes();
     let listing = listed(alloc, text, options.list)?;
     match read(alloc, text) {
-        Ok(sound) => answer_sound(alloc, &sound, options, loaded, told, &listing, sink),
+        Ok(sound) => answer_sound(alloc, &sound, options, loaded, shown, &listing, sink),
         Err(Unread::Refused(refusal)) => {
             let line = refusal_line(alloc, &refusal)?;
             refuse(&listing, &line, REFUSED, sink)
@@ -88,22 +94,100 @@ fn answer_sound<O: Sink>(
     sound: &Sound,
     options: &Options<'_>,
     loaded: &Loaded,
-    told: Told,
+    shown: Shown,
     listing: &[u8],
     sink: &mut O,
 ) -> Result<u8, Stop>
-    ensures written { IsWritten (program_told told listing.now (tree_view sound.now.checked.0) (asks options.now loaded.now)) result (O.written sink.old) (O.written sink.new) }
+    requires { shown ≡ Shown.Races → options.now.limit ≤ most_watched }
+    ensures written { IsWritten (program_shown shown listing.now (tree_view sound.now.checked.0) (asks options.now loaded.now)) result (O.written sink.old) (O.written sink.new) }
     ensures sound { IfOk result (λ status. IsAnswerToText status) }
     ensures cut { IsErrOf result Stop.WriteFailed → Rose (O.faults sink.old) (O.faults sink.new) }
 {
     match policy(alloc, options, loaded) {
-        Ok(policy) => run(alloc, sound, options, loaded, policy, told, listing, sink),
+        Ok(policy) => run_shown(alloc, sound, options, loaded, policy, shown, listing, sink),
         Err(ScriptFault::NotANumber { item }) => {
             let line = script_line(alloc, item)?;
             refuse(listing, &line, SCRIPT_REFUSED, sink)
         }
         Err(ScriptFault::Memory) => Err(Stop::Memory),
     }
+}
+
+/// Runs a checked program, and writes what is shown of its run, behind a listing.
+fn run_shown<O: Sink>(
+    alloc: Global,
+    sound: &Sound,
+    options: &Options<'_>,
+    loaded: &Loaded,
+    policy: Policy,
+    shown: Shown,
+    listing: &[u8],
+    sink: &mut O,
+) -> Result<u8, Stop>
+    requires policy { policy_of (asks options.now loaded.now) ≡ Ok policy }
+    requires few { shown ≡ Shown.Races → options.now.limit ≤ most_watched }
+    ensures written { IsWritten (behind listing.now (run_shown shown (tree_view sound.now.checked.0) (settings_of (asks options.now loaded.now) policy))) result (O.written sink.old) (O.written sink.new) }
+    ensures sound { IfOk result (λ status. IsAnswerToText status) }
+    ensures cut { IsErrOf result Stop.WriteFailed → Rose (O.faults sink.old) (O.faults sink.new) }
+{
+    let told = told_in(shown);
+    let status = run(alloc, sound, options, loaded, policy, told, listing, sink)?;
+    tell_races(alloc, sound, options, loaded, shown, sink)?;
+    Ok(status)
+}
+
+/// What is told of the actions of the run.
+fn told_in(shown: Shown) -> Told
+    ensures { result ≡ told_in shown }
+{
+    match shown {
+        Shown::Output | Shown::Races => Told::Output,
+        Shown::Trace => Told::Trace,
+    }
+}
+
+/// Writes the lines of the races behind a run, where they are shown.
+fn tell_races<O: Sink>(
+    alloc: Global,
+    sound: &Sound,
+    options: &Options<'_>,
+    loaded: &Loaded,
+    shown: Shown,
+    sink: &mut O,
+) -> Result<(), Stop>
+    requires { shown ≡ Shown.Races → options.now.limit ≤ most_watched }
+    ensures whole { (policy : Picks) → policy_of (asks options.now loaded.now) ≡ Ok policy
+        → IfOk result (λ done. Appends (O.written sink.old) (O.written sink.new) (races_shown shown (tree_view sound.now.checked.0) (settings_of (asks options.now loaded.now) policy))) }
+    ensures front { (policy : Picks) → policy_of (asks options.now loaded.now) ≡ Ok policy
+        → IfErr result (λ stop. AppendsFront (O.written sink.old) (O.written sink.new) (races_shown shown (tree_view sound.now.checked.0) (settings_of (asks options.now loaded.now) policy))) }
+    ensures cut { IsErrOf result Stop.WriteFailed → Rose (O.faults sink.old) (O.faults sink.new) }
+{
+    match shown {
+        Shown::Output | Shown::Trace => Ok(()),
+        Shown::Races => say_races(alloc, sound, options, loaded, sink),
+    }
+}
+
+/// Writes the lines of the races behind a run. A script that is no list of numbers, which never ran, counts as want of memory.
+fn say_races<O: Sink>(
+    alloc: Global,
+    sound: &Sound,
+    options: &Options<'_>,
+    loaded: &Loaded,
+    sink: &mut O,
+) -> Result<(), Stop>
+    requires { options.now.limit ≤ most_watched }
+    ensures whole { (policy : Picks) → policy_of (asks options.now loaded.now) ≡ Ok policy
+        → IfOk result (λ done. Appends (O.written sink.old) (O.written sink.new) (races_by (tree_view sound.now.checked.0) (settings_of (asks options.now loaded.now) policy))) }
+    ensures front { (policy : Picks) → policy_of (asks options.now loaded.now) ≡ Ok policy
+        → IfErr result (λ stop. AppendsFront (O.written sink.old) (O.written sink.new) (races_by (tree_view sound.now.checked.0) (settings_of (asks options.now loaded.now) policy))) }
+    ensures cut { IsErrOf result Stop.WriteFailed → Rose (O.faults sink.old) (O.faults sink.new) }
+{
+    let Ok(policy) = policy(alloc, options, loaded) else {
+        return Err(Stop::Memory);
+    };
+    let lines = lines_of_races(alloc, sound, options, loaded, policy)?;
+    say(sink, &lines)
 }
 
 /// Who picks: the script where there is one, else what the words ask for.

@@ -5,6 +5,7 @@
 #![tactic(auto)]
 
 mod answering;
+mod racing;
 mod reading;
 mod replies;
 mod reporting;

@@ -1,5 +1,5 @@
 //! From a checked tree to the bytes of its run.
-ghost use Rattle.std.specs.Prelude.{◌≡◌, IfOk, IsErrOf};
+ghost use Rattle.std.specs.Prelude.{◌≡◌, ◌≤◌, IfOk, IsErrOf};
 ghost use Rattle.pfc_io.specs.Counts.{Rose};
 ghost use Rattle.pfc_tree.specs.trees.Parts.{ProgramTree};
 ghost use Rattle.pfc_tree.specs.views.Parts.{tree_view};
@@ -33,9 +33,9 @@ use std::alloc::Global;
 
 /// A program as it is run, and the first values of main's variables.
 #[derive(Drop)]
-struct Made<'t> {
-    source: Source<'t>,
-    variables: Vec<Value>,
+pub(crate) struct Made<'t> {
+    pub(crate) source: Source<'t>,
+    pub(crate) variables: Vec<Value>,
 }
 
 /// Runs a checked program from its start to its end under a policy, and writes what the program prints and the report of its ending, or the
@@ -53,6 +53,7 @@ pub(crate) fn run<O: Sink>(
     ensures written { IsWritten (behind listing.now (run_told told (tree_view sound.now.checked.0) (settings_of (asks options.now loaded.now) policy))) result (O.written sink.old) (O.written sink.new) }
     ensures sound { IfOk result (λ status. IsAnswerToText status) }
     ensures cut { IsErrOf result Stop.WriteFailed → Rose (O.faults sink.old) (O.faults sink.new) }
+    ensures faults { O.faults sink.old ≤ O.faults sink.new }
 {
     match make_program(alloc, sound) {
         Ok(Made { source, variables }) => run_source(
@@ -63,7 +64,7 @@ pub(crate) fn run<O: Sink>(
 }
 
 /// The program of a checked tree.
-fn make_program<'t>(alloc: Global, sound: &'t Sound) -> Result<Made<'t>, Memory>
+pub(crate) fn make_program<'t>(alloc: Global, sound: &'t Sound) -> Result<Made<'t>, Memory>
     ensures { IfOk result (λ made. program_with made.source (values_view made.variables.items) ≡ program_of (tree_view sound.entry.now.checked.0)) }
 {
     let program = Program::new(alloc, &sound.checked)?;
@@ -91,6 +92,7 @@ fn run_source<O: Sink>(
     ensures written { IsWritten (behind listing.now (run_told told (tree_view sound.now.checked.0) (settings_of (asks options.now loaded.now) policy))) result (O.written sink.old) (O.written sink.new) }
     ensures sound { IfOk result (λ status. IsAnswerToText status) }
     ensures cut { IsErrOf result Stop.WriteFailed → Rose (O.faults sink.old) (O.faults sink.new) }
+    ensures faults { O.faults sink.old ≤ O.faults sink.new }
 {
     let labels = processes(
         alloc,
@@ -119,6 +121,7 @@ fn walk_on<O: Sink>(
         → IsWritten (run_told told tree settings) result (O.written sink.old) (O.written sink.new) }
     ensures sound { IfOk result (λ status. IsAnswerToText status) }
     ensures cut { IsErrOf result Stop.WriteFailed → Rose (O.faults sink.old) (O.faults sink.new) }
+    ensures faults { O.faults sink.old ≤ O.faults sink.new }
 {
     output_only_grows();
     let mut walker = walker;

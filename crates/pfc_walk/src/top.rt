@@ -6,19 +6,18 @@ ghost use Rattle.pfc_io.specs.Files.{File};
 ghost use Rattle.pfc_outcome.specs.Asked.{asked_of, texts_of};
 ghost use Rattle.pfc_outcome.specs.Loading.{Lacks, long, missing};
 ghost use Rattle.pfc_outcome.specs.Outcomes.{names_by, text_by, without_run};
-ghost use Rattle.pfc_outcome.specs.WalkOptions.{walk_options_of};
+ghost use Rattle.pfc_outcome.specs.WalkOptions.{most_watched, walk_options_of};
 ghost use Rattle.pfc_walk.specs.Answers.{GivesFront, GivesFrontOfAll, GivesOne, IsAskedLacking, IsStatus, IsWritten};
 ghost use Rattle.pfc_walk.specs.Meanings.{whole_meaning};
 ghost use Rattle.pfc_walk.specs.Reading.{IsFitting};
-ghost use Rattle.pfc_walk.specs.Traces.{IsToldOf, told_by};
+ghost use Rattle.pfc_walk.specs.Traces.{IsToldOf};
 ghost use Rattle.pfc_walk.specs.Words.{AsksFitting, IsWalkOutcome, refused_text};
 
 use crate::answering::answer;
 use crate::replies::{Stop, ended, stopped};
 use crate::writing::say;
 use pfc_io::{LoadFault, Shelf, Sink};
-use pfc_outcome::{Options, load_asked, read_walk_words};
-use pfc_walker::Told;
+use pfc_outcome::{Options, Shown, load_asked, read_walk_words};
 use std::alloc::Global;
 
 /// The status of refused words.
@@ -35,10 +34,11 @@ const REFUSED_LINE: &[u8] = b"-- words refused\n";
 
 /// Runs the program that the words ask for by rewriting its text, and answers the status.
 ///
-/// The words are the name of the command and `FILE [--seed N] [--unfair] [--limit N] [--input FILE] [--script FILE] [--list] [--trace]`. A
-/// text has at most 262,144 bytes, an input and a script at most 1,048,576. What is written goes to the sink: the listing where it is asked
-/// for, the output of the run and the report of its ending, or in place of these two the trace of the run where that is asked for; or the
-/// listing and the line of the text's refusal; or the line for refused words. The status is
+/// The words are the name of the command and `FILE [--seed N] [--unfair] [--limit N] [--input FILE] [--script FILE] [--list] [--trace]`, or
+/// with `--races` in place of `--trace`. A text has at most 262,144 bytes, an input and a script at most 1,048,576. What is written goes to the
+/// sink: the listing where it is asked for, the output of the run and the report of its ending, or in place of these two the trace of the run
+/// where that is asked for, or behind these two the lines of its races; or the listing and the line of the text's refusal; or the line for
+/// refused words. A run whose races are asked for has at most 2,000 actions. The status is
 ///
 /// * 0 where the run finished, 3 where it met a fault, 4 where nobody could go on, and 5 at its limit of actions;
 /// * 10 where the script is no list of numbers, or its next number names no ready process while some process is ready;
@@ -80,19 +80,10 @@ pub fn walk<F: Shelf, O: Sink>(alloc: Global, words: &[String], shelf: &mut F, s
         → GivesFrontOfAll (IsWalkOutcome whole_meaning (texts_of words.now) files) (O.written sink.old) (O.written sink.new) }
 {
     match read_walk_words(alloc, words) {
-        Ok(Some(asked)) => {
-            answer_options(alloc, &asked.options, told_by(asked.trace), shelf, sink)
-        }
+        Ok(Some(asked)) => { answer_options(alloc, &asked.options, asked.shown, shelf, sink) }
         Ok(None) => ended(refuse_words(sink)),
         Err(_memory) => stopped(Stop::Memory),
     }
-}
-
-/// What is told of the run, by whether its trace is asked for.
-fn told_by(trace: bool) -> Told
-    ensures { result ≡ told_by trace }
-{
-    if trace { Told::Trace } else { Told::Output }
 }
 
 /// Writes the line for refused words.
@@ -109,13 +100,14 @@ fn refuse_words<O: Sink>(sink: &mut O) -> Result<u8, Stop>
 fn answer_options<F: Shelf, O: Sink>(
     alloc: Global,
     options: &Options<'_>,
-    told: Told,
+    shown: Shown,
     shelf: &mut F,
     sink: &mut O,
 ) -> u8
-    requires { options.now.code ≡ false }
+    requires codeless { options.now.code ≡ false }
+    requires few { shown ≡ Shown.Races → options.now.limit ≤ most_watched }
     ensures outcome { (files : List File) → F.told shelf.old ≡ Some files → IsFitting (text_by files (asked_of options.now).source) → result ≢ 6 → result ≢ 7 → result ≢ 8
-        → GivesOne (IsToldOf told whole_meaning (asked_of options.now) files) result (O.written sink.old) (O.written sink.new) }
+        → GivesOne (IsToldOf shown whole_meaning (asked_of options.now) files) result (O.written sink.old) (O.written sink.new) }
     ensures sound { IsStatus result }
     ensures other { result ≢ 2 }
     ensures load_failed { result ≡ 6 → Rose (F.faults shelf.old) (F.faults shelf.new) }
@@ -128,12 +120,12 @@ fn answer_options<F: Shelf, O: Sink>(
     ensures unwritten { (result ≡ 6) ⊎ (result ≡ 9) → Appends (O.written sink.old) (O.written sink.new) [] }
     ensures write_failed { result ≡ 7 → Rose (O.faults sink.old) (O.faults sink.new) }
     ensures cut { (files : List File) → F.told shelf.old ≡ Some files → IsFitting (text_by files (asked_of options.now).source) → result ≡ 7
-        → GivesFront (IsToldOf told whole_meaning (asked_of options.now) files) (O.written sink.old) (O.written sink.new) }
+        → GivesFront (IsToldOf shown whole_meaning (asked_of options.now) files) (O.written sink.old) (O.written sink.new) }
     ensures no_memory { (files : List File) → F.told shelf.old ≡ Some files → IsFitting (text_by files (asked_of options.now).source) → result ≡ 8
-        → GivesFrontOfAll (IsToldOf told whole_meaning (asked_of options.now) files) (O.written sink.old) (O.written sink.new) }
+        → GivesFrontOfAll (IsToldOf shown whole_meaning (asked_of options.now) files) (O.written sink.old) (O.written sink.new) }
 {
     match load_asked(alloc, options, shelf) {
-        Ok(loaded) => ended(answer(alloc, options, &loaded, told, sink)),
+        Ok(loaded) => ended(answer(alloc, options, &loaded, shown, sink)),
         Err(LoadFault::Failed) => LOAD_FAILED,
         Err(LoadFault::TooLong) => TOO_LONG,
         Err(LoadFault::Memory) => stopped(Stop::Memory),

@@ -17,6 +17,8 @@ use Rattle.pfc_activities.specs.declared.state.State.{State}
 use Rattle.pfc_activities.specs.Relation.{MayAct}
 use Rattle.pfc_acting.specs.Acting.{IsAction, IsActed, StandsBefore}
 use Rattle.pfc_acting.proofs.Before.{before_any}
+use Rattle.pfc_watching.specs.Watching.{Watches, done_of, step_by}
+use Rattle.pfc_watching.specs.declared.acting.Walked.{Walked}
 use Rattle.pfc_walker.specs.Telling.{IsActTold}
 use Rattle.pfc_walker.specs.Walks.{IsReadyToAct, IsStep, Walks, WalksBefore}
 use Rattle.pfc_walker.specs.declared.walker.Walker.{Walker}
@@ -97,11 +99,11 @@ open_as_before old out [] out' written none = ap is_open_line (sym (append-nil o
 open_as_before old out (b ∷ bytes) out' written none = absurd (omega (arith, none, ap length written ∙ length-append out (b ∷ bytes)))
 
 pub is_step :
-    (w : Walker) (state : State) (line : Bool) (g : Program) (c : Config) (p : ℕ) (picking picking' : Picking) (out out' : List ℕ) (d : Done)
-    → WalksBefore w g c p → (action : IsAction w.source.now g state c p (next_of g c p) picking picking' out out' d)
-    → line ≡ is_open_line (c.output ++ action.bytes)
-    → IsStep (record { source = w.source; state = state; in_line = line }) g c p picking picking' out out' d
-is_step w state line g c p picking picking' out out' d before action known =
+    (w : Walker) (state : State) (line waited : Bool) (g : Program) (c : Config) (p : ℕ) (picking picking' : Picking) (out out' : List ℕ) (x : Walked)
+    → WalksBefore w g c p → (action : IsAction w.source.now g state c p (next_of g c p) picking picking' out out' (done_of x))
+    → Watches (step_by g c p picking) w.waited waited x → line ≡ is_open_line (c.output ++ action.bytes)
+    → IsStep w.waited (record { source = w.source; state = state; in_line = line; waited = waited }) g c p picking picking' out out' x
+is_step w state line waited g c p picking picking' out out' x before action watched known =
     record {
       walks = λ stepped. record {
         program = before.program;
@@ -110,6 +112,7 @@ is_step w state line g c p picking picking' out out' d before action known =
       };
       reports = action.ends.reports;
       tells = action.ends.tells;
+      watched = watched;
       picked = action.picked;
       bytes = action.bytes;
       output = action.ends.output;

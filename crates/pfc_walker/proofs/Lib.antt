@@ -3,3 +3,4 @@ pub mod Gathering
 pub mod Joining
 pub mod OneTurn
 pub mod Reported
+pub mod Watched

@@ -160,90 +160,90 @@ steps_of g left picking c pick e some is =
 -- ## A turn, by what settling left
 
 module _ (source : Source) (g : Program) (limit left : ℕ) (picking : Picking) (c : Config) (s : State) (stands : Stands source s (settled_config c)) where
-    abbrev d : Config
-    d = settled_config c
+  abbrev d : Config
+  d = settled_config c
 
-    table : s.world ≡ d.table
-    table = stands.mirrors.agrees.table
+  table : s.world ≡ d.table
+  table = stands.mirrors.agrees.table
 
-    reports : Reports s d
-    reports = reports_of source s d stands
+  reports : Reports s d
+  reports = reports_of source s d stands
 
-    sound : d.fault ≡ None
-    sound = stands.quiet.sound
+  sound : d.fault ≡ None
+  sound = stands.quiet.sound
 
-    pub turn_over : is_done (at s.world.rows 0) ≡ true → IsOver g limit left picking c s Finished
-    turn_over over =
-        let e : ending_at d ≡ Some Finished = ends_finished d sound (ap (λ (w : Table). is_done (at w.rows 0)) (sym table) ∙ over) in
+  pub turn_over : is_done (at s.world.rows 0) ≡ true → IsOver g limit left picking c s Finished
+  turn_over over =
+      let e : ending_at d ≡ Some Finished = ends_finished d sound (ap (λ (w : Table). is_done (at w.rows 0)) (sym table) ∙ over) in
+      record {
+        course = λ told out. completes g limit picking c told s left Finished out (ended g limit picking c Finished e left) reports;
+        none = λ other. ended_steps g picking c Finished e left;
+      }
+
+  -- no action is counted any more
+  pub turn_worn_out : IsOver g limit left picking c s NoMemory
+  turn_worn_out = record { course = λ told out. not_begun g limit picking c told left out out refl; none = λ other. absurd (other refl) }
+
+  module _ (goes : is_done (at s.world.rows 0) ≡ false) where
+    on : is_done (at d.table.rows 0) ≡ false
+    on = ap (λ (w : Table). is_done (at w.rows 0)) (sym table) ∙ goes
+
+    pub turn_dead : some_ready s.world.rows ≡ false → IsOver g limit left picking c s Deadlock
+    turn_dead nobody =
+        let e : ending_at d ≡ Some Deadlock = ends_dead d sound on (ap (λ (w : Table). some_ready w.rows) (sym table) ∙ nobody) in
         record {
-          course = λ told out. completes g limit picking c told s left Finished out (ended g limit picking c Finished e left) reports;
-          none = λ other. ended_steps g picking c Finished e left;
+          course = λ told out. completes g limit picking c told s left Deadlock out (ended g limit picking c Deadlock e left) reports;
+          none = λ other. ended_steps g picking c Deadlock e left;
         }
 
-    -- no action is counted any more
-    pub turn_worn_out : IsOver g limit left picking c s NoMemory
-    turn_worn_out = record { course = λ told out. not_begun g limit picking c told left out out refl; none = λ other. absurd (other refl) }
+    module _ (ready : some_ready s.world.rows ≡ true) where
+      further : ending_at d ≡ None
+      further = goes_further d sound on (ap (λ (w : Table). some_ready w.rows) (sym table) ∙ ready)
 
-    module _ (goes : is_done (at s.world.rows 0) ≡ false) where
-      on : is_done (at d.table.rows 0) ≡ false
-      on = ap (λ (w : Table). is_done (at w.rows 0)) (sym table) ∙ goes
-
-      pub turn_dead : some_ready s.world.rows ≡ false → IsOver g limit left picking c s Deadlock
-      turn_dead nobody =
-          let e : ending_at d ≡ Some Deadlock = ends_dead d sound on (ap (λ (w : Table). some_ready w.rows) (sym table) ∙ nobody) in
+      pub turn_limit : left ≡ 0 → IsOver g limit left picking c s (Limit limit)
+      turn_limit none =
           record {
-            course = λ told out. completes g limit picking c told s left Deadlock out (ended g limit picking c Deadlock e left) reports;
-            none = λ other. ended_steps g picking c Deadlock e left;
+            course = λ told out.
+                completes g limit picking c told s left (Limit limit) out
+                (ap (λ (n : ℕ). run_from g limit n picking c) none ∙ limited g limit picking c further) reports;
+            none = λ other. ap (λ (n : ℕ). steps_from g n picking c) none;
           }
 
-      module _ (ready : some_ready s.world.rows ≡ true) where
-        further : ending_at d ≡ None
-        further = goes_further d sound on (ap (λ (w : Table). some_ready w.rows) (sym table) ∙ ready)
+      module _ (some : left ≢ 0) (pick : Pick) (is : pick ≡ picked picking s.world.rows) where
+        there : pick ≡ picked picking d.table.rows
+        there = is ∙ ap (λ (w : Table). picked picking w.rows) table
 
-        pub turn_limit : left ≡ 0 → IsOver g limit left picking c s (Limit limit)
-        turn_limit none =
-            record {
-              course = λ told out.
-                  completes g limit picking c told s left (Limit limit) out
-                  (ap (λ (n : ℕ). run_from g limit n picking c) none ∙ limited g limit picking c further) reports;
-              none = λ other. ap (λ (n : ℕ). steps_from g n picking c) none;
-            }
+        -- no process was picked
+        pub turn_ends :
+            (ending : Ending) → by_pick d (after_pick picking s.world.rows) (behind_pick g limit picking c (left - 1)) pick ≡ ended_with d ending
+            → (told : Told) (out : List ℕ) → Completes told (run_from g limit left picking c) c s ending (Some out) (Some out)
+        turn_ends ending e told out =
+            completes g limit picking c told s left ending out
+            (run_of g limit left picking c pick further some there
+            ∙ ap (λ (w : Table). by_pick d (after_pick picking w.rows) (behind_pick g limit picking c (left - 1)) pick) (sym table) ∙ e)
+            reports
 
-        module _ (some : left ≢ 0) (pick : Pick) (is : pick ≡ picked picking s.world.rows) where
-          there : pick ≡ picked picking d.table.rows
-          there = is ∙ ap (λ (w : Table). picked picking w.rows) table
+        pub no_step : ((steps : ℕ → List Step) → of_process steps pick ≡ []) → steps_from g left picking c ≡ []
+        no_step none = steps_of g left picking c pick further some there ∙ none _
 
-          -- no process was picked
-          pub turn_ends :
-              (ending : Ending) → by_pick d (after_pick picking s.world.rows) (behind_pick g limit picking c (left - 1)) pick ≡ ended_with d ending
-              → (told : Told) (out : List ℕ) → Completes told (run_from g limit left picking c) c s ending (Some out) (Some out)
-          turn_ends ending e told out =
-              completes g limit picking c told s left ending out
-              (run_of g limit left picking c pick further some there
-              ∙ ap (λ (w : Table). by_pick d (after_pick picking w.rows) (behind_pick g limit picking c (left - 1)) pick) (sym table) ∙ e)
-              reports
-
-          pub no_step : ((steps : ℕ → List Step) → of_process steps pick ≡ []) → steps_from g left picking c ≡ []
-          no_step none = steps_of g left picking c pick further some there ∙ none _
-
-          -- one was
-          pub turn_goes : (p : ℕ) → pick ≡ Process p → IsPick g limit (left - 1) picking (after_pick picking s.world.rows) c d p
-          turn_goes p process =
-              let behind : Picking = after_pick picking d.table.rows in
-              let one : left ≡ (left - 1) + 1 = omega (arith, some) in
-              let f : run_from g limit ((left - 1) + 1) picking c ≡ behind_pick g limit picking c (left - 1) p
-              = ap (λ (n : ℕ). run_from g limit n picking c) (sym one) ∙ run_of g limit left picking c (Process p) further some (sym process ∙ there) in
-              let pick_there : IsPick g limit (left - 1) picking behind c d p = record {
-                output = settled_output c;
-                goes = record {
-                  ending = sym (ap (λ (x : Run). x.ending) f);
-                  config = sym (ap (λ (x : Run). x.config) f);
-                  events = ap (λ (x : Run). x.events) f;
-                };
-                steps =
-                    ap (λ (n : ℕ). steps_from g n picking c) (sym one) ∙ steps_of g left picking c (Process p) further some (sym process ∙ there);
-              } in
-              subst (λ (w : Table). IsPick g limit (left - 1) picking (after_pick picking w.rows) c d p) (sym table) pick_there
+        -- one was
+        pub turn_goes : (p : ℕ) → pick ≡ Process p → IsPick g limit (left - 1) picking (after_pick picking s.world.rows) c d p
+        turn_goes p process =
+            let behind : Picking = after_pick picking d.table.rows in
+            let one : left ≡ (left - 1) + 1 = omega (arith, some) in
+            let f : run_from g limit ((left - 1) + 1) picking c ≡ behind_pick g limit picking c (left - 1) p
+            = ap (λ (n : ℕ). run_from g limit n picking c) (sym one) ∙ run_of g limit left picking c (Process p) further some (sym process ∙ there) in
+            let pick_there : IsPick g limit (left - 1) picking behind c d p = record {
+              output = settled_output c;
+              goes = record {
+                ending = sym (ap (λ (x : Run). x.ending) f);
+                config = sym (ap (λ (x : Run). x.config) f);
+                events = ap (λ (x : Run). x.events) f;
+              };
+              steps =
+                  ap (λ (n : ℕ). steps_from g n picking c) (sym one) ∙ steps_of g left picking c (Process p) further some (sym process ∙ there);
+            } in
+            subst (λ (w : Table). IsPick g limit (left - 1) picking (after_pick picking w.rows) c d p) (sym table) pick_there
 
 -- ## Behind an action
 

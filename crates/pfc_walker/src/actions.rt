@@ -6,38 +6,46 @@ ghost use Rattle.pfc_walker.specs.Walks.{IsReadyToAct, IsStep, Walks, WalksBefor
 ghost use Rattle.pfc_walker.specs.declared.walker.Walker.{Walker};
 
 use crate::Walker;
-use pfc_acting::act;
-use pfc_activities::Done;
 use pfc_base::Memory;
 use pfc_sched::Picker;
 use pfc_values::Output;
+use pfc_watching::{Walked, act_watched};
 use std::alloc::Global;
 
 impl<'t> Walker<'t> {
     /// One action of a process that is ready: all that is quiet, and then the action that comes next. What it prints is put behind `out`, and
-    /// a select that has something to choose among asks the picker. It answers whether the action is a fault, and which, at which line. Its
-    /// only refusal is want of memory: then the process is before the same action, which can be tried again, and the output and the picker
-    /// are as they were.
+    /// a select that has something to choose among asks the picker. It answers the event that the action was, or which fault it is, at which
+    /// line. Its only refusal is want of memory: then the process is before the same action, which can be tried again, and the output and the
+    /// picker are as they were.
     pub fn act(
         &mut self,
         alloc: Global,
         p: u32,
         picker: &mut Picker,
         out: &mut Output,
-    ) -> Result<Done, Memory>
+    ) -> Result<Walked, Memory>
         requires { (g : Program) × (c : Config) × WalksBefore self.old g c p × IsReadyToAct c p }
-        ensures ok { IfOk result (λ done. (g : Program) (c : Config) → WalksBefore self.old g c p → IsStep self.new g c p picker.old picker.new out.old out.new done) }
+        ensures ok { IfOk result (λ walked. (g : Program) (c : Config) → WalksBefore self.old g c p → IsStep self.old.waited self.new g c p picker.old picker.new out.old out.new walked) }
         ensures err { OnErr result ((g : Program) (c : Config) → WalksBefore self.old g c p → WalksBefore self.new g c p) }
         ensures kept { OnErr result (out.new ≡ out.old) }
         ensures unchosen { OnErr result (picker.new ≡ picker.old) }
+        ensures unwatched { OnErr result (self.new.waited ≡ self.old.waited) }
         ensures source { self.new.source.now ≡ self.old.source.now }
     {
         let before = out.bytes().len();
-        let done = act(alloc, self.source, &mut self.state, p, picker, out)?;
+        let walked = act_watched(
+            alloc,
+            self.source,
+            &mut self.state,
+            p,
+            &mut self.waited,
+            picker,
+            out,
+        )?;
         if out.bytes().len() > before {
             self.in_line = out.ends_inside_line();
         }
-        Ok(done)
+        Ok(walked)
     }
 }
 

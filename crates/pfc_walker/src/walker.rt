@@ -1,5 +1,5 @@
 //! A program between two actions.
-ghost use Rattle.std.specs.Prelude.{◌≡◌, IfOk};
+ghost use Rattle.std.specs.Prelude.{◌≡◌, IfOk, false};
 ghost use Rattle.pfc_store.specs.Views.{values_view};
 ghost use Rattle.pfc_semantics.specs.Configurations.{start};
 ghost use Rattle.pfc_beginning.specs.Beginnings.{program_with};
@@ -11,12 +11,14 @@ use pfc_beginning::at_start;
 use pfc_store::Value;
 use std::alloc::Global;
 
-/// A program that runs by rewriting: its source, all that there is between two actions, and whether the output so far ends inside a line.
+/// A program that runs by rewriting: its source, all that there is between two actions, whether the output so far ends inside a line, and whether
+/// main's last action began a wait at `coend`, as far as its actions were watched.
 #[derive(Drop)]
 pub struct Walker<'t> {
     pub(crate) source: &'t Source<'t>,
     pub(crate) state: State<'t>,
     pub(crate) in_line: bool,
+    pub(crate) waited: bool,
 }
 
 impl<'t> Walker<'t> {
@@ -30,6 +32,7 @@ impl<'t> Walker<'t> {
         seed: u64,
     ) -> Result<Walker<'t>, Memory>
         ensures source { IfOk result (λ w. w.source.now ≡ source.now) }
+        ensures unwaited { IfOk result (λ w. w.waited ≡ false) }
         ensures walks { IfOk result (λ w. Walks w (program_with source.now (values_view variables.items)) (start (program_with source.now (values_view variables.items)) input.now seed)) }
     {
         let state = at_start(alloc, source, variables, input, seed)?;
@@ -37,6 +40,7 @@ impl<'t> Walker<'t> {
             source,
             state,
             in_line: false,
+            waited: false,
         })
     }
 

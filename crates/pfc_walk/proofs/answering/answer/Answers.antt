@@ -5,7 +5,7 @@ use Rattle.pfc_outcome.specs.Outcomes.{IsOutcomeOfText, IsUnlisted, behind, list
 use Rattle.pfc_walk.specs.Answers.{IsWritten, Replies}
 use Rattle.pfc_walk.specs.Meanings.{whole_meaning}
 use Rattle.pfc_walk.specs.Reading.{IsFitting}
-use Rattle.pfc_walk.specs.Traces.{IsToldOfText, program_told}
+use Rattle.pfc_walk.specs.Traces.{IsToldOfText, program_shown}
 use Rattle.pfc_walk.proofs.Readings.{listed_outcome, program_outcome_is, refused_for}
 use Rattle.pfc_walk.proofs.Outcomes.{memory_replies, refused_replies, replied, written_as}
 use Rattle.pfc_walk.proofs.Traced.{refused_line, told_once, told_program}
@@ -16,21 +16,21 @@ returns-in-Ok-clause-replies g c = λ fits.
     let text = c.bytes-text.result.now in
     let request = asks c.args.options.now c.args.loaded.now in
     let tree = tree_view c.in-Ok.sound.checked.0 in
-    subst (λ (t : List ℕ). IsFitting t → Replies (IsToldOfText c.args.told whole_meaning t request) c.answer_sound.result (g.O.Sink.written c.args.sink.now) (g.O.Sink.written c.answer_sound.new.sink)) c.bytes-text.ensures
+    subst (λ (t : List ℕ). IsFitting t → Replies (IsToldOfText c.args.shown whole_meaning t request) c.answer_sound.result (g.O.Sink.written c.args.sink.now) (g.O.Sink.written c.answer_sound.new.sink)) c.bytes-text.ensures
     (λ small.
-    replied (IsToldOfText c.args.told whole_meaning text request) (program_told c.args.told (listing_written request text) tree request)
-    (told_program c.args.told text tree request (program_outcome_is text tree c.in-Ok.ensures.sound request small c.requires.codeless))
-    (told_once c.args.told (listing_written request text) (IsOutcomeOfText whole_meaning text request) (c.an_outcome_is_one.ensures.text whole_meaning text request)) c.answer_sound.result (g.O.Sink.written c.args.sink.now) (g.O.Sink.written c.answer_sound.new.sink)
-    (subst (λ (listing : List ℕ). IsWritten (program_told c.args.told listing tree request) c.answer_sound.result (g.O.Sink.written c.args.sink.now) (g.O.Sink.written c.answer_sound.new.sink))
+    replied (IsToldOfText c.args.shown whole_meaning text request) (program_shown c.args.shown (listing_written request text) tree request)
+    (told_program c.args.shown text tree request (program_outcome_is text tree c.in-Ok.ensures.sound request small c.requires.codeless))
+    (told_once c.args.shown (listing_written request text) (IsOutcomeOfText whole_meaning text request) (c.an_outcome_is_one.ensures.text whole_meaning text request)) c.answer_sound.result (g.O.Sink.written c.args.sink.now) (g.O.Sink.written c.answer_sound.new.sink)
+    (subst (λ (listing : List ℕ). IsWritten (program_shown c.args.shown listing tree request) c.answer_sound.result (g.O.Sink.written c.args.sink.now) (g.O.Sink.written c.answer_sound.new.sink))
     (c.deref.ensures.value ∙ c.in_ok-listing.ensures) c.answer_sound.ensures.written)) fits
 
 pub returns-in_err-listing-clause-replies : goal.returns-in_err-listing-clause-replies
 returns-in_err-listing-clause-replies g c = λ fits.
-    memory_replies (IsToldOfText c.args.told whole_meaning c.args.loaded.now.text (asks c.args.options.now c.args.loaded.now)) c.from_residual.result (g.O.Sink.written c.args.sink.now) c.from_residual.ensures.1
+    memory_replies (IsToldOfText c.args.shown whole_meaning c.args.loaded.now.text (asks c.args.options.now c.args.loaded.now)) c.from_residual.result (g.O.Sink.written c.args.sink.now) c.from_residual.ensures.1
 
 pub returns-in_err-line-in-Err-Refused-clause-replies : goal.returns-in_err-line-in-Err-Refused-clause-replies
 returns-in_err-line-in-Err-Refused-clause-replies g c = λ fits.
-    memory_replies (IsToldOfText c.args.told whole_meaning c.args.loaded.now.text (asks c.args.options.now c.args.loaded.now)) c.from_residual-in_err-line-in-Err-Refused.result (g.O.Sink.written c.args.sink.now)
+    memory_replies (IsToldOfText c.args.shown whole_meaning c.args.loaded.now.text (asks c.args.options.now c.args.loaded.now)) c.from_residual-in_err-line-in-Err-Refused.result (g.O.Sink.written c.args.sink.now)
     c.from_residual-in_err-line-in-Err-Refused.ensures.1
 
 pub returns-in-Err-Refused-clause-replies : goal.returns-in-Err-Refused-clause-replies
@@ -39,8 +39,8 @@ returns-in-Err-Refused-clause-replies g c = λ fits.
     let request = asks c.args.options.now c.args.loaded.now in
     let r = c.in-Err-Refused.refusal in
     let line = rw c.in-Err-Refused.field-0-is at c.in_ok-line-in-Err-Refused.ensures in
-    subst (λ (t : List ℕ). Replies (IsToldOfText c.args.told whole_meaning t request) c.refuse.result (g.O.Sink.written c.args.sink.now) (g.O.Sink.written c.refuse.new.sink)) c.bytes-text.ensures
-    (refused_replies c.args.told text request (behind (listing_written request text) (refused r)) refl
+    subst (λ (t : List ℕ). Replies (IsToldOfText c.args.shown whole_meaning t request) c.refuse.result (g.O.Sink.written c.args.sink.now) (g.O.Sink.written c.refuse.new.sink)) c.bytes-text.ensures
+    (refused_replies c.args.shown text request (behind (listing_written request text) (refused r)) refl
     (listed_outcome text request (refused r) (refused_for (IsUnlisted whole_meaning text) c.in-Err-Refused.field-0 r c.in-Err-Refused.field-0-is c.in-Err-Refused.ensures.none request))
     (c.an_outcome_is_one.ensures.text whole_meaning text request) c.refuse.result (g.O.Sink.written c.args.sink.now) (g.O.Sink.written c.refuse.new.sink)
     (subst (λ (listing : List ℕ). IsWritten (behind listing (refused r)) c.refuse.result (g.O.Sink.written c.args.sink.now) (g.O.Sink.written c.refuse.new.sink)) (c.deref-in-Err-Refused.ensures.value ∙ c.in_ok-listing.ensures)

@@ -1,4 +1,4 @@
-use Rattle.std.proofs.Common.{ℕ, refl, sym, subst, ap, ◌∙◌}
+use Rattle.std.proofs.Common.{ℕ, refl, sym, subst, ap, ◌∙◌, arith}
 use Rattle.pfc_io.proofs.Counts.{Rose-earlier}
 use Rattle.pfc_sched.specs.Picks.{first_picking}
 use Rattle.pfc_semantics.specs.Programs.{program_of}
@@ -51,6 +51,7 @@ returns-in_err-write_end-in_default g c = record {
       (c.in_err-write_end-in_default.ensures.front tree settings (record { ends = p.ends; reports = p.reports; line = line; labels = b.labels })));
   sound = stopped_sound c.from_residual.result _ c.from_residual.ensures.1;
   cut = λ of. Rose-earlier _ _ _ c.run.ensures.faults (c.in_err-write_end-in_default.ensures.cut (same_stop c.from_residual.result _ c.from_residual.ensures.1 _ of));
+  faults = omega (arith, c.run.ensures.faults, c.write_end.ensures.faults);
 }
 
 pub returns-in_ok-write_end-in_default : goal.returns-in_ok-write_end-in_default
@@ -67,4 +68,5 @@ returns-in_ok-write_end-in_default g c = record {
       (c.in_ok-write_end-in_default.ensures.whole tree settings (record { ends = p.ends; reports = p.reports; line = line; labels = b.labels })) c.status_of.result c.status_of.ensures;
   sound = subst (λ (s : ℕ). IsAnswerToText s) (sym c.status_of.ensures) (report_status c.run.result (has_report c.run.result c.in_default.not-SinkFailed c.in_default.not-Memory));
   cut = λ of. absurd (no_stop _ _ of);
+  faults = omega (arith, c.run.ensures.faults, c.write_end.ensures.faults);
 }

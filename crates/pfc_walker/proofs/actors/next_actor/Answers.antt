@@ -49,9 +49,9 @@ returns-in-Nobody-clause-over c = λ source g c' stands.
     let is = sym c.in-Nobody.is ∙ c.pick.ensures.pick in
     record {
       course = turn_ends source g c.args.limit c.args.left c.args.picker.now c' c.settle-settled.new.state (c.settle-settled.ensures.stands source c' stands)
-      (sym c.is_over.ensures ∙ c.if-is_over.false) ready c.if-left-eq0.false Nobody is Deadlock refl;
+          (sym c.is_over.ensures ∙ c.if-is_over.false) ready c.if-left-eq0.false Nobody is Deadlock refl;
       none = λ other. no_step source g c.args.limit c.args.left c.args.picker.now c' c.settle-settled.new.state (c.settle-settled.ensures.stands source c' stands)
-      (sym c.is_over.ensures ∙ c.if-is_over.false) ready c.if-left-eq0.false Nobody is (λ steps. refl);
+          (sym c.is_over.ensures ∙ c.if-is_over.false) ready c.if-left-eq0.false Nobody is (λ steps. refl);
     }
 
 pub returns-in-NotReady-clause-over : goal.returns-in-NotReady-clause-over
@@ -62,9 +62,9 @@ returns-in-NotReady-clause-over c = λ source g c' stands.
     subst (λ (e : Ending). IsOver g c.args.limit c.args.left c.args.picker.now c' c.settle-settled.new.state e)
     (sym (c.script.ensures ∙ ap (λ (x : Picking). Script (item_of x) (Not_ready c.in-NotReady.p)) c.pick.ensures.after)) (record {
       course = turn_ends source g c.args.limit c.args.left c.args.picker.now c' c.settle-settled.new.state (c.settle-settled.ensures.stands source c' stands)
-      (sym c.is_over.ensures ∙ c.if-is_over.false) ready c.if-left-eq0.false (NotReady c.in-NotReady.p) is (Script item (Not_ready c.in-NotReady.p)) refl;
+          (sym c.is_over.ensures ∙ c.if-is_over.false) ready c.if-left-eq0.false (NotReady c.in-NotReady.p) is (Script item (Not_ready c.in-NotReady.p)) refl;
       none = λ other. no_step source g c.args.limit c.args.left c.args.picker.now c' c.settle-settled.new.state (c.settle-settled.ensures.stands source c' stands)
-      (sym c.is_over.ensures ∙ c.if-is_over.false) ready c.if-left-eq0.false (NotReady c.in-NotReady.p) is (λ steps. refl);
+          (sym c.is_over.ensures ∙ c.if-is_over.false) ready c.if-left-eq0.false (NotReady c.in-NotReady.p) is (λ steps. refl);
     })
 
 pub returns-in-NoProcess-clause-over : goal.returns-in-NoProcess-clause-over
@@ -75,9 +75,9 @@ returns-in-NoProcess-clause-over c = λ source g c' stands.
     subst (λ (e : Ending). IsOver g c.args.limit c.args.left c.args.picker.now c' c.settle-settled.new.state e)
     (sym (c.script-in-NoProcess.ensures ∙ ap (λ (x : Picking). Script (item_of x) (No_process c.in-NoProcess.p)) c.pick.ensures.after)) (record {
       course = turn_ends source g c.args.limit c.args.left c.args.picker.now c' c.settle-settled.new.state (c.settle-settled.ensures.stands source c' stands)
-      (sym c.is_over.ensures ∙ c.if-is_over.false) ready c.if-left-eq0.false (NoProcess c.in-NoProcess.p) is (Script item (No_process c.in-NoProcess.p)) refl;
+          (sym c.is_over.ensures ∙ c.if-is_over.false) ready c.if-left-eq0.false (NoProcess c.in-NoProcess.p) is (Script item (No_process c.in-NoProcess.p)) refl;
       none = λ other. no_step source g c.args.limit c.args.left c.args.picker.now c' c.settle-settled.new.state (c.settle-settled.ensures.stands source c' stands)
-      (sym c.is_over.ensures ∙ c.if-is_over.false) ready c.if-left-eq0.false (NoProcess c.in-NoProcess.p) is (λ steps. refl);
+          (sym c.is_over.ensures ∙ c.if-is_over.false) ready c.if-left-eq0.false (NoProcess c.in-NoProcess.p) is (λ steps. refl);
     })
 
 pub returns-in-ScriptEnd-clause-over : goal.returns-in-ScriptEnd-clause-over
@@ -88,7 +88,7 @@ returns-in-ScriptEnd-clause-over c = λ source g c' stands.
     subst (λ (e : Ending). IsOver g c.args.limit c.args.left c.args.picker.now c' c.settle-settled.new.state e)
     (sym (c.script-in-ScriptEnd.ensures ∙ ap (λ (x : Picking). Script (item_of x) Ended) c.pick.ensures.after)) (record {
       course = turn_ends source g c.args.limit c.args.left c.args.picker.now c' c.settle-settled.new.state (c.settle-settled.ensures.stands source c' stands)
-      (sym c.is_over.ensures ∙ c.if-is_over.false) ready c.if-left-eq0.false ScriptEnd is (Script item Ended) refl;
+          (sym c.is_over.ensures ∙ c.if-is_over.false) ready c.if-left-eq0.false ScriptEnd is (Script item Ended) refl;
       none = λ other. no_step source g c.args.limit c.args.left c.args.picker.now c' c.settle-settled.new.state (c.settle-settled.ensures.stands source c' stands)
-      (sym c.is_over.ensures ∙ c.if-is_over.false) ready c.if-left-eq0.false ScriptEnd is (λ steps. refl);
+          (sym c.is_over.ensures ∙ c.if-is_over.false) ready c.if-left-eq0.false ScriptEnd is (λ steps. refl);
     })

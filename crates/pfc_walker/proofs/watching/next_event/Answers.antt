@@ -1,0 +1,19 @@
+use Rattle.std.proofs.Common.{◌≡◌, ◌+◌, ◌-◌, IfOk, arith, subst}
+use Rattle.std.proofs.lemmas.Result.{IfOk-weaker}
+use Rattle.pfc_semantics.specs.Time.{settled_config}
+use Rattle.pfc_races.specs.Ordered.{ordered}
+use Rattle.pfc_walker.specs.Watching.{IsNextEvent}
+use Rattle.pfc_walker.proofs.watching.next_event.Goals as goal
+
+pub next_actor-requires : goal.next_actor-requires
+next_actor-requires c = let (g, c', program, stands) = c.requires in (c.args.source.now, c', stands)
+
+pub returns-in-Ok-clause-event : goal.returns-in-Ok-clause-event
+returns-in-Ok-clause-event c =
+    let one : (c.args.left - 1) + 1 ≡ c.args.left = omega (arith, c.in-Ok.ensures.some) in
+    IfOk-weaker c.event_of.result _ _
+    (λ event h g c' program stands.
+    subst (λ n. IsNextEvent c.args.source.now g n c.args.picker.now c.event_of.new.picker c.args.waited.now c.event_of.new.waited c' c.event_of.new.state event) one
+    (h g c.args.left (c.args.left - 1) c.args.picker.now c' (settled_config c') program (c.in-Ok.ensures.stands c.args.source.now c' stands)
+    (c.in-Ok.ensures.pick c.args.source.now g c' stands)))
+    c.event_of.ensures

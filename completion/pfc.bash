@@ -2,7 +2,7 @@
 _pfc() {
     local word=${COMP_WORDS[COMP_CWORD]} before=${COMP_WORDS[COMP_CWORD - 1]}
     local options='--seed --unfair --limit --input --script --list --code --make --help --version'
-    if [ "${COMP_WORDS[0]##*/}" = pfcwalk ]; then options='--seed --unfair --limit --input --script --list --trace --help --version'; fi
+    if [ "${COMP_WORDS[0]##*/}" = pfcwalk ]; then options='--seed --unfair --limit --input --script --list --trace --races --help --version'; fi
     COMPREPLY=()
     case $before in
     --seed | --limit | --make) return ;;

@@ -14,3 +14,4 @@ end
 complete -c pfc -l code -d 'write the code of the program'
 complete -c pfc -l make -x -d 'run a made text'
 complete -c pfcwalk -l trace -d 'write who acted'
+complete -c pfcwalk -l races -d 'write what nothing orders'

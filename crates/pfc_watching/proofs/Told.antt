@@ -14,35 +14,31 @@ use Rattle.pfc_semantics.specs.Events.{Step, event_of}
 use Rattle.pfc_semantics.specs.Runs.{choice_among}
 use Rattle.pfc_races.specs.Seen.{event_seen}
 use Rattle.pfc_pending.specs.declared.actions.Deed.{Deed}
-use Rattle.pfc_activities.specs.declared.changes.Done.TheVariants as done
 use Rattle.pfc_activities.specs.declared.source.Source.{Source}
 use Rattle.pfc_activities.specs.declared.state.State.{State}
-use Rattle.pfc_activities.specs.Relation.{Ends}
 use Rattle.pfc_activities.specs.Views.{deed_of}
 use Rattle.pfc_activities.proofs.Acting.{next_is}
 use Rattle.pfc_performing.specs.Performing.{IsAction, IsDone}
 use Rattle.pfc_acting.specs.Acting.{IsActed, IsBeforeDeed, StandsBefore}
-use Rattle.pfc_events.specs.Events.{Foretells, IsComing, event_meant}
+use Rattle.pfc_events.specs.Events.{IsComing, event_meant}
 use Rattle.pfc_events.specs.declared.events.Coming.{Coming}
-use Rattle.pfc_watching.specs.Watching.{IsEventBehind, IsEventOf, IsWatched, TellsEvent, done_of, step_by}
+use Rattle.pfc_watching.specs.Watching.{IsEventBehind, IsEventOf, IsHappened, IsWatched, TellsEvent, done_of, step_by}
 use Rattle.pfc_watching.specs.declared.acting.Walked.{Walked}
 use Rattle.pfc_watching.specs.declared.acting.Walked.TheVariants.{Stepped, Faulted}
 
 -- ## The event
 
 pub told_so :
-    (source : Source) (s mid new : State) (p : ℕ) (x : Deed) (picking picking' : Picking) (out out' : List ℕ) (joins : Bool) (coming : Coming) (event : EventSeen)
+    (source : Source) (s mid new : State) (p : ℕ) (x : Deed) (picking picking' : Picking) (out out' : List ℕ) (joins : Bool) (coming : Coming) (w : Walked)
     → ((c : Config) → StandsBefore source s c p → IsBeforeDeed source mid c p x) → IsComing source mid p x picking coming
-    → IsDone source mid new p x picking picking' out out' done.Stepped
-    → ((source : Source) (g : Program) (c : Config) (choice : ℕ) (n : Action) (bytes : List ℕ)
-    → Foretells g c p choice n coming → Ends source g new c p choice n bytes done.Stepped → event ≡ event_meant g c p choice n joins)
-    → TellsEvent source s p joins picking (Stepped event)
-told_so source s mid new p x picking picking' out out' joins coming event before comes done happened g c program stands =
+    → IsDone source mid new p x picking picking' out out' (done_of w) → IsHappened new p joins coming w → TellsEvent source s p joins picking w
+told_so source s mid new p x picking picking' out out' joins coming (Stepped event) before comes done happened g c program stands =
     let (a, is_at) = before c stands in
     let n : Action = deed_of source.program.tables a.doing x in
     let action = done g c a program is_at in
     happened source g c (choice_among picking (choices g c p n)) n action.bytes (comes g c a program is_at.before) action.ends
     ∙ ap (λ (m : Action). event_meant g c p (choice_among picking (choices g c p m)) m joins) (sym (next_is source g mid c p a n is_at.before))
+told_so source s mid new p x picking picking' out out' joins coming (Faulted line fault) before comes done happened g c program stands = tt
 
 -- ## Behind a wait of main
 

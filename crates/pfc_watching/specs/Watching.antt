@@ -1,7 +1,8 @@
 -- What is told of a step.
-use Rattle.std.specs.Prelude.{◌≡◌, ℕ, Bool}
+use Rattle.std.specs.Prelude.{◌≡◌, ℕ, Bool, List}
 use Rattle.pfc_sched.specs.Picks.{Picking}
 use Rattle.pfc_semantics.specs.Programs.{Program}
+use Rattle.pfc_semantics.specs.Remainders.{Action}
 use Rattle.pfc_semantics.specs.Configurations.{Config}
 use Rattle.pfc_semantics.specs.Selects.{choices}
 use Rattle.pfc_semantics.specs.Steps.{next_of}
@@ -14,7 +15,10 @@ use Rattle.pfc_activities.specs.declared.changes.Done.TheVariants as done
 use Rattle.pfc_activities.specs.declared.source.Source.{Source}
 use Rattle.pfc_activities.specs.declared.state.State.{State}
 use Rattle.pfc_activities.specs.Programs.{IsProgram}
+use Rattle.pfc_activities.specs.Relation.{Ends}
 use Rattle.pfc_acting.specs.Acting.{StandsBefore}
+use Rattle.pfc_events.specs.Events.{Foretells, event_meant}
+use Rattle.pfc_events.specs.declared.events.Coming.{Coming}
 use Rattle.pfc_watching.specs.declared.acting.Walked.{Walked}
 use Rattle.pfc_watching.specs.declared.acting.Walked.TheVariants.{Stepped, Faulted}
 
@@ -53,3 +57,10 @@ IsEventOf joins t (Faulted line fault) = Unit {0}
 abbrev pub TellsEvent : Source → State → ℕ → Bool → Picking → Walked → Type 0
 TellsEvent source s p joins picking w =
     (g : Program) (c : Config) → IsProgram source g → StandsBefore source s c p → IsEventOf joins (step_by g c p picking) w
+
+-- What came is told, and the action was done: its event is what the definitions say that it was.
+abbrev pub IsHappened : State → ℕ → Bool → Coming → Walked → Type 0
+IsHappened new p joins coming (Stepped event) =
+    (source : Source) (g : Program) (c : Config) (choice : ℕ) (n : Action) (bytes : List ℕ)
+    → Foretells g c p choice n coming → Ends source g new c p choice n bytes done.Stepped → event ≡ event_meant g c p choice n joins
+IsHappened new p joins coming (Faulted line fault) = Unit {0}

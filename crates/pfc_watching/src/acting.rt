@@ -3,13 +3,13 @@ ghost use Rattle.std.specs.Prelude.{◌≡◌, IfOk, OnErr};
 ghost use Rattle.pfc_semantics.specs.Configurations.{Config};
 ghost use Rattle.pfc_activities.specs.Relation.{MayAct};
 ghost use Rattle.pfc_acting.specs.Acting.{IsActed, StandsBefore};
-ghost use Rattle.pfc_watching.specs.Watching.{IsWatched, TellsEvent, done_of};
+ghost use Rattle.pfc_watching.specs.Watching.{IsHappened, IsWatched, TellsEvent, done_of};
 
 use crate::joining::{joins, waits_behind};
 use pfc_acting::{next, put_back};
 use pfc_activities::{Done, Source, State};
 use pfc_base::{Memory, RunFault};
-use pfc_events::{foretell, happened};
+use pfc_events::{Coming, foretell, happened};
 use pfc_hb::Event;
 use pfc_performing::perform;
 use pfc_sched::Picker;
@@ -74,11 +74,21 @@ fn act_told<'t>(
         return Err(Memory);
     };
     match perform(alloc, source, state, p, deed, picker, out) {
-        Ok(Done::Stepped) => Ok(Walked::Stepped(happened(told, state, p, joins))),
-        Ok(Done::Faulted { line, fault }) => Ok(Walked::Faulted { line, fault }),
+        Ok(done) => Ok(event_behind(done, told, state, p, joins)),
         Err(deed) => {
             put_back(state, p, deed);
             Err(Memory)
         }
+    }
+}
+
+/// What an action was that came and was done, by the state behind it.
+fn event_behind(done: Done, told: Coming, state: &State<'_>, p: u32, joins: bool) -> Walked
+    ensures done { done_of result ≡ done }
+    ensures event { IsHappened state.now p joins told result }
+{
+    match done {
+        Done::Stepped => Walked::Stepped(happened(told, state, p, joins)),
+        Done::Faulted { line, fault } => Walked::Faulted { line, fault },
     }
 }

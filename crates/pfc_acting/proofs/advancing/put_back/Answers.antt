@@ -1,11 +1,8 @@
-use Rattle.std.proofs.Common.{refl, arith}
+use Rattle.std.proofs.Common.{refl}
 use Rattle.pfc_activities.specs.Views.{deed_of}
 use Rattle.pfc_pending.specs.declared.at_hand.At.TheVariants as at
 use Rattle.pfc_acting.proofs.Before.{deed_at, moved_on}
 use Rattle.pfc_acting.proofs.advancing.put_back.Goals as goal
-
-pub returns-then-p-ge-len : goal.returns-then-p-ge-len
-returns-then-p-ge-len c = λ source c' before. let (b, at_b) = before in let within = at_b.before.there.within in absurd (omega (arith, within))
 
 pub returns : goal.returns
 returns c = λ source c' before.

@@ -162,10 +162,10 @@ fn tell_races<O: Sink>(
         → IfErr result (λ stop. AppendsFront (O.written sink.old) (O.written sink.new) (races_shown shown (tree_view sound.now.checked.0) (settings_of (asks options.now loaded.now) policy))) }
     ensures cut { IsErrOf result Stop.WriteFailed → Rose (O.faults sink.old) (O.faults sink.new) }
 {
-    match shown {
-        Shown::Output | Shown::Trace => Ok(()),
-        Shown::Races => say_races(alloc, sound, options, loaded, sink),
+    if let Shown::Races = shown {
+        return say_races(alloc, sound, options, loaded, sink);
     }
+    Ok(())
 }
 
 /// Writes the lines of the races behind a run. A script that is no list of numbers, which never ran, counts as want of memory.

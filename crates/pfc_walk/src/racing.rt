@@ -34,8 +34,12 @@ pub(crate) fn lines_of_races(
     requires { options.now.limit ≤ most_watched }
     ensures { IfOk result (λ lines. lines.items ≡ races_by (tree_view sound.now.checked.0) (settings_of (asks options.now loaded.now) policy)) }
 {
-    let Made { source, variables } = make_program(alloc, sound)?;
-    races_of_source(alloc, &source, variables, sound, options, loaded, policy)
+    match make_program(alloc, sound) {
+        Ok(Made { source, variables }) => {
+            races_of_source(alloc, &source, variables, sound, options, loaded, policy)
+        }
+        Err(Memory) => Err(Memory),
+    }
 }
 
 /// The lines of the races of a program's run, as `lines_of_races` has them.

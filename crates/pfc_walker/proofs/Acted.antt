@@ -98,6 +98,17 @@ pub open_as_before : (old out bytes out' : List ℕ) → out' ≡ out ++ bytes �
 open_as_before old out [] out' written none = ap is_open_line (sym (append-nil old))
 open_as_before old out (b ∷ bytes) out' written none = absurd (omega (arith, none, ap length written ∙ length-append out (b ∷ bytes)))
 
+-- whether it is known at all
+pub line_so :
+    (old out bytes out' : List ℕ) (line line' : Bool) (before : ℕ) → out' ≡ out ++ bytes → before ≡ length out → line ≡ is_open_line old
+    → (before < length out' → line' ≡ is_open_line out') → (length out' ≤ before → line' ≡ line) → line' ≡ is_open_line (old ++ bytes)
+line_so old out [] out' line line' before written held known more none =
+    none (omega (arith, held, ap length (written ∙ append-nil out))) ∙ known
+    ∙ open_as_before old out [] out' written (omega (arith, ap length (written ∙ append-nil out)))
+line_so old out (b ∷ bytes) out' line line' before written held known more none =
+    more (omega (arith, held, ap length written ∙ length-append out (b ∷ bytes)))
+    ∙ open_as_put old out (b ∷ bytes) out' written (omega (arith, ap length written ∙ length-append out (b ∷ bytes)))
+
 pub is_step :
     (w : Walker) (state : State) (line waited : Bool) (g : Program) (c : Config) (p : ℕ) (picking picking' : Picking) (out out' : List ℕ) (x : Walked)
     → WalksBefore w g c p → (action : IsAction w.source.now g state c p (next_of g c p) picking picking' out out' (done_of x))

@@ -1,5 +1,6 @@
 //! One action of a process.
-ghost use Rattle.std.specs.Prelude.{◌≡◌, ◌<◌, ℕ, IfOk, OnErr, length};
+ghost use Rattle.std.specs.Prelude.{◌≡◌, ◌<◌, ◌≤◌, ℕ, IfOk, OnErr, length};
+ghost use Rattle.pfc_values.specs.Outputs.{is_open_line};
 ghost use Rattle.pfc_semantics.specs.Configurations.{Config};
 ghost use Rattle.pfc_semantics.specs.Programs.{Program};
 ghost use Rattle.pfc_walker.specs.Walks.{IsReadyToAct, IsStep, Walks, WalksBefore};
@@ -42,11 +43,20 @@ impl<'t> Walker<'t> {
             picker,
             out,
         )?;
-        if out.bytes().len() > before {
-            self.in_line = out.ends_inside_line();
-        }
+        self.in_line = line_behind(self.in_line, before, out);
         Ok(walked)
     }
+}
+
+/// Whether an output ends inside a line, of which so many bytes were held before an action, where it is known whether it did then.
+fn line_behind(in_line: bool, before: usize, out: &Output) -> bool
+    ensures more { before < length out.now → result ≡ is_open_line out.now }
+    ensures none { length out.now ≤ before → result ≡ in_line }
+{
+    if out.bytes().len() > before {
+        return out.ends_inside_line();
+    }
+    in_line
 }
 
 /// A walker that stands for a configuration is before an action of each of its processes.

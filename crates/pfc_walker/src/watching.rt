@@ -1,5 +1,5 @@
 //! The events of a run.
-ghost use Rattle.std.specs.Prelude.{◌≡◌, ◌+◌, ◌<◌, ℕ, IfOk, IsSome};
+ghost use Rattle.std.specs.Prelude.{◌≡◌, ◌≢◌, ◌+◌, ◌<◌, ℕ, None, IfOk, IsSome};
 ghost use Rattle.pfc_sched.specs.Picks.{Picking};
 ghost use Rattle.pfc_semantics.specs.Programs.{Program};
 ghost use Rattle.pfc_semantics.specs.Configurations.{Config};
@@ -80,8 +80,17 @@ fn next_event<'t>(
 {
     match next_actor(alloc, state, picker, left, left) {
         Ok(p) => event_of(alloc, source, state, p, waited, picker),
-        Err(Ending::Memory) => Err(Memory),
-        Err(_ending) => Ok(None),
+        Err(ending) => no_event(&ending),
+    }
+}
+
+/// No event, at an ending; want of memory is none.
+fn no_event(ending: &Ending) -> Result<Option<Event>, Memory>
+    ensures { IfOk result (λ event. (event ≡ None) × (ending.now ≢ Ending.Memory)) }
+{
+    match ending {
+        Ending::Memory => Err(Memory),
+        _ => Ok(None),
     }
 }
 

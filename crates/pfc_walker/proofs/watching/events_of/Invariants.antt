@@ -7,12 +7,12 @@ use Rattle.pfc_walker.specs.Watching.{Watched, events_from}
 use Rattle.pfc_walker.proofs.watching.events_of.Given as goal
 
 -- some program runs, and of each such the events so far are the first ones
-abbrev pub invariant-loop-event : goal.invariant-loop-event
-invariant-loop-event l = record {
+abbrev pub invariant-loop-events : goal.invariant-loop-events
+invariant-loop-events l = record {
   some : (p : Program) × (c : Config) × IsProgram l.source p × Stands l.source l.state c;
   all : (p : Program) (c : Config) → IsProgram l.source p → Stands l.source l.fn.state c
       → Watched l.source p l.left l.picker l.waited l.state l.events.items (events_from p l.limit l.fn.picker l.fn.waited c);
 }
 
-abbrev pub decreases-loop-event : goal.decreases-loop-event
-decreases-loop-event l = l.left
+abbrev pub decreases-loop-events : goal.decreases-loop-events
+decreases-loop-events l = l.left

@@ -1,5 +1,5 @@
 -- What the meaning of the whole language is, opened once for each use.
-use Rattle.std.proofs.Common.{◌≡◌, Bool, ℕ, false, List, refl, sym, ap, ◌∙◌}
+use Rattle.std.proofs.Common.{◌≡◌, Bool, ℕ, false, List, length, refl, sym, ap, ◌∙◌}
 use Rattle.pfc_code.specs.Images.{PlainImage}
 use Rattle.pfc_code.specs.declared.images.ProcessInfo.{ProcessInfo}
 use Rattle.pfc_report.specs.Reports.{report_text}
@@ -13,6 +13,8 @@ use Rattle.pfc_semantics.specs.Runs.{run_from, standings}
 use Rattle.pfc_values.specs.Outputs.{is_open_line}
 use Rattle.pfc_walker.specs.declared.telling.Told.TheVariants.{Output}
 use Rattle.pfc_walker.specs.declared.walker.Walker.{Walker}
+use Rattle.pfc_translation.specs.Images.{image_of}
+use Rattle.pfc_outcome.specs.Outcomes.{instruction_count}
 use Rattle.pfc_outcome.specs.Requests.{Settings}
 use Rattle.pfc_walk.specs.Meanings.{run_of, told_of, whole_meaning}
 use Rattle.pfc_walk.specs.Running.{IsEnded, labelled_image, processes_by, report_by}
@@ -20,6 +22,11 @@ use Rattle.pfc_walk.specs.Running.{IsEnded, labelled_image, processes_by, report
 pub built : (t : ProgramTree) → whole_meaning.is_unbuilt t ≡ false
 unfolding whole_meaning
 built t = refl
+
+-- how many instructions a program has, by its image
+pub counts : (t : ProgramTree) → instruction_count whole_meaning t ≡ length (image_of t).code
+unfolding whole_meaning
+counts t = refl
 
 pub meant : (t : ProgramTree) (s : Settings) → whole_meaning.run t s ≡ told_of (run_of t s)
 unfolding whole_meaning

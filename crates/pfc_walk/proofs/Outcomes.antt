@@ -5,7 +5,7 @@ use Rattle.std.proofs.KnownBytes.{Appends-nil, Appends-trans}
 use Rattle.std.specs.Prelude.{IsErrOf}
 use Rattle.std.specs.Result.{IsErrAnd}
 use Rattle.pfc_io.specs.Writes.{AppendsFront}
-use Rattle.pfc_io.proofs.Written.{AppendsFront-after, AppendsFront-append, AppendsFront-none}
+use Rattle.pfc_io.proofs.Written.{AppendsFront-after, AppendsFront-none}
 use Rattle.pfc_io.specs.Files.{File}
 use Rattle.pfc_outcome.specs.Outcomes.{Outcome, IsOutcomeOf, IsOutcomeOfFiles, IsOutcomeOfText, behind, names_by, request_by, text_by, without_run, listing_written}
 use Rattle.pfc_outcome.specs.Loaded.{AreLoaded}
@@ -18,7 +18,6 @@ use Rattle.pfc_outcome.specs.declared.walk_options.Shown.{Shown}
 use Rattle.pfc_walk.specs.Traces.{IsToldOf, IsToldOfText, listing_by}
 use Rattle.pfc_walk.proofs.Traced.{told_once, told_through, told_without}
 use Rattle.pfc_walk.specs.Meanings.{whole_meaning}
-use Rattle.pfc_walk.specs.Reading.{IsFitting}
 use Rattle.pfc_walk.specs.declared.replies.Stop.{Stop}
 use Rattle.pfc_walk.specs.declared.replies.Stop.TheVariants.{WriteFailed, Memory}
 
@@ -111,10 +110,6 @@ module _ (files : List File) (asked : Asked) (loaded : Loaded) (are : AreLoaded 
 
   request_is : request_by files asked ≡ loaded_request
   request_is = ap₂ (λ (x y : List ℕ). request_of asked x y) are.input are.script
-
-  -- it is as small as the text that is asked for
-  pub fits_loaded : IsFitting (text_by files asked.source) → IsFitting loaded.text
-  fits_loaded fits = subst (λ (text : List ℕ). IsFitting text) are.text fits
 
   files_up : (outcome : Outcome) → IsOutcomeOfText whole_meaning loaded.text loaded_request outcome → IsOutcomeOf whole_meaning asked files outcome
   files_up outcome is =

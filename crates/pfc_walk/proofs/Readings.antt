@@ -1,5 +1,5 @@
 -- Checked trees, and refusals, up to their text.
-use Rattle.std.proofs.Common.{◌≡◌, ℕ, false, List, [], ◌++◌, Some, None, Result, Ok, Err, IfOk, IfErr, refl, subst, sym, ap, ◌∙◌}
+use Rattle.std.proofs.Common.{◌≡◌, ◌<◌, ◌≤◌, ℕ, length, false, List, [], Some, None, Result, Ok, Err, IfOk, IfErr, refl, subst, sym, ap, ◌∙◌}
 use Rattle.std.specs.Prelude.{if◌then◌else◌}
 use Rattle.pfc_base.specs.declared.places.Place.{Place}
 use Rattle.pfc_base.specs.declared.faults.Refusal.{Refusal}
@@ -15,12 +15,13 @@ use Rattle.pfc_grammar.specs.Outcomes.{IsTreeOf}
 use Rattle.pfc_types.specs.Types.{Forms}
 use Rattle.pfc_types.specs.Blocks.{Blocks}
 use Rattle.pfc_types.specs.rules.Whole.{first_fault}
+use Rattle.pfc_translation.specs.Images.{image_of}
 use Rattle.pfc_outcome.specs.Meanings.{Meaning}
-use Rattle.pfc_outcome.specs.Outcomes.{Outcome, IsLevel, IsOutcomeOfText, IsOutcomeOfTokens, IsOutcomeOfTree, IsUnlisted, behind, code_written, listing_written, no_fault, refused, run, run_under, static_fault, syntax_fault, syntax_refusal}
+use Rattle.pfc_outcome.specs.Outcomes.{Outcome, IsLevel, IsOutcomeOfText, IsOutcomeOfTokens, IsOutcomeOfTree, IsUnlisted, behind, code_written, listing_written, large, most_instructions, no_fault, refused, run, run_under, static_fault, syntax_fault, syntax_refusal, too_large}
 use Rattle.pfc_outcome.specs.Requests.{Request, policy_of}
 use Rattle.pfc_walk.specs.Meanings.{whole_meaning}
-use Rattle.pfc_walk.specs.Reading.{IsSound, AreRead, IsRead, IsFitting, RefusedFor, IsUnread, AreUnread, IsWithout, program_outcome}
-use Rattle.pfc_walk.proofs.Meant.{built}
+use Rattle.pfc_walk.specs.Reading.{IsSound, AreRead, IsRead, RefusedFor, IsUnread, AreUnread, IsWithout, program_outcome}
+use Rattle.pfc_walk.proofs.Meant.{built, counts}
 use Rattle.pfc_walk.specs.declared.reading.Unread.{Unread}
 use Rattle.pfc_walk.specs.declared.reading.Unread.TheVariants.{Refused, Memory}
 
@@ -63,6 +64,15 @@ text_refusal text ts us end why cut same h =
     (λ request outcome is.
     record { cutting = tokens ts end; cut = cut; is = subst (λ (x : List Token). IsOutcomeOfTokens whole_meaning x end request outcome) same is }) why h
 
+-- a program that is not too large, and one that is
+pub fitting_program : (tree : ProgramTree) (n : ℕ) → first_fault tree ≡ None → n ≡ length (image_of tree).code → n ≤ 200000 → IsSound tree
+fitting_program tree n whole counted few =
+    record { whole = whole; few = subst (λ (k : ℕ). k ≤ most_instructions) (counted ∙ sym (counts tree)) few }
+
+pub large_refusal : (tree : ProgramTree) → first_fault tree ≡ None → 200000 < length (image_of tree).code → IsWithout tree (Refused too_large)
+large_refusal tree whole more = λ request.
+    large whole (built tree) (subst (λ (k : ℕ). most_instructions < k) (sym (counts tree)) more) refl
+
 -- the first broken rule refuses a tree
 pub static_refusal : (tree : ProgramTree) (r : Refusal) → first_fault tree ≡ Some r → IsWithout tree (Refused r)
 static_refusal tree r broken = λ request. static_fault r broken refl
@@ -90,9 +100,9 @@ without_code m tree request outcome none = ap (λ b. behind (if b then code_text
 
 -- a program that is run
 pub program_outcome_is :
-    (text : List ℕ) (tree : ProgramTree) (is : IsRead text tree) (request : Request) → IsFitting text → request.code ≡ false
+    (text : List ℕ) (tree : ProgramTree) (is : IsRead text tree) (request : Request) → request.code ≡ false
     → IsOutcomeOfText whole_meaning text request (program_outcome (listing_written request text) tree request)
-program_outcome_is text tree is request fits none =
+program_outcome_is text tree is request none =
     let ran : Outcome = run_under whole_meaning tree request (policy_of request) in
     record {
       unlisted = behind (code_written whole_meaning tree request) ran;
@@ -100,7 +110,7 @@ program_outcome_is text tree is request fits none =
           record {
             cutting = tokens is.ts is.end;
             cut = is.cut;
-            is = no_fault tree is.read.written is.read.level (run is.read.sound (built tree) (fits tree is) refl);
+            is = no_fault tree is.read.written is.read.level (run is.read.sound.whole (built tree) is.read.sound.few refl);
           };
       listed = ap (behind (listing_written request text)) (sym (without_code whole_meaning tree request ran none));
     }

@@ -8,7 +8,7 @@ use Rattle.pfc_sched.specs.declared.script_text.ScriptFault.TheVariants.{NotANum
 use Rattle.pfc_tree.specs.trees.Parts.{ProgramTree}
 use Rattle.pfc_grammar.specs.Outcomes.{IsTreeOf}
 use Rattle.pfc_types.specs.rules.Whole.{first_fault}
-use Rattle.pfc_outcome.specs.Outcomes.{Outcome, IsLevel, IsOutcomeOfTokens, IsOutcomeOfTree, IsUnlisted, behind, code_written, instruction_count, most_instructions, refused, run_under}
+use Rattle.pfc_outcome.specs.Outcomes.{Outcome, IsLevel, IsOutcomeOfTokens, IsOutcomeOfTree, IsUnlisted, behind, instruction_count, most_instructions, refused, run_under}
 use Rattle.pfc_outcome.specs.Requests.{Request, policy_of}
 use Rattle.pfc_walk.specs.Meanings.{whole_meaning}
 use Rattle.pfc_walk.specs.declared.reading.Unread.{Unread}
@@ -16,8 +16,10 @@ use Rattle.pfc_walk.specs.declared.reading.Unread.TheVariants.{Refused, Memory}
 
 -- ## A checked tree
 
-abbrev pub IsSound : ProgramTree → Type 0
-IsSound tree = first_fault tree ≡ None
+-- a program that is run: no rule is broken in it, and it is not too large
+pub record IsSound (tree : ProgramTree) : Type 0 where
+  pub whole : first_fault tree ≡ None
+  pub few : instruction_count whole_meaning tree ≤ most_instructions
 
 -- the tree that tokens write
 pub record AreRead (ts : List Token) (tree : ProgramTree) : Type 0 where
@@ -31,10 +33,6 @@ pub record IsRead (text : List ℕ) (tree : ProgramTree) : Type 0 where
   pub end : Place
   pub cut : IsCut text (tokens ts end)
   pub read : AreRead ts tree
-
--- a text without a fault is a program of at most 200,000 instructions
-abbrev pub IsFitting : List ℕ → Type 0
-IsFitting text = (tree : ProgramTree) → IsRead text tree → instruction_count whole_meaning tree ≤ most_instructions
 
 -- the outcome of a text with this tree and this listing: its run, or a script that is no list of numbers
 abbrev pub program_outcome : List ℕ → ProgramTree → Request → Outcome

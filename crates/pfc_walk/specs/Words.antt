@@ -3,10 +3,9 @@ use Rattle.std.specs.Prelude.{◌≡◌, ℕ, List, Option, Some, None, codes}
 use Rattle.pfc_io.specs.Files.{File}
 use Rattle.pfc_outcome.specs.Meanings.{Meaning}
 use Rattle.pfc_outcome.specs.Options.{Asked}
-use Rattle.pfc_outcome.specs.Outcomes.{Outcome, text_by, without_run}
+use Rattle.pfc_outcome.specs.Outcomes.{Outcome, without_run}
 use Rattle.pfc_outcome.specs.WalkOptions.{shown_of, walk_options_of}
 use Rattle.pfc_outcome.specs.declared.walk_options.Shown.{Shown}
-use Rattle.pfc_walk.specs.Reading.{IsFitting}
 use Rattle.pfc_walk.specs.Traces.{IsToldOf}
 
 -- the line for refused words
@@ -22,11 +21,3 @@ IsWalkOutcomeBy shown m (Some asked) files outcome = IsToldOf shown m asked file
 -- report.
 abbrev pub IsWalkOutcome : Meaning → List (List ℕ) → List File → Outcome → Type 0
 IsWalkOutcome m words files outcome = IsWalkOutcomeBy (shown_of words) m (walk_options_of words) files outcome
-
-abbrev pub FitsBy : Option Asked → List File → Type 0
-FitsBy None files = Unit {0}
-FitsBy (Some asked) files = IsFitting (text_by files asked.source)
-
--- the text that is asked for is no program of more than 200,000 instructions
-abbrev pub AsksFitting : List (List ℕ) → List File → Type 0
-AsksFitting words files = FitsBy (walk_options_of words) files

@@ -12,7 +12,7 @@ ghost use Rattle.pfc_outcome.specs.Requests.{policy_of, settings_of};
 ghost use Rattle.pfc_outcome.specs.WalkOptions.{most_watched};
 ghost use Rattle.pfc_sched.specs.declared.picking.Policy.{Policy as Picks};
 ghost use Rattle.pfc_walk.specs.Answers.{IsAnswerToText, IsWritten, Replies};
-ghost use Rattle.pfc_walk.specs.Reading.{IsFitting, IsNoPolicy};
+ghost use Rattle.pfc_walk.specs.Reading.{IsNoPolicy};
 ghost use Rattle.pfc_walk.specs.Traces.{IsToldOfText, program_shown, races_by, races_shown, run_shown, told_in};
 ghost use Rattle.pfc_walk.specs.Meanings.{whole_meaning};
 
@@ -37,8 +37,7 @@ const REFUSED: u8 = 1;
 /// The status of a script that is no list of numbers.
 const SCRIPT_REFUSED: u8 = 10;
 
-/// Answers a text of at most 262,144 bytes: runs its program, or writes the line of its refusal. Of a text whose program has more
-/// than 200,000 instructions nothing is promised: it is run. No code text may be asked for.
+/// Answers a text of at most 262,144 bytes: runs its program, or writes the line of its refusal. No code text may be asked for.
 pub(crate) fn answer<O: Sink>(
     alloc: Global,
     options: &Options<'_>,
@@ -49,7 +48,7 @@ pub(crate) fn answer<O: Sink>(
     requires short { length loaded.now.text ≤ 262144 }
     requires codeless { options.now.code ≡ false }
     requires few { shown ≡ Shown.Races → options.now.limit ≤ most_watched }
-    ensures replies { IsFitting loaded.now.text → Replies (IsToldOfText shown whole_meaning loaded.now.text (asks options.now loaded.now)) result (O.written sink.old) (O.written sink.new) }
+    ensures replies { Replies (IsToldOfText shown whole_meaning loaded.now.text (asks options.now loaded.now)) result (O.written sink.old) (O.written sink.new) }
     ensures sound { IfOk result (λ status. IsAnswerToText status) }
     ensures cut { IsErrOf result Stop.WriteFailed → Rose (O.faults sink.old) (O.faults sink.new) }
 {

@@ -1,13 +1,15 @@
-//! From a text to its checked tree, or to its first fault.
-ghost use Rattle.std.specs.Prelude.{◌≡◌, ◌≤◌, length, IfOk, IfErr};
+//! From a text to its checked tree, or to its first fault. That a program is too large is a fault too.
+ghost use Rattle.std.specs.Prelude.{◌≡◌, ◌≤◌, None, length, IfOk, IfErr};
 ghost use Rattle.pfc_tree.specs.Grammar.{IsSmall};
 ghost use Rattle.pfc_tree.specs.Readings.{tree_shape};
 ghost use Rattle.pfc_tree.specs.views.Parts.{tree_view};
+ghost use Rattle.pfc_types.specs.rules.Whole.{first_fault};
 ghost use Rattle.pfc_outcome.specs.Outcomes.{place_at as place_of_token};
 ghost use Rattle.pfc_walk.specs.Reading.{IsRead, IsUnread, AreRead, AreUnread, IsSound, IsWithout};
 
 use pfc_base::{Place, Refusal, Token};
 use pfc_check::{CheckFault, check};
+use pfc_code_size::{CountFault, count_instructions};
 use pfc_parse::{SyntaxFault, parse};
 use pfc_scan::{ScanFault, scan};
 use pfc_tree::Tree;
@@ -19,6 +21,9 @@ const UNEXPECTED: u16 = 201;
 
 /// The code of a token that stands too deep.
 const TOO_DEEP: u16 = 202;
+
+/// The code of a program with too many instructions.
+const TOO_LARGE: u16 = 501;
 
 /// A text without a fault.
 #[derive(Drop)]
@@ -88,7 +93,10 @@ fn read_tree(alloc: Global, tree: Tree) -> Result<Checked, Unread>
     ensures none { IfErr result (λ why. IsWithout (tree_view tree) why) }
 {
     match check(alloc, tree) {
-        Ok(checked) => Ok(checked),
+        Ok(checked) => match fitting(alloc, &checked) {
+            Ok(()) => Ok(checked),
+            Err(why) => Err(why),
+        },
         Err(
             CheckFault::Refused {
                 refusal,
@@ -96,5 +104,21 @@ fn read_tree(alloc: Global, tree: Tree) -> Result<Checked, Unread>
             },
         ) => Err(Unread::Refused(refusal)),
         Err(CheckFault::Memory { tree: _tree }) => Err(Unread::Memory),
+    }
+}
+
+/// Nothing, where the program of a checked tree is not too large.
+fn fitting(alloc: Global, checked: &Checked) -> Result<(), Unread>
+    requires { first_fault (tree_view checked.now.0) ≡ None }
+    ensures sound { IfOk result (λ done. IsSound (tree_view checked.now.0)) }
+    ensures none { IfErr result (λ why. IsWithout (tree_view checked.now.0) why) }
+{
+    match count_instructions(alloc, checked) {
+        Ok(_) => Ok(()),
+        Err(CountFault::TooLarge) => Err(Unread::Refused(Refusal {
+            code: TOO_LARGE,
+            place: Place { line: 1, column: 1 },
+        })),
+        Err(CountFault::Memory) => Err(Unread::Memory),
     }
 }

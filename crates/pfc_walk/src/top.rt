@@ -5,13 +5,12 @@ ghost use Rattle.pfc_io.specs.Counts.{Rose};
 ghost use Rattle.pfc_io.specs.Files.{File};
 ghost use Rattle.pfc_outcome.specs.Asked.{asked_of, texts_of};
 ghost use Rattle.pfc_outcome.specs.Loading.{Lacks, long, missing};
-ghost use Rattle.pfc_outcome.specs.Outcomes.{names_by, text_by, without_run};
+ghost use Rattle.pfc_outcome.specs.Outcomes.{names_by, without_run};
 ghost use Rattle.pfc_outcome.specs.WalkOptions.{most_watched, walk_options_of};
 ghost use Rattle.pfc_walk.specs.Answers.{GivesFront, GivesFrontOfAll, GivesOne, IsAskedLacking, IsStatus, IsWritten};
 ghost use Rattle.pfc_walk.specs.Meanings.{whole_meaning};
-ghost use Rattle.pfc_walk.specs.Reading.{IsFitting};
 ghost use Rattle.pfc_walk.specs.Traces.{IsToldOf};
-ghost use Rattle.pfc_walk.specs.Words.{AsksFitting, IsWalkOutcome, refused_text};
+ghost use Rattle.pfc_walk.specs.Words.{IsWalkOutcome, refused_text};
 
 use crate::answering::answer;
 use crate::replies::{Stop, ended, stopped};
@@ -42,19 +41,16 @@ const REFUSED_LINE: &[u8] = b"-- words refused\n";
 ///
 /// * 0 where the run finished, 3 where it met a fault, 4 where nobody could go on, and 5 at its limit of actions;
 /// * 10 where the script is no list of numbers, or its next number names no ready process while some process is ready;
-/// * 1 where the text is refused, and 2 where the words are;
+/// * 1 where the text is refused, at its first fault or as a program of more than 200,000 instructions, and 2 where the words are;
 /// * 6 where the shelf does not give a file, and 9 where one is longer; then nothing is written;
 /// * 7 where the sink takes no more, and 8 where memory is wanting.
-///
-/// The outcome that is promised counts the instructions of the program's image, since a program of more than 200,000 is refused. Here
-/// no code is made, so where the text is such a program nothing is promised yet of what is written, nor of the status: it is run.
 pub fn walk<F: Shelf, O: Sink>(alloc: Global, words: &[String], shelf: &mut F, sink: &mut O) -> u8
     // The headline: where the shelf tells its files, no call on shelf or sink failed and memory was not refused.
-    ensures headline { (files : List File) → F.told shelf.old ≡ Some files → AsksFitting (texts_of words.now) files
+    ensures headline { (files : List File) → F.told shelf.old ≡ Some files
         → ¬ Rose (F.faults shelf.old) (F.faults shelf.new) → ¬ Rose (O.faults sink.old) (O.faults sink.new) → result ≢ 8
         → GivesOne (IsWalkOutcome whole_meaning (texts_of words.now) files) result (O.written sink.old) (O.written sink.new) }
     // The same by the status: what is answered, unless a call failed or memory was refused.
-    ensures outcome { (files : List File) → F.told shelf.old ≡ Some files → AsksFitting (texts_of words.now) files → result ≢ 6 → result ≢ 7 → result ≢ 8
+    ensures outcome { (files : List File) → F.told shelf.old ≡ Some files → result ≢ 6 → result ≢ 7 → result ≢ 8
         → GivesOne (IsWalkOutcome whole_meaning (texts_of words.now) files) result (O.written sink.old) (O.written sink.new) }
     ensures sound { IsStatus result }
 
@@ -74,9 +70,9 @@ pub fn walk<F: Shelf, O: Sink>(alloc: Global, words: &[String], shelf: &mut F, s
 
     // The sink: status 7 by its count, with a front of the outcome's bytes written, as with status 8.
     ensures write_failed { result ≡ 7 → Rose (O.faults sink.old) (O.faults sink.new) }
-    ensures cut { (files : List File) → F.told shelf.old ≡ Some files → AsksFitting (texts_of words.now) files → result ≡ 7
+    ensures cut { (files : List File) → F.told shelf.old ≡ Some files → result ≡ 7
         → GivesFront (IsWalkOutcome whole_meaning (texts_of words.now) files) (O.written sink.old) (O.written sink.new) }
-    ensures no_memory { (files : List File) → F.told shelf.old ≡ Some files → AsksFitting (texts_of words.now) files → result ≡ 8
+    ensures no_memory { (files : List File) → F.told shelf.old ≡ Some files → result ≡ 8
         → GivesFrontOfAll (IsWalkOutcome whole_meaning (texts_of words.now) files) (O.written sink.old) (O.written sink.new) }
 {
     match read_walk_words(alloc, words) {
@@ -106,7 +102,7 @@ fn answer_options<F: Shelf, O: Sink>(
 ) -> u8
     requires codeless { options.now.code ≡ false }
     requires few { shown ≡ Shown.Races → options.now.limit ≤ most_watched }
-    ensures outcome { (files : List File) → F.told shelf.old ≡ Some files → IsFitting (text_by files (asked_of options.now).source) → result ≢ 6 → result ≢ 7 → result ≢ 8
+    ensures outcome { (files : List File) → F.told shelf.old ≡ Some files → result ≢ 6 → result ≢ 7 → result ≢ 8
         → GivesOne (IsToldOf shown whole_meaning (asked_of options.now) files) result (O.written sink.old) (O.written sink.new) }
     ensures sound { IsStatus result }
     ensures other { result ≢ 2 }
@@ -119,9 +115,9 @@ fn answer_options<F: Shelf, O: Sink>(
     ensures kept { F.told shelf.new ≡ F.told shelf.old }
     ensures unwritten { (result ≡ 6) ⊎ (result ≡ 9) → Appends (O.written sink.old) (O.written sink.new) [] }
     ensures write_failed { result ≡ 7 → Rose (O.faults sink.old) (O.faults sink.new) }
-    ensures cut { (files : List File) → F.told shelf.old ≡ Some files → IsFitting (text_by files (asked_of options.now).source) → result ≡ 7
+    ensures cut { (files : List File) → F.told shelf.old ≡ Some files → result ≡ 7
         → GivesFront (IsToldOf shown whole_meaning (asked_of options.now) files) (O.written sink.old) (O.written sink.new) }
-    ensures no_memory { (files : List File) → F.told shelf.old ≡ Some files → IsFitting (text_by files (asked_of options.now).source) → result ≡ 8
+    ensures no_memory { (files : List File) → F.told shelf.old ≡ Some files → result ≡ 8
         → GivesFrontOfAll (IsToldOf shown whole_meaning (asked_of options.now) files) (O.written sink.old) (O.written sink.new) }
 {
     match load_asked(alloc, options, shelf) {

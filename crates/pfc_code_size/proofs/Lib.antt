@@ -1,0 +1,7 @@
+pub mod CallLengths
+pub mod Lengths
+pub mod Lone
+pub mod Nodes
+pub mod ProgramLengths
+pub mod StatementLengths
+pub mod Values

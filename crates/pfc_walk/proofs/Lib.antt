@@ -1,6 +1,6 @@
 pub mod Courses
 pub mod Meant
 pub mod Outcomes
-pub mod Racing
+pub mod RunRaces
 pub mod Readings
 pub mod Traced

@@ -8,7 +8,7 @@ use Rattle.pfc_outcome.specs.Loaded.{asks}
 use Rattle.pfc_outcome.specs.Requests.{policy_of, settings_of}
 use Rattle.pfc_walk.specs.Traces.{races_by}
 use Rattle.pfc_walk.proofs.Outcomes.{err_always}
-use Rattle.pfc_walk.proofs.Racing.{one_policy}
+use Rattle.pfc_walk.proofs.RunRaces.{one_policy}
 use Rattle.pfc_walk.proofs.answering.say_races.Goals as goal
 
 pub returns-in_default-clause-front : goal.returns-in_default-clause-front

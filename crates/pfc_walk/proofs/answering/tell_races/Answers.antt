@@ -7,7 +7,7 @@ use Rattle.pfc_outcome.specs.Loaded.{asks}
 use Rattle.pfc_outcome.specs.Requests.{settings_of}
 use Rattle.pfc_outcome.specs.declared.walk_options.Shown.{Shown}
 use Rattle.pfc_walk.specs.Traces.{races_shown}
-use Rattle.pfc_walk.proofs.Racing.{none_shown}
+use Rattle.pfc_walk.proofs.RunRaces.{none_shown}
 use Rattle.pfc_walk.proofs.answering.tell_races.Goals as goal
 
 pub returns-in-Races-clause-whole : goal.returns-in-Races-clause-whole

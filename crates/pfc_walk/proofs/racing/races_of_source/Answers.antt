@@ -8,7 +8,7 @@ use Rattle.pfc_races.specs.Ordered.{lines_of_races}
 use Rattle.pfc_walker.specs.Walks.{Walks}
 use Rattle.pfc_outcome.specs.Loaded.{asks}
 use Rattle.pfc_outcome.specs.Requests.{settings_of}
-use Rattle.pfc_walk.proofs.Racing.{few_events, lines_are}
+use Rattle.pfc_walk.proofs.RunRaces.{few_events, lines_are}
 use Rattle.pfc_walk.proofs.racing.races_of_source.Goals as goal
 
 pub events-requires : goal.events-requires

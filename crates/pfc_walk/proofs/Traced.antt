@@ -77,7 +77,7 @@ pub told_stopped :
     (shown : Shown) (listing : List ℕ) (tree : ProgramTree) (request : Request) (item : ℕ) (line : List ℕ)
     → line ≡ (stopped_at whole_meaning tree item).bytes → policy_of request ≡ Err item
     → behind listing (without_run 10 line) ≡ program_shown shown listing tree request
-told_stopped told listing tree request item line is none =
+told_stopped shown listing tree request item line is none =
     let stops : under_shown shown tree request (policy_of request) ≡ stopped_at whole_meaning tree item = ap (under_shown shown tree request) none in
     let written : without_run 10 line ≡ stopped_at whole_meaning tree item = ap (without_run 10) is in
     ap (behind listing) (written ∙ sym stops)

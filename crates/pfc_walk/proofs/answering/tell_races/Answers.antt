@@ -24,8 +24,8 @@ returns-in-Races-clause-front g c = λ policy given.
     (λ stop. AppendsFront (g.O.Sink.written c.args.sink.now) (g.O.Sink.written c.say_races.new.sink) (races_shown s (tree_view c.args.sound.now.checked.0) (settings_of (asks c.args.options.now c.args.loaded.now) policy))))
     (sym c.in-Races.is) (c.say_races.ensures.front policy given)
 
-pub returns-in_default-clause-whole : goal.returns-in_default-clause-whole
-returns-in_default-clause-whole g c = λ policy given.
+pub returns-clause-whole : goal.returns-clause-whole
+returns-clause-whole g c = λ policy given.
     subst (λ (bytes : List ℕ). Appends (g.O.Sink.written c.args.sink.now) (g.O.Sink.written c.args.sink.now) bytes)
     (sym (none_shown c.args.shown (tree_view c.args.sound.now.checked.0) (settings_of (asks c.args.options.now c.args.loaded.now) policy) c.in_default.not-Races))
     (Appends-nil (g.O.Sink.written c.args.sink.now))

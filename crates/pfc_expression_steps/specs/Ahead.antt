@@ -36,6 +36,15 @@ is_of_select (goal.OfferFrom d c) = true
 is_of_select (goal.OfferInto channel c) = true
 is_of_select g = false
 
+-- what waits for a variable most often: an expression, an assignment, a reference parameter, a wait or a signal
+abbrev pub is_frequent : Goal → Bool
+is_frequent goal.Read = true
+is_frequent (goal.AssignTo e) = true
+is_frequent (goal.Pass p) = true
+is_frequent goal.WaitAt = true
+is_frequent goal.SignalAt = true
+is_frequent g = false
+
 -- the variable is given back for a select
 abbrev pub is_for_select : Reached → Bool
 is_for_select (reached.Back reason.Select spot goal) = true
@@ -70,6 +79,18 @@ is_of_expression (pending.DelayWith at) = true
 is_of_expression pending.SleepFor = true
 is_of_expression (pending.SendOn channel) = true
 is_of_expression p = false
+
+-- one that waits in a call of a predeclared function or procedure, or in a message that is sent
+abbrev pub is_of_call : Pending → Bool
+is_of_call (pending.Apply f t) = true
+is_of_call (pending.Show t) = true
+is_of_call (pending.ShowWide t width) = true
+is_of_call (pending.Pad piece) = true
+is_of_call (pending.SetCount at) = true
+is_of_call (pending.DelayWith at) = true
+is_of_call pending.SleepFor = true
+is_of_call (pending.SendOn channel) = true
+is_of_call p = false
 
 -- it has room for what meets it
 abbrev pub HasRoomFor : Pending → Type 0

@@ -1,11 +1,12 @@
 //! Factors: literals, names and calls.
-ghost use Rattle.std.specs.Prelude.{◌≡◌, ℕ};
+ghost use Rattle.std.specs.Prelude.{◌≡◌, ℕ, []};
 ghost use Rattle.pfc_tree.specs.views.Exprs.{desig_view, selectors_view, actuals_view};
 ghost use Rattle.pfc_tree.specs.trees.Exprs as trees;
 ghost use Rattle.pfc_program.specs.declared.tables.Tables.{Tables};
-ghost use Rattle.pfc_semantics.specs.Remainders.{Context, apply};
+ghost use Rattle.pfc_semantics.specs.Remainders.{Context, apply, read_for, reads, to_function};
 ghost use Rattle.pfc_semantics.specs.Alternatives.{context};
-ghost use Rattle.pfc_semantics.specs.Expressions.{from_factor, from_argument};
+ghost use Rattle.pfc_semantics.specs.Expressions.{from_args, from_factor, from_argument, from_selectors};
+ghost use Rattle.pfc_types.specs.Blocks.{sub_at};
 ghost use Rattle.pfc_semantics.specs.Rewriting.{from_value};
 ghost use Rattle.pfc_facts.specs.Views.{function_view};
 ghost use Rattle.pfc_phrases.specs.Views.{env_view};
@@ -69,19 +70,38 @@ fn meant<'t>(
 {
     match meaning {
         Some(Meaning::Constant { t: _, value }) => Step::On(At::Value(Value::of(value as i64))),
-        Some(Meaning::Variable { t: _, reference: _ }) => Step::On(selected(spot, ss, Goal::Read)),
-        Some(Meaning::Sub(n)) => {
-            let scopes = site.scopes();
-            let callee = Callee::Function(scopes.sub_scope(n));
-            passing(scopes.sub_formals(n), args, callee, site.alloc)
-        }
+        Some(Meaning::Variable { t: _, reference: _ }) => value_of(spot, ss),
+        Some(Meaning::Sub(n)) => call(n, args, site),
         Some(Meaning::Predeclared(k)) => function(function_of(k), args, site),
         _ => Step::On(At::Value(Value::of(0))),
     }
 }
 
+/// The value of a variable, or of the part of it that selectors lead to.
+#[tactic(auto, using(crate::proofs::Rules::names))]
+fn value_of<'t>(spot: TypedSpot, ss: &'t [Selector]) -> Step<'t>
+    ensures { (t : Tables) (c : Context) (w : Waiting) → step_ahead t c w result ≡ from_selectors c (typed_spot_view spot) (selectors_view ss.now) (read_for (awaits_of w)) (λ last. reads c last.spot (awaits_of w)) }
+{
+    match ss {
+        [] => Step::On(At::Deed(Deed::Reads(spot.spot))),
+        _ => Step::On(selected(spot, ss, Goal::Read)),
+    }
+}
+
+/// A function of the program with its arguments.
+#[inline(never)]
+fn call<'t>(n: u32, args: &'t Vec<Actual>, site: Site<'t, '_>) -> Step<'t>
+    ensures { (t : Tables) (line : ℕ) (w : Waiting) → let c = context (env_view site.entry.env) line in let head = sub_at (env_view site.entry.env).state.blocks n in
+        step_ahead t c w result ≡ from_args c head.formals (actuals_view args.now.items) [] (to_function head.scope (awaits_of w)) }
+{
+    let scopes = site.scopes();
+    let callee = Callee::Function(scopes.sub_scope(n));
+    passing(scopes.sub_formals(n), args, callee, site.alloc)
+}
+
 /// A predeclared function with its arguments.
 #[tactic(auto, using(crate::proofs::Rules::functions))]
+#[inline(never)]
 fn function<'t>(f: Function, args: &'t [Actual], site: Site<'t, '_>) -> Step<'t>
     ensures { (t : Tables) (line : ℕ) (w : Waiting) → let c = context (env_view site.entry.env) line in
         step_ahead t c w result ≡ from_predeclared c (function_view f) (actuals_view args.now) (awaits_of w) }

@@ -14,9 +14,10 @@ ghost use Rattle.pfc_store.specs.Views.{typed_spot_view, value_view, HasRoom};
 ghost use Rattle.pfc_pending.specs.Ahead.{step_ahead};
 ghost use Rattle.pfc_pending.specs.Pieces.{piece_bytes};
 ghost use Rattle.pfc_pending.specs.Waiting.{Waiting, awaits_of, remainder_of, goal_over, over};
-ghost use Rattle.pfc_expression_steps.specs.Ahead.{is_of_expression as belongs, HasRoomFor};
+ghost use Rattle.pfc_expression_steps.specs.Ahead.{is_of_call, is_of_expression as belongs, HasRoomFor};
 
 use crate::elements::element;
+use crate::expressions::{multipliers, summands};
 use crate::operators::{added, applied, compared, multiplied, signed};
 use crate::passing::{give, reserve_argument};
 use pfc_base::{Memory, Place, RunFault};
@@ -29,6 +30,7 @@ use pfc_types::TypeId;
 use pfc_values::inverse;
 
 /// Whether a part waits for a value in an expression or in a simple statement.
+#[inline(always)]
 pub fn is_of_expression(part: &Pending) -> bool
     ensures { result ≡ belongs part.now }
 {
@@ -74,6 +76,7 @@ pub fn is_of_expression(part: &Pending) -> bool
 
 /// Takes the memory that a part needs for the value that it waits for. Its only refusal is want of memory; the part stands for the same in
 /// any case.
+#[inline(always)]
 pub fn reserve(part: &mut Pending) -> Result<(), Memory>
     ensures same { (t : Tables) (w : Waiting) → over t w part.new ≡ over t w part.old }
     ensures kind { belongs part.new ≡ belongs part.old }
@@ -87,6 +90,7 @@ pub fn reserve(part: &mut Pending) -> Result<(), Memory>
 }
 
 /// A value meets the part that waits for it, for which memory was taken before. It takes none.
+#[inline(always)]
 pub fn arrive<'t>(part: Pending<'t>, v: Value, site: Site<'t, '_>) -> Step<'t>
     requires here { belongs part ≡ true }
     requires room { HasRoomFor part }
@@ -96,15 +100,26 @@ pub fn arrive<'t>(part: Pending<'t>, v: Value, site: Site<'t, '_>) -> Step<'t>
     match part {
         Pending::BeginSum(sign, rest) => begin_sum(sign, rest, v),
         Pending::AddTo(n, op, rest) => add_to(n, op, rest, v),
-        Pending::BeginProduct(rest) => Step::On(At::Multipliers(v, rest)),
+        Pending::BeginProduct(rest) => multipliers(v, rest),
         Pending::MultiplyBy(n, op, rest) => multiply_by(n, op, rest, v),
         Pending::CompareWith(relation, right) => compare_with(relation, right, v),
         Pending::CompareTo(n, relation) => compare_to(n, relation, v),
         Pending::Invert => invert(v),
-        Pending::Apply(f, t) => finish(f, t, v),
         Pending::IndexInto(spot, es, ss, goal) => index_into(spot, es, ss, goal, v, site),
         Pending::PassValue(p) => Step::On(give(p, Argument::Value(v))),
         Pending::StoreAt(spot) => Step::On(At::Deed(Deed::Writes(spot, v))),
+        part => arrive_in_call(part, v),
+    }
+}
+
+/// The same of what waits in a call of a predeclared function or procedure, or in a `!`.
+#[inline(never)]
+fn arrive_in_call<'t>(part: Pending<'t>, v: Value) -> Step<'t>
+    requires { is_of_call part ≡ true }
+    ensures { (t : Tables) (c : Context) (w : Waiting) → step_ahead t c w result ≡ from_value c (awaits_of (over t w part.entry)) (value_view v) }
+{
+    match part {
+        Pending::Apply(f, t) => finish(f, t, v),
         Pending::Show(t) => show(t, v),
         Pending::ShowWide(t, width) => show_wide(t, width, v),
         Pending::Pad(piece) => pad(piece, v),
@@ -112,7 +127,17 @@ pub fn arrive<'t>(part: Pending<'t>, v: Value, site: Site<'t, '_>) -> Step<'t>
         Pending::DelayWith(spot) => Step::On(At::Deed(Deed::Delays(spot, v.ordinal()))),
         Pending::SleepFor => Step::On(At::Deed(Deed::Sleeps(v.ordinal()))),
         Pending::SendOn(channel) => Step::On(At::Deed(Deed::Meets(Offer::Send(channel, v)))),
-        Pending::Ends(_)
+        Pending::BeginSum(_, _)
+        | Pending::AddTo(_, _, _)
+        | Pending::BeginProduct(_)
+        | Pending::MultiplyBy(_, _, _)
+        | Pending::CompareWith(_, _)
+        | Pending::CompareTo(_, _)
+        | Pending::Invert
+        | Pending::IndexInto(_, _, _, _)
+        | Pending::PassValue(_)
+        | Pending::StoreAt(_)
+        | Pending::Ends(_)
         | Pending::Perform(_, _)
         | Pending::InNames(_)
         | Pending::WriteOn(_, _, _)
@@ -145,6 +170,7 @@ fn number<'t>(outcome: Result<i64, RunFault>) -> Step<'t>
 
 /// The first term of a sum.
 #[tactic(auto, using(crate::proofs::Rules::values))]
+#[inline(always)]
 fn begin_sum<'t>(
     sign: Option<(Sign, Place)>,
     rest: &'t [((AddOp, Place), Term)],
@@ -153,35 +179,38 @@ fn begin_sum<'t>(
     ensures { (t : Tables) (c : Context) (w : Waiting) → step_ahead t c w result ≡ from_value c (remainders.begin_sum sign (summands_view rest.now) (awaits_of w)) (value_view v) }
 {
     match signed(sign, v.ordinal()) {
-        Ok(n) => Step::On(At::Summands(Value::of(n), rest)),
+        Ok(n) => summands(Value::of(n), rest),
         Err(fault) => Step::On(At::Deed(Deed::Faults(fault))),
     }
 }
 
 /// The right operand of a sum.
 #[tactic(auto, using(crate::proofs::Rules::values))]
+#[inline(always)]
 fn add_to<'t>(n: i64, op: AddOp, rest: &'t [((AddOp, Place), Term)], v: Value) -> Step<'t>
     ensures { (t : Tables) (c : Context) (w : Waiting) → step_ahead t c w result ≡ from_value c (remainders.add_to n op (summands_view rest.now) (awaits_of w)) (value_view v) }
 {
     match added(op, n, v.ordinal()) {
-        Ok(sum) => Step::On(At::Summands(Value::of(sum), rest)),
+        Ok(sum) => summands(Value::of(sum), rest),
         Err(fault) => Step::On(At::Deed(Deed::Faults(fault))),
     }
 }
 
 /// The right operand of a product.
 #[tactic(auto, using(crate::proofs::Rules::values))]
+#[inline(always)]
 fn multiply_by<'t>(n: i64, op: MulOp, rest: &'t [((MulOp, Place), Factor)], v: Value) -> Step<'t>
     ensures { (t : Tables) (c : Context) (w : Waiting) → step_ahead t c w result ≡ from_value c (remainders.multiply_by n op (multipliers_view rest.now) (awaits_of w)) (value_view v) }
 {
     match multiplied(op, n, v.ordinal()) {
-        Ok(product) => Step::On(At::Multipliers(Value::of(product), rest)),
+        Ok(product) => multipliers(Value::of(product), rest),
         Err(fault) => Step::On(At::Deed(Deed::Faults(fault))),
     }
 }
 
 /// The left side of a relation.
 #[tactic(auto, using(crate::proofs::Rules::values))]
+#[inline(always)]
 fn compare_with<'t>(relation: Relation, right: &'t Simple, v: Value) -> Step<'t>
     ensures { (t : Tables) (c : Context) (w : Waiting) → step_ahead t c w result ≡ from_value c (remainders.compare_with relation (simple_view right.now) (awaits_of w)) (value_view v) }
 {
@@ -189,6 +218,7 @@ fn compare_with<'t>(relation: Relation, right: &'t Simple, v: Value) -> Step<'t>
 }
 
 /// The right side of a relation.
+#[inline(always)]
 fn compare_to<'t>(n: i64, relation: Relation, v: Value) -> Step<'t>
     ensures { (t : Tables) (c : Context) (w : Waiting) → step_ahead t c w result ≡ from_value c (remainders.compare_to n relation (awaits_of w)) (value_view v) }
 {
@@ -196,6 +226,7 @@ fn compare_to<'t>(n: i64, relation: Relation, v: Value) -> Step<'t>
 }
 
 /// What `not` stands before.
+#[inline(always)]
 fn invert<'t>(v: Value) -> Step<'t>
     ensures { (t : Tables) (c : Context) (w : Waiting) → step_ahead t c w result ≡ from_value c (remainders.invert (awaits_of w)) (value_view v) }
 {
@@ -225,6 +256,7 @@ fn finish<'t>(f: Function, t: Option<TypeId>, v: Value) -> Step<'t>
 
 /// An index: on to the element, or the fault where it is outside the bounds.
 #[tactic(auto, using(crate::proofs::Rules::elements))]
+#[inline(never)]
 fn index_into<'t>(
     spot: TypedSpot,
     es: &'t [Expr],

@@ -15,7 +15,7 @@ ghost use Rattle.pfc_pending.specs.Texts.{actuals_left};
 ghost use Rattle.pfc_pending.specs.Waiting.{Waiting, callee_view, goal_over};
 ghost use Rattle.pfc_pending.specs.declared.at_hand.At.TheVariants as at;
 ghost use Rattle.pfc_pending.specs.declared.pending.Goal.TheVariants as goal;
-ghost use Rattle.pfc_expression_steps.specs.Ahead.{reached_ahead, is_of_select, is_for_select};
+ghost use Rattle.pfc_expression_steps.specs.Ahead.{reached_ahead, is_frequent, is_of_select, is_for_select};
 
 use crate::passing::{give, reserve_argument};
 use pfc_base::{Memory, Name, Place};
@@ -137,6 +137,7 @@ fn field<'t>(
 }
 
 /// A variable meets what waits for it.
+#[inline(always)]
 #[tactic(auto, using(crate::proofs::Rules::goals))]
 pub fn reach<'t>(spot: TypedSpot, goal: Goal<'t>, site: Site<'t, '_>) -> Reached<'t>
     ensures next { (t : Tables) (line : ℕ) (w : Waiting) → let c = context (env_view site.entry.env) line in
@@ -145,9 +146,25 @@ pub fn reach<'t>(spot: TypedSpot, goal: Goal<'t>, site: Site<'t, '_>) -> Reached
 {
     match goal {
         Goal::Read => Reached::Step(Step::On(At::Deed(Deed::Reads(spot.spot)))),
-        Goal::AskEmpty => Reached::Step(Step::On(At::Deed(Deed::AsksEmpty(spot.spot)))),
-        Goal::Pass(p) => lend(spot, p),
         Goal::AssignTo(e) => Reached::Step(Step::Under(Pending::StoreAt(spot.spot), At::Expr(e))),
+        Goal::Pass(p) => lend(spot, p),
+        Goal::WaitAt => Reached::Step(Step::On(At::Deed(Deed::Waits(spot.spot)))),
+        Goal::SignalAt => Reached::Step(Step::On(At::Deed(Deed::Signals(spot.spot)))),
+        goal => reach_other(spot, goal, site),
+    }
+}
+
+/// The same of what waits for it less often.
+#[inline(never)]
+#[tactic(auto, using(crate::proofs::Rules::goals))]
+fn reach_other<'t>(spot: TypedSpot, goal: Goal<'t>, site: Site<'t, '_>) -> Reached<'t>
+    requires { is_frequent goal ≡ false }
+    ensures next { (t : Tables) (line : ℕ) (w : Waiting) → let c = context (env_view site.entry.env) line in
+        reached_ahead t c w no_selectors result ≡ from_location c (goal_over w goal.entry) (typed_spot_view spot) }
+    ensures select { is_for_select result ≡ is_of_select goal.entry }
+{
+    match goal {
+        Goal::AskEmpty => Reached::Step(Step::On(At::Deed(Deed::AsksEmpty(spot.spot)))),
         Goal::InputTo(t) => Reached::Step(Step::On(At::Deed(Deed::Inputs(t, spot.spot)))),
         Goal::ActivateWith(formals, args) => call(
             formals,
@@ -162,8 +179,6 @@ pub fn reach<'t>(spot: TypedSpot, goal: Goal<'t>, site: Site<'t, '_>) -> Reached
             site.alloc,
         ),
         Goal::InitialTo(e) => Reached::Step(Step::Under(Pending::SetCount(spot.spot), At::Expr(e))),
-        Goal::WaitAt => Reached::Step(Step::On(At::Deed(Deed::Waits(spot.spot)))),
-        Goal::SignalAt => Reached::Step(Step::On(At::Deed(Deed::Signals(spot.spot)))),
         Goal::DelayAt(None) => Reached::Step(Step::On(At::Deed(Deed::Delays(spot.spot, 0)))),
         Goal::DelayAt(Some(rank)) => Reached::Step(Step::Under(
             Pending::DelayWith(spot.spot),
@@ -205,6 +220,9 @@ pub fn reach<'t>(spot: TypedSpot, goal: Goal<'t>, site: Site<'t, '_>) -> Reached
             spot,
             Goal::OfferInto(channel, choosing),
         ),
+        Goal::Read | Goal::AssignTo(_) | Goal::Pass(_) | Goal::WaitAt | Goal::SignalAt => {
+            unreachable!()
+        }
     }
 }
 

@@ -1,3 +1,4 @@
+pub mod Assigned
 pub mod Guarded
 pub mod Left
 pub mod Repeats

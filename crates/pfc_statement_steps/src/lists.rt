@@ -46,17 +46,17 @@ pub fn stmts<'t>(n: u32, ss: Stmts<'t>) -> Result<Step<'t>, Memory>
         return Ok(Step::On(At::Rest));
     }
     let first = &ss.list[ss.from];
-    let here = At::Stmt(n, OneStmt::Listed(ss.list, ss.from));
+    let here = OneStmt::Listed(ss.list, ss.from);
     let from = ss.from + 1;
     if from == ss.list.len() {
-        return Ok(Step::On(here));
+        return Ok(Step::On(At::Stmt(n, here)));
     }
     let next = behind_stmt(first, n)?;
     let behind = Stmts {
         list: ss.list,
         from,
     };
-    Ok(Step::Under(Pending::Perform(next, behind), here))
+    Ok(Step::Under(Pending::Perform(next, behind), At::Stmt(n, here)))
 }
 
 /// Whether a label of a `case` is this value.

@@ -2,9 +2,10 @@
 ghost use Rattle.std.specs.Prelude.{◌≡◌, ℕ, IfOk};
 ghost use Rattle.pfc_base.specs.declared.places.Place.{Place};
 ghost use Rattle.pfc_tree.specs.trees.Stmts as trees;
+ghost use Rattle.pfc_tree.specs.views.Exprs.{desig_view, expr_view};
 ghost use Rattle.pfc_tree.specs.views.Stmts.{stmt_view, stmts_view, alts_view};
 ghost use Rattle.pfc_types.specs.rules.Expressions.{Env as Known};
-ghost use Rattle.pfc_semantics.specs.Statements.{from_stmt};
+ghost use Rattle.pfc_semantics.specs.Statements.{from_assign, from_stmt};
 ghost use Rattle.pfc_semantics.specs.Rewriting.{from_remainder};
 ghost use Rattle.pfc_phrases.specs.Views.{env_view};
 ghost use Rattle.pfc_program.specs.declared.tables.Tables.{Tables};
@@ -23,7 +24,7 @@ use pfc_base::Memory;
 use pfc_pending::{At, Begun, Goal, OneStmt, Otherwise, Pending, Step, Stmts};
 use pfc_program::behind_alts;
 use pfc_sites::{Site, part};
-use pfc_tree::{Alt, Stmt};
+use pfc_tree::{Alt, Desig, Expr, Stmt};
 
 /// A statement, before which the next scope of the text has the number n. Its only refusal is a number of more than 32 bits, which
 /// counts as want of memory.
@@ -74,10 +75,21 @@ fn known<'t>(
         Stmt::Select(pri, alts, Some((ss, _)), p, _) => {
             Ok(Begin::Select(select_else(n, *pri, alts, ss, p.line)?))
         }
-        Stmt::Assign(d, e, p, _) => at_line(p.line, Step::On(part(d, Goal::AssignTo(e), site))),
+        Stmt::Assign(d, e, p, _) => at_line(p.line, assign(d, e, site)),
         Stmt::Send(d, e, p, _) => at_line(p.line, send(d, e, site)),
         Stmt::Receive(d, v, p, _) => at_line(p.line, receive(d, v, site)),
         Stmt::Call(d, args, p) => at_line(p.line, call(d, args, site)),
+    }
+}
+
+/// `d := e`: the variable before the value. One without selectors is there at once.
+#[tactic(auto, using(crate::proofs::Rules::kinds))]
+fn assign<'t>(d: &'t Desig, e: &'t Expr, site: Site<'t, '_>) -> Step<'t>
+    ensures { (t : Tables) (line : ℕ) (w : Waiting) → step_ahead t (context (env_view site.entry.env) line) w result ≡ from_assign (context (env_view site.entry.env) line) (desig_view d.now) (expr_view e.now) (remainder_of w) }
+{
+    match d.selectors.as_slice() {
+        [] => Step::Under(Pending::StoreAt(site.spot(&d.name).spot), At::Expr(e)),
+        _ => Step::On(part(d, Goal::AssignTo(e), site)),
     }
 }
 

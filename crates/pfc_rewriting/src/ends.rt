@@ -11,7 +11,7 @@ ghost use Rattle.pfc_rewriting.specs.Kinds.{is_plain};
 
 use crate::going::{Came, Going};
 use pfc_base::Memory;
-use pfc_pending::{At, Deed, OneStmt, Pending, Point};
+use pfc_pending::{At, OneStmt, Pending, Point};
 use pfc_select_steps::go_through;
 use pfc_statement_steps::{Resumed, resume, resume_in};
 use std::alloc::Global;
@@ -19,6 +19,7 @@ use std::alloc::Global;
 impl<'t> Going<'t> {
     /// On with a part that stood last among those that are pending; its room is there still. It answers other names in view, where
     /// some are. Where memory is refused, the part stands there again.
+    #[inline(always)]
     pub(crate) fn end(
         &mut self,
         part: Pending<'t>,
@@ -38,6 +39,7 @@ impl<'t> Going<'t> {
     }
 
     /// The same of a statement that is under way.
+    #[inline(always)]
     fn end_within(
         &mut self,
         n: u32,
@@ -58,15 +60,20 @@ impl<'t> Going<'t> {
     }
 
     /// The same of a part that is neither of a statement that is under way nor of a select.
+    #[inline(never)]
     fn end_plain(&mut self, part: Pending<'t>, alloc: Global) -> Result<Option<Came<'t>>, Memory>
         requires room { HasRoom self.old }
         requires plain { is_plain part ≡ true }
         ensures { (t : Tables) (env : Known) → turned_ahead t env self.new result ≡ from_remainder env (remainder_of (over t (waiting t self.old.pending.items) part.entry)) }
     {
         match resume(&part, self.pending.last(), alloc) {
-            Ok(Some(resumed)) => Ok(self.take_up(resumed)),
+            Ok(Some(resumed)) => {
+                drop(part);
+                Ok(self.take_up(resumed))
+            }
             Ok(None) => {
-                self.at = At::Deed(Deed::Finishes(0));
+                drop(part);
+                self.put_end();
                 Ok(None)
             }
             Err(Memory) => Err(self.put_back(part)),
@@ -87,13 +94,14 @@ impl<'t> Going<'t> {
     }
 
     /// The part stands last among those that are pending again, since memory was refused.
+    #[inline(never)]
     #[tactic(auto, using(crate::proofs::Waiting::parts))]
     fn put_back(&mut self, part: Pending<'t>) -> Memory
         requires { HasRoom self.old }
         ensures { (t : Tables) (env : Known) → going_ahead t env self.new ≡ from_remainder env (remainder_of (over t (waiting t self.old.pending.items) part.entry)) }
     {
-        self.pending.push(part).unwrap();
-        self.at = At::Rest;
+        self.pending.push_reserved(part);
+        self.put(At::Rest);
         Memory
     }
 }

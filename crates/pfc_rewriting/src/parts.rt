@@ -18,16 +18,17 @@ ghost use Rattle.pfc_rewriting.specs.Going.{going_ahead, HasRoom};
 use crate::going::Going;
 use crate::phrases::phrase;
 use pfc_base::Memory;
-use pfc_expression_steps::{Reached, Reason, lead};
+use pfc_expression_steps::{Reached, Reason, expr, factor, lead, simple, term};
 use pfc_pending::{At, Choosing, Goal, OneStmt, Stmts};
 use pfc_select_steps::{begin, opened, reach_from, reach_into, reach_to};
 use pfc_sites::Site;
 use pfc_statement_steps::{Begin, Select, stmt, stmts};
 use pfc_store::{Spot, TypedSpot};
-use pfc_tree::{Desig, Expr, Selector};
+use pfc_tree::{Desig, Expr, Factor, Selector, Simple, Term};
 
 impl<'t> Going<'t> {
     /// Reads one part of what was at hand. Where memory is refused, it is at hand again.
+    #[inline(never)]
     pub(crate) fn read(&mut self, at: At<'t>, site: Site<'t, '_>) -> Result<(), Memory>
         requires { HasRoom self.old }
         ensures { (t : Tables) → going_ahead t (env_view site.entry.env) self.new ≡ ahead t (context (env_view site.entry.env) self.old.line) (waiting t self.old.pending.items) at.entry }
@@ -44,8 +45,50 @@ impl<'t> Going<'t> {
         }
     }
 
+    /// An expression.
+    #[inline(never)]
+    pub(crate) fn read_expr(&mut self, e: &'t Expr, site: Site<'t, '_>)
+        requires { HasRoom self.old }
+        ensures { (t : Tables) → going_ahead t (env_view site.entry.env) self.new ≡ ahead t (context (env_view site.entry.env) self.old.line) (waiting t self.old.pending.items) (at.Expr e.entry) }
+    {
+        self.go_on(expr(e, site));
+    }
+
+    /// A sum.
+    #[inline(never)]
+    pub(crate) fn read_simple(&mut self, s: &'t Simple, site: Site<'t, '_>)
+        requires { HasRoom self.old }
+        ensures { (t : Tables) → going_ahead t (env_view site.entry.env) self.new ≡ ahead t (context (env_view site.entry.env) self.old.line) (waiting t self.old.pending.items) (at.Simple s.entry) }
+    {
+        self.go_on(simple(s, site));
+    }
+
+    /// A product.
+    #[inline(never)]
+    pub(crate) fn read_term(&mut self, t: &'t Term, site: Site<'t, '_>)
+        requires { HasRoom self.old }
+        ensures { (t : Tables) → going_ahead t (env_view site.entry.env) self.new ≡ ahead t (context (env_view site.entry.env) self.old.line) (waiting t self.old.pending.items) (at.Term t.entry) }
+    {
+        self.go_on(term(t, site));
+    }
+
+    /// A factor.
+    #[inline(never)]
+    pub(crate) fn read_factor(&mut self, f: &'t Factor, site: Site<'t, '_>)
+        requires { HasRoom self.old }
+        ensures { (t : Tables) → going_ahead t (env_view site.entry.env) self.new ≡ ahead t (context (env_view site.entry.env) self.old.line) (waiting t self.old.pending.items) (at.Factor f.entry) }
+    {
+        self.go_on(factor(f, site));
+    }
+
     /// A statement, before which the next scope of the text has the number n.
-    fn read_stmt(&mut self, n: u32, s: OneStmt<'t>, site: Site<'t, '_>) -> Result<(), Memory>
+    #[inline(never)]
+    pub(crate) fn read_stmt(
+        &mut self,
+        n: u32,
+        s: OneStmt<'t>,
+        site: Site<'t, '_>,
+    ) -> Result<(), Memory>
         requires { HasRoom self.old }
         ensures { (t : Tables) → going_ahead t (env_view site.entry.env) self.new ≡ ahead t (context (env_view site.entry.env) self.old.line) (waiting t self.old.pending.items) (at.Stmt n s.entry) }
     {
@@ -56,13 +99,14 @@ impl<'t> Going<'t> {
             }
             Ok(Begin::Select(q)) => self.read_select(n, s, q, site),
             Err(Memory) => {
-                self.at = At::Stmt(n, s);
+                self.put(At::Stmt(n, s));
                 Err(Memory)
             }
         }
     }
 
     /// A statement that is this select.
+    #[inline(never)]
     fn read_select(
         &mut self,
         n: u32,
@@ -76,18 +120,19 @@ impl<'t> Going<'t> {
         match begin(n, q.pri, q.alts, q.otherwise, q.line, site) {
             Ok(at) => {
                 self.line = q.line;
-                self.at = at;
+                self.put(at);
                 Ok(())
             }
             Err(Memory) => {
-                self.at = At::Stmt(n, s);
+                self.put(At::Stmt(n, s));
                 Err(Memory)
             }
         }
     }
 
     /// Statements, before which the next scope of the text has the number n.
-    fn read_stmts(&mut self, n: u32, ss: Stmts<'t>) -> Result<(), Memory>
+    #[inline(never)]
+    pub(crate) fn read_stmts(&mut self, n: u32, ss: Stmts<'t>) -> Result<(), Memory>
         requires { HasRoom self.old }
         ensures { (t : Tables) (env : Known) → going_ahead t env self.new ≡ ahead t (context env self.old.line) (waiting t self.old.pending.items) (at.Stmts n ss.entry) }
     {
@@ -97,13 +142,14 @@ impl<'t> Going<'t> {
                 Ok(())
             }
             Err(Memory) => {
-                self.at = At::Stmts(n, ss);
+                self.put(At::Stmts(n, ss));
                 Err(Memory)
             }
         }
     }
 
     /// A variable's part, with the indices and selectors behind it.
+    #[inline(never)]
     fn read_part(
         &mut self,
         spot: TypedSpot,
@@ -122,13 +168,14 @@ impl<'t> Going<'t> {
             }
             Reached::Back(Reason::Select, spot, goal) => self.offer(spot, goal, site),
             Reached::Back(Reason::Memory, spot, goal) => {
-                self.at = At::Part(spot, &[], ss, goal);
+                self.put(At::Part(spot, &[], ss, goal));
                 Err(Memory)
             }
         }
     }
 
     /// A variable, for what of a select waits for it; anything else, which never comes, counts as want of memory.
+    #[inline(never)]
     fn offer(&mut self, spot: TypedSpot, goal: Goal<'t>, site: Site<'t, '_>) -> Result<(), Memory>
         requires { HasRoom self.old }
         ensures { (t : Tables) → let c = context (env_view site.entry.env) self.old.line in
@@ -146,7 +193,7 @@ impl<'t> Going<'t> {
     fn wait_still(&mut self, spot: TypedSpot, goal: Goal<'t>) -> Memory
         ensures { (t : Tables) (env : Known) → going_ahead t env self.new ≡ from_location (context env self.old.line) (goal_over (waiting t self.old.pending.items) goal.entry) (typed_spot_view spot) }
     {
-        self.at = At::Part(spot, &[], &[], goal);
+        self.put(At::Part(spot, &[], &[], goal));
         Memory
     }
 
@@ -210,6 +257,7 @@ impl<'t> Going<'t> {
     }
 
     /// An alternative that is open: what it waits for.
+    #[inline(never)]
     fn read_opened(&mut self, choosing: Box<Choosing<'t>>, site: Site<'t, '_>) -> Result<(), Memory>
         requires { HasRoom self.old }
         ensures { (t : Tables) → going_ahead t (env_view site.entry.env) self.new ≡ ahead t (context (env_view site.entry.env) self.old.line) (waiting t self.old.pending.items) (at.Opened choosing.entry) }
@@ -220,7 +268,7 @@ impl<'t> Going<'t> {
                 Ok(())
             }
             Err(choosing) => {
-                self.at = At::Opened(choosing);
+                self.put(At::Opened(choosing));
                 Err(Memory)
             }
         }

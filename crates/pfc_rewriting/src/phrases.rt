@@ -13,6 +13,7 @@ use pfc_sites::Site;
 use pfc_statement_steps::{item, reads, writes};
 
 /// What a part of the text comes to, on this line; what is none, or takes memory, stays at hand.
+#[inline(never)]
 pub(crate) fn phrase<'t>(at: At<'t>, line: u32, site: Site<'t, '_>) -> Step<'t>
     ensures { (t : Tables) (w : Waiting) → step_ahead t (context (env_view site.entry.env) line) w result ≡ ahead t (context (env_view site.entry.env) line) w at.entry }
 {
@@ -20,10 +21,10 @@ pub(crate) fn phrase<'t>(at: At<'t>, line: u32, site: Site<'t, '_>) -> Step<'t>
         At::Writes(items, newline) => writes(items, newline, line),
         At::Reads(args, skip) => reads(args, skip, line, site),
         At::Item(a) => item(a, site.env),
-        At::Expr(e) => expr(e),
-        At::Simple(s) => simple(s),
+        At::Expr(e) => expr(e, site),
+        At::Simple(s) => simple(s, site),
         At::Summands(sum, rest) => summands(sum, rest),
-        At::Term(t) => term(t),
+        At::Term(t) => term(t, site),
         At::Multipliers(product, rest) => multipliers(product, rest),
         At::Factor(f) => factor(f, site),
         At::Passing(p) => pass(p, site),

@@ -7,7 +7,7 @@ ghost use Rattle.pfc_rewriting.specs.Going.{arrived_ahead, going_ahead, turned_a
 
 use crate::going::{Came, Going};
 use pfc_base::Memory;
-use pfc_pending::{At, Deed};
+use pfc_pending::At;
 use pfc_sites::Site;
 use pfc_store::Value;
 use std::mem;
@@ -25,11 +25,60 @@ impl<'t> Going<'t> {
         Err(Memory)
     }
 
-    /// One turn: a part of the text is read, or a part is put among those that are pending or taken from them.
+    /// One turn: a part of the text is read, or a part is put among those that are pending or taken from them. What is at hand most often
+    /// is looked at where it stands.
+    #[inline(always)]
     fn turn(&mut self, site: Site<'t, '_>) -> Result<Option<Came<'t>>, Memory>
         ensures { (t : Tables) → turned_ahead t (env_view site.entry.env) self.new result ≡ going_ahead t (env_view site.entry.env) self.old }
     {
         self.pending.reserve(1)?;
+        match &self.at {
+            At::Rest => self.turn_end(site),
+            At::Value(Value::Ordinal(n)) => {
+                let v = Value::Ordinal(*n);
+                self.turn_value(v, site)?;
+                Ok(None)
+            }
+            At::Expr(e) => {
+                let e = *e;
+                self.read_expr(e, site);
+                Ok(None)
+            }
+            At::Simple(s) => {
+                let s = *s;
+                self.read_simple(s, site);
+                Ok(None)
+            }
+            At::Term(t) => {
+                let t = *t;
+                self.read_term(t, site);
+                Ok(None)
+            }
+            At::Factor(f) => {
+                let f = *f;
+                self.read_factor(f, site);
+                Ok(None)
+            }
+            At::Stmt(n, s) => {
+                let (n, s) = (*n, *s);
+                self.read_stmt(n, s, site)?;
+                Ok(None)
+            }
+            At::Stmts(n, ss) => {
+                let (n, ss) = (*n, *ss);
+                self.read_stmts(n, ss)?;
+                Ok(None)
+            }
+            _ => self.turn_other(site),
+        }
+    }
+
+    /// The same, where what is at hand is taken first.
+    #[inline(never)]
+    fn turn_other(&mut self, site: Site<'t, '_>) -> Result<Option<Came<'t>>, Memory>
+        requires { HasRoom self.old }
+        ensures { (t : Tables) → turned_ahead t (env_view site.entry.env) self.new result ≡ going_ahead t (env_view site.entry.env) self.old }
+    {
         match mem::replace(&mut self.at, At::Rest) {
             At::Deed(deed) => Ok(Some(Came::Deed(deed))),
             At::Rest => self.turn_end(site),
@@ -45,6 +94,7 @@ impl<'t> Going<'t> {
     }
 
     /// Nothing is at hand: on with the innermost part that is pending. Where there is none, which never comes, a body has ended.
+    #[inline(never)]
     #[tactic(auto, using(crate::proofs::Waiting::parts))]
     fn turn_end(&mut self, site: Site<'t, '_>) -> Result<Option<Came<'t>>, Memory>
         requires room { HasRoom self.old }
@@ -54,13 +104,14 @@ impl<'t> Going<'t> {
         match self.pending.pop() {
             Some(part) => self.end(part, site.alloc),
             None => {
-                self.at = At::Deed(Deed::Finishes(0));
+                self.put_end();
                 Ok(None)
             }
         }
     }
 
     /// A value is at hand: it meets the innermost part that is pending. Where there is none, which never comes, a body has ended.
+    #[inline(never)]
     #[tactic(auto, using(crate::proofs::Waiting::unwanted))]
     fn turn_value(&mut self, v: Value, site: Site<'t, '_>) -> Result<(), Memory>
         requires { HasRoom self.old }
@@ -69,7 +120,7 @@ impl<'t> Going<'t> {
         match self.pending.pop() {
             Some(part) => self.meet(part, v, site),
             None => {
-                self.at = At::Deed(Deed::Finishes(0));
+                self.put_end();
                 Ok(())
             }
         }

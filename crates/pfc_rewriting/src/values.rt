@@ -15,7 +15,7 @@ ghost use Rattle.pfc_rewriting.specs.Going.{going_ahead, HasRoom};
 use crate::going::Going;
 use pfc_base::Memory;
 use pfc_expression_steps::{arrive, is_of_expression, reserve};
-use pfc_pending::{At, Choosing, Deed, OneStmt, Pending, Point};
+use pfc_pending::{At, Choosing, OneStmt, Pending, Point};
 use pfc_select_steps::{offer_value, offer_wait, open_if};
 use pfc_sites::Site;
 use pfc_statement_steps::{arrive_guard, arrive_in};
@@ -24,6 +24,7 @@ use pfc_store::{Spot, Value};
 impl<'t> Going<'t> {
     /// On with the part that the value meets; its room is there still. Where memory is refused, the part is pending and the value at
     /// hand again.
+    #[inline(always)]
     pub(crate) fn meet(
         &mut self,
         part: Pending<'t>,
@@ -47,17 +48,19 @@ impl<'t> Going<'t> {
     }
 
     /// The part is pending and the value at hand again, since memory was refused.
+    #[inline(never)]
     #[tactic(auto, using(crate::proofs::Waiting::parts))]
     fn wait_again(&mut self, part: Pending<'t>, v: Value) -> Memory
         requires { HasRoom self.old }
         ensures { (t : Tables) (env : Known) → going_ahead t env self.new ≡ from_value (context env self.old.line) (awaits_of (over t (waiting t self.old.pending.items) part.entry)) (value_view v) }
     {
-        self.pending.push(part).unwrap();
-        self.at = At::Value(v);
+        self.pending.push_reserved(part);
+        self.put(At::Value(v));
         Memory
     }
 
     /// A part that is none of an expression or of a simple statement. A guard of a resource has its value on the line at hand.
+    #[inline(always)]
     fn meet_other(&mut self, part: Pending<'t>, v: Value, site: Site<'t, '_>) -> Result<(), Memory>
         requires room { HasRoom self.old }
         requires other { expressions.is_of_expression part ≡ false }
@@ -65,6 +68,7 @@ impl<'t> Going<'t> {
     {
         match arrive_guard(&part, &v, self.line) {
             Some(begun) => {
+                drop(part);
                 self.begin(begun);
                 Ok(())
             }
@@ -74,6 +78,7 @@ impl<'t> Going<'t> {
 
     /// A part that is no guard of a resource either: of a statement that is under way, or of a select. What waits for no value, which
     /// never comes, is the end of a body.
+    #[inline(never)]
     fn meet_choice(&mut self, part: Pending<'t>, v: Value, site: Site<'t, '_>) -> Result<(), Memory>
         requires room { HasRoom self.old }
         requires other { expressions.is_of_expression part ≡ false }
@@ -88,14 +93,16 @@ impl<'t> Going<'t> {
             }
             Pending::OfferValue(channel, choosing) => self.meet_message(channel, choosing, v),
             Pending::OfferWait(choosing) => self.meet_seconds(choosing, v),
-            _ => {
-                self.at = At::Deed(Deed::Finishes(0));
+            part => {
+                drop(part);
+                self.put_end();
                 Ok(())
             }
         }
     }
 
     /// A part of a statement that is under way has its value.
+    #[inline(always)]
     fn meet_point(
         &mut self,
         n: u32,
@@ -117,6 +124,7 @@ impl<'t> Going<'t> {
     }
 
     /// The message of an alternative has come.
+    #[inline(never)]
     fn meet_message(
         &mut self,
         channel: Spot,
@@ -139,6 +147,7 @@ impl<'t> Going<'t> {
     }
 
     /// The seconds of a `timeout` have come.
+    #[inline(never)]
     fn meet_seconds(&mut self, choosing: Box<Choosing<'t>>, v: Value) -> Result<(), Memory>
         requires { HasRoom self.old }
         ensures { (t : Tables) (env : Known) → going_ahead t env self.new ≡ from_value (context env self.old.line) (awaits_of (over t (waiting t self.old.pending.items) (pending.OfferWait choosing.entry))) (value_view v) }

@@ -19,6 +19,7 @@ returns-in-Ok-Some c = λ t env.
 
 pub returns-in-Ok-None : goal.returns-in-Ok-None
 returns-in-Ok-None c = λ t env.
-    sym (ap (λ (k : Remainder). from_remainder env k)
+    c.put_end.ensures t env
+    ∙ sym (ap (λ (k : Remainder). from_remainder env k)
     (unresumed t (waiting t c.args.self.now.pending.items) c.args.part c.requires.plain
     (sym c.in-Ok-None.ensures.taken ∙ ap (λ (o : Option Resumed). is_some o) c.in-Ok-None.field-0-is)))

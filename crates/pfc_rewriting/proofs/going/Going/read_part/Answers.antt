@@ -24,5 +24,6 @@ returns-in-Back-Memory-default-default c = λ t.
     let here = context (env_view c.args.site.env) c.args.self.now.line in
     let w = waiting t c.args.self.now.pending.items in
     let arm = c.in-Back-Memory-default-default in
-    subst (λ (r : Reason). reached_ahead t here w (selectors_view c.args.ss.now) (reached.Back r arm.spot arm.goal) ≡ ahead t here w (at.Part c.args.spot c.args.es c.args.ss c.args.goal))
+    c.put.ensures t (env_view c.args.site.env)
+    ∙ subst (λ (r : Reason). reached_ahead t here w (selectors_view c.args.ss.now) (reached.Back r arm.spot arm.goal) ≡ ahead t here w (at.Part c.args.spot c.args.es c.args.ss c.args.goal))
     arm.field-0-is (arm.ensures.next t c.args.self.now.line w)

@@ -1,0 +1,5 @@
+use Rattle.pfc_addresses.proofs.Held.{spot_here}
+use Rattle.pfc_addresses.proofs.sites.Site.spot.Goals as goal
+
+pub returns : goal.returns
+returns c = spot_here c.args.self c.args.name.now c.find.result c.spot.result c.spot.ensures c.find.ensures.value

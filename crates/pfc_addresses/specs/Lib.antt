@@ -1,0 +1,5 @@
+pub mod FirstPlaces
+pub mod Holding
+pub mod Instructions
+pub mod Rows
+pub mod Sites

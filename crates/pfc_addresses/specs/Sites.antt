@@ -29,11 +29,15 @@ tables_in site = tables_of site.body.now
 abbrev pub env_in : Site → Env
 env_in site = record { state = tables_view (tables_in site); view = levels site.view.now; around = site.around }
 
-abbrev pub site_view : Site → translation.Site
-site_view site =
+abbrev pub parts_of : Site → translation.Site
+parts_of site =
     record {
       program = whole_view (program_of site.body.now);
       block = block_view (tables_in site) site.body.now.block.now;
       env = env_in site;
       line = site.line;
     }
+
+-- The same as one thing: the crates above need not look into it.
+unfoldable pub site_view : Site → translation.Site
+site_view site = parts_of site

@@ -66,19 +66,24 @@ impl<'t, 'e> Site<'t, 'e> {
     ghost use Rattle.pfc_translation.specs.Sites as translation;
     ghost use Rattle.pfc_translation.specs.Expressions.{call_instr};
     ghost use Rattle.pfc_addresses.specs.Instructions.{base_instr};
-    ghost use Rattle.pfc_addresses.specs.Sites.{env_in, site_view, tables_in};
+    ghost use Rattle.pfc_addresses.specs.Sites.{env_in, parts_of, site_view, tables_in};
 
     /// The tables of types and of scopes.
+    #[tactic(auto, unfolding(crate::specs::Sites::site_view))]
     pub fn tables(self) -> Tables<'t>
-        ensures { result ≡ tables_in self.entry }
+        ensures value { result ≡ tables_in self.entry }
+        ensures forms { result.types.now ≡ translation.forms_of (site_view self.entry) }
+        ensures blocks { result.scopes.now ≡ translation.blocks_of (site_view self.entry) }
     {
         let addresses = self.body.addresses;
         addresses.program.tables
     }
 
     /// What is known at the phrase.
+    #[tactic(auto, unfolding(crate::specs::Sites::site_view))]
     pub fn env(self) -> Env<'e>
-        ensures { env_view result ≡ env_in self.entry }
+        ensures value { env_view result ≡ env_in self.entry }
+        ensures site { env_view result ≡ (site_view self.entry).env }
     {
         let tables = self.tables();
         Env {
@@ -89,7 +94,16 @@ impl<'t, 'e> Site<'t, 'e> {
         }
     }
 
+    /// The line of the instructions of the phrase.
+    #[tactic(auto, unfolding(crate::specs::Sites::site_view))]
+    pub fn line(self) -> u32
+        ensures { result ≡ (site_view self.entry).line }
+    {
+        self.line
+    }
+
     /// The same phrase with another line.
+    #[tactic(auto, unfolding(crate::specs::Sites::site_view))]
     pub fn at(self, line: u32) -> Site<'t, 'e>
         ensures { site_view result ≡ translation.at_line (site_view self.entry) line }
     {
@@ -97,15 +111,16 @@ impl<'t, 'e> Site<'t, 'e> {
     }
 
     /// What a name is here.
+    #[tactic(auto, unfolding(crate::specs::Sites::site_view))]
     pub fn find(self, name: &Name) -> Option<Found>
-        ensures value { result ≡ find (env_in self.entry) name.now }
+        ensures value { result ≡ find (site_view self.entry).env name.now }
         ensures held { IfSome result (IsHeld (tables_in self.entry).scopes.now.scopes) }
     {
         find_in(self.env(), name)
     }
 
     /// The variable that a name stands for here.
-    pub fn spot(self, name: &Name) -> NamedSpot
+    fn spot(self, name: &Name) -> NamedSpot
         ensures { spot_view result ≡ spot_of (env_in self.entry) (find (env_in self.entry) name.now) }
     {
         let addresses = self.body.addresses;
@@ -114,7 +129,7 @@ impl<'t, 'e> Site<'t, 'e> {
 
     /// The variables among which those of the scope i lie.
     fn laid_with(self, i: u32) -> Laid<'e>
-        ensures layout { result.layout.now ≡ translation.layout_with (site_view self.entry) i }
+        ensures layout { result.layout.now ≡ translation.layout_with (parts_of self.entry) i }
         ensures cells { result.cells.now ≡ cells_from (tables_in self.entry).types.now 0 result.layout.now }
     {
         let body = self.body;
@@ -129,7 +144,7 @@ impl<'t, 'e> Site<'t, 'e> {
 
     /// How many variables stand there before the first of that scope.
     fn laid_before(self, i: u32) -> u32
-        ensures { result ≡ translation.laid_before (site_view self.entry) i }
+        ensures { result ≡ translation.laid_before (parts_of self.entry) i }
     {
         let body = self.body;
         if body.is_accept(i) {
@@ -140,6 +155,7 @@ impl<'t, 'e> Site<'t, 'e> {
     }
 
     /// The instruction that gives the address of a variable, which is known by its scope and its place there.
+    #[tactic(auto, unfolding(crate::specs::Sites::site_view))]
     pub fn address(self, scope: u32, variable: u32) -> Instr
         ensures { (v : Spot) → v.scope ≡ scope → v.variable ≡ variable → result ≡ base_instr (site_view self.entry) v }
     {
@@ -155,9 +171,10 @@ impl<'t, 'e> Site<'t, 'e> {
     }
 
     /// The address of the variable that a name is, and its type.
+    #[tactic(auto, unfolding(crate::specs::Sites::site_view))]
     pub fn base(self, name: &Name) -> Base
-        ensures instr { result.instr ≡ base_instr (site_view self.entry) (spot_of (env_in self.entry) (find (env_in self.entry) name.now)).spot }
-        ensures t { result.t ≡ (spot_of (env_in self.entry) (find (env_in self.entry) name.now)).t }
+        ensures instr { result.instr ≡ base_instr (site_view self.entry) (spot_of (site_view self.entry).env (find (site_view self.entry).env name.now)).spot }
+        ensures t { result.t ≡ (spot_of (site_view self.entry).env (find (site_view self.entry).env name.now)).t }
     {
         let v = self.spot(name);
         Base {
@@ -167,6 +184,7 @@ impl<'t, 'e> Site<'t, 'e> {
     }
 
     /// The number of the block with the scope i.
+    #[tactic(auto, unfolding(crate::specs::Sites::site_view))]
     pub fn block_number(self, i: u32) -> u32
         ensures { result ≡ block_number (site_view self.entry).program i }
     {
@@ -175,8 +193,9 @@ impl<'t, 'e> Site<'t, 'e> {
     }
 
     /// The call of the n-th sub: its block, and the static links from here to the activation around it.
+    #[tactic(auto, unfolding(crate::specs::Sites::site_view))]
     pub fn call(self, n: u32) -> Instr
-        ensures { result ≡ call_instr (site_view self.entry) (sub_at (tables_in self.entry).scopes.now n) }
+        ensures { result ≡ call_instr (site_view self.entry) (sub_at (translation.blocks_of (site_view self.entry)) n) }
     {
         let body = self.body;
         let scope = self.tables().scopes.sub_scope(n);

@@ -65,11 +65,11 @@ impl<'t> Going<'t> {
 
     /// A product.
     #[inline(never)]
-    pub(crate) fn read_term(&mut self, t: &'t Term, site: Site<'t, '_>)
+    pub(crate) fn read_term(&mut self, product: &'t Term, site: Site<'t, '_>)
         requires { HasRoom self.old }
-        ensures { (t : Tables) → going_ahead t (env_view site.entry.env) self.new ≡ ahead t (context (env_view site.entry.env) self.old.line) (waiting t self.old.pending.items) (at.Term t.entry) }
+        ensures { (t : Tables) → going_ahead t (env_view site.entry.env) self.new ≡ ahead t (context (env_view site.entry.env) self.old.line) (waiting t self.old.pending.items) (at.Term product.entry) }
     {
-        self.go_on(term(t, site));
+        self.go_on(term(product, site));
     }
 
     /// A factor.

@@ -1,0 +1,23 @@
+use Rattle.pfc_translation.specs.Expressions.{first_value}
+use Rattle.pfc_tree.specs.views.Exprs.{actuals_view}
+use Rattle.pfc_expression_code.specs.Lists.{ways_in, ways_of, first_value_list}
+use Rattle.pfc_addresses.specs.Sites.{site_view}
+use Rattle.pfc_expression_code.specs.Putting.{Made}
+use Rattle.pfc_expression_code.proofs.Putting.{ok_listed, err_listed, first_value_listed}
+use Rattle.pfc_expression_code.proofs.coder.Coder.first_value.Goals as goal
+
+pub returns-clause-code : goal.returns-clause-code
+unfolding ways_in
+returns-clause-code c =
+    let s = site_view c.args.site in
+    let inside : Made = record { code = c.self.inside.code; texts = c.self.inside.texts.items; arms = c.self.inside.arms } in
+    ok_listed c.first_value.result (first_value s (actuals_view c.args.args.now)) (first_value_list (ways_of s) (actuals_view c.args.args.now))
+    c.first_value.new.code inside c.args.self.now c.self.view_is (first_value_listed s (actuals_view c.args.args.now)) c.first_value.ensures.code
+
+pub returns-clause-large : goal.returns-clause-large
+unfolding ways_in
+returns-clause-large c =
+    let s = site_view c.args.site in
+    let inside : Made = record { code = c.self.inside.code; texts = c.self.inside.texts.items; arms = c.self.inside.arms } in
+    err_listed c.first_value.result (first_value s (actuals_view c.args.args.now)) (first_value_list (ways_of s) (actuals_view c.args.args.now)) inside
+    c.args.self.now c.self.view_is (first_value_listed s (actuals_view c.args.args.now)) c.first_value.ensures.large

@@ -15,7 +15,7 @@
 (defconst pascal-fc-constants '("true" "false" "maxint"))
 (defconst pascal-fc-routines '("any" "abs" "sqr" "odd" "ord" "chr" "succ" "pred" "eof" "eoln" "empty" "clock" "random" "read" "readln" "write" "writeln" "initial" "wait" "signal" "delay" "resume" "sleep"))
 
-(defvar pascal-fc-command "pfc" "The command that runs a text.")
+(defvar pascal-fc-command "pfcwalk" "The command that runs a text.")
 
 (defvar pascal-fc-font-lock-keywords
   (list (cons (regexp-opt pascal-fc-reserved 'words) 'font-lock-keyword-face)
@@ -24,7 +24,7 @@
         (cons (regexp-opt pascal-fc-routines 'words) 'font-lock-builtin-face))
   "What is shown how in `pascal-fc-mode'.")
 
-(defvar pascal-fc-file nil "The file that was run last, as pfc names none in what it writes.")
+(defvar pascal-fc-file nil "The file that was run last, as pfcwalk names none in what it writes.")
 
 (add-to-list 'compilation-error-regexp-alist 'pascal-fc-refused)
 (add-to-list 'compilation-error-regexp-alist 'pascal-fc-line)

@@ -1,7 +1,8 @@
 //! The code of a checked program.
 //!
 //! It promises that `generate` makes the image that the definitions give a checked tree, whose code has at most 200,000
-//! instructions, and refuses a larger one. It runs nothing, asks no static rule, and knows no process but main.
+//! instructions, and refuses a larger one. It runs nothing, and knows no process but main. The types of expressions come from
+//! pfc_phrases, which asks their rules once more; what these say is dropped.
 #![tactic(auto)]
 
 mod assigns;

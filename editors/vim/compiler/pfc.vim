@@ -3,8 +3,8 @@ if exists("current_compiler")
   finish
 endif
 let current_compiler = "pfc"
-" pfc names no file in what it writes, so the first line of this output does.
-CompilerSet makeprg=echo\ FILE:\ %:S;\ pfc\ %:S
+" pfcwalk names no file in what it writes, so the first line of this output does.
+CompilerSet makeprg=echo\ FILE:\ %:S;\ pfcwalk\ %:S
 CompilerSet errorformat=%+PFILE:\ %f,
       \--\ refused\ %n\ at\ line\ %l\\,\ column\ %c:\ %m,
       \--\ fault\ %n:\ %m\ at\ line\ %l,

@@ -27,7 +27,7 @@ use std::process::ExitCode;
 
 const EVENTS: u32 = 2000;
 
-/// What an event touches: a variable and a semaphore, each where it is below 1,000, and whom it wakes.
+/// What an event touches: a variable and a semaphore, each where it is below 10,000, and whom it wakes.
 #[derive(Clone, Copy)]
 struct Touched {
     write: bool,
@@ -36,7 +36,41 @@ struct Touched {
     wakes: u32,
 }
 
-const NONE: u32 = 1000;
+const NONE: u32 = 10000;
+
+/// The part of its variable that the event at a place touches.
+fn push_steps(steps: &mut Vec<i32>, shape: usize, at: u32) -> Result<(), Memory>
+    requires { at < 2000 }
+{
+    match shape {
+        11 => steps.push(at as i32)?,
+        12 => {
+            steps.push(1)?;
+            steps.push(at as i32)?;
+        }
+        13 => steps.push((at % 8) as i32)?,
+        14 => {
+            steps.push(at as i32)?;
+            steps.push(1)?;
+        }
+        15 => steps.push((at % 1000) as i32)?,
+        16 => {
+            steps.push(1)?;
+            if at % 2 == 0 {
+                steps.push(at as i32)?;
+            }
+        }
+        17 => {
+            steps.push(1)?;
+            steps.push((at % 2) as i32)?;
+            if at % 2 == 0 {
+                steps.push(at as i32)?;
+            }
+        }
+        _ => {}
+    }
+    Ok(())
+}
 
 /// What the event at a place touches in the run of a shape.
 fn share_of(shape: usize, at: u32) -> Touched
@@ -64,6 +98,10 @@ fn share_of(shape: usize, at: u32) -> Touched
             }
         }
         8 => Touched { variable: process, wakes: (process + 1) % 64, ..nothing },
+        10 => Touched { variable: at, ..nothing },
+        11 | 12 | 14 | 16 | 17 => Touched { variable: 0, ..nothing },
+        13 => Touched { variable: at / 8, ..nothing },
+        15 => Touched { variable: 0, write: at % 3 == 0, ..nothing },
         _ => {
             if at % 5 == 0 {
                 Touched { thing: at * 7 % 16, ..nothing }
@@ -88,10 +126,12 @@ fn event_of(alloc: Global, shape: usize, at: u32) -> Result<Event, Memory>
         things.push(Thing::Semaphore(touched.thing))?;
     }
     if touched.variable < NONE {
+        let mut steps = Vec::new(alloc);
+        push_steps(&mut steps, shape, at)?;
         let spot = Spot {
             activation: 0,
             variable: touched.variable,
-            path: Path::from_vec(Vec::new(alloc)),
+            path: Path::from_vec(steps),
         };
         accesses.push(Access { spot, write: touched.write })?;
     }
@@ -169,4 +209,12 @@ all wait at one semaphore and write one of seven variables
 turns at eight semaphores, between them three accesses of 41 variables
 each process writes its variable and wakes the next process
 random accesses of 41 variables, one event in five at 16 semaphores
+each event writes another variable
+each event writes another element of one array
+each event writes another element of one element of an array
+each event writes another field of one of 250 records
+each event writes the same field of another element of an array
+reads and writes of the elements of one array, 1,000 in turn
+turns of a write of one element of an array and of a write of another of that element's elements
+turns of a write of one element of an element and of a write of another part of the element beside it
 SHAPES

@@ -101,6 +101,10 @@ wakes-before events (suc n) i j most lt within wakes = elim (cases_Bool (acts ev
   | inr none ↦ direct lt within (cause-by_wake events i j wakes none)
 ]
 
+-- an event is before the later ones of its process
+pub same_process-before : (events : List Event) (i j : ℕ) → i < j → j < length events → has_same_process (event_at events i) (event_at events j) ≡ true → Before events i j
+same_process-before events i j lt within h = direct lt within (cause-by_process events i j h)
+
 -- what leads to a later event is before it
 pub leads-before : (events : List Event) (i j : ℕ) → i < j → j < length events → leads (event_at events i) (event_at events j) ≡ true → Before events i j
 leads-before events i j lt within h = elim (leads-cases events i j h) [

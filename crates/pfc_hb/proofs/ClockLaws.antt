@@ -1,15 +1,15 @@
 -- Clocks: the steps by which one is gathered, and what the clocks of all events tell.
-use Rattle.std.proofs.Common.{◌≡◌, ◌≢◌, ℕ, zero, suc, ◌+◌, ◌<◌, ◌≤◌, max, ◌⊎◌, inl, inr, Bool, true, ◌||◌, eqb, List, length, get_or, set, replicate, Decides, arith, refl, ap, sym, subst, ◌∙◌, eqb-true, eq-eqb}
-use Rattle.std.specs.List.{list_any}
+use Rattle.std.proofs.Common.{◌≡◌, ◌≢◌, ℕ, zero, suc, ◌+◌, ◌<◌, ◌≤◌, max, ◌⊎◌, inl, inr, Bool, true, ◌||◌, eqb, ltb, List, [], length, map, get_or, set, replicate, Decides, arith, refl, ap, sym, subst, ◌∙◌, eqb-true, eq-eqb}
+use Rattle.std.specs.List.{list_any, All}
 use Rattle.std.proofs.lemmas.Bool.{or_cases, or_left, or_right, cases_eq, cases_lt, false≢true, ltb-true, lt-ltb}
 use Rattle.std.proofs.lemmas.Bool.Decides.{same_from_decides}
-use Rattle.std.proofs.lemmas.List.{length-set, length-replicate, get_or-set_same, get_or-set_other, get_or_read}
+use Rattle.std.proofs.lemmas.List.{length-set, length-map, length-replicate, get_or-map, get_or_default, get_or-set_same, get_or-set_other, get_or_read}
 use Rattle.pfc_hb.specs.declared.events.Event.{Event}
 use Rattle.pfc_hb.specs.declared.objects.Thing.{Thing}
 use Rattle.pfc_hb.specs.declared.objects.Thing.TheVariants.{Semaphore, Channel, Monitor, Resource, Owner}
 use Rattle.pfc_hb.specs.Order.{no_event, event_at, shares_thing, is_same_thing, Before, is_before}
 use Rattle.pfc_hb.specs.Order.Before.{through}
-use Rattle.pfc_hb.specs.Clocks.{reaches, leads, has_thing, IsLastWith, AreSlots, Has, IsClock, AreClocks, Gathers, Keeps, HasAll, counts_past, TellOrder}
+use Rattle.pfc_hb.specs.Clocks.{reaches, leads, has_thing, IsLastWith, AreSlots, Has, IsClock, AreClocks, Gathers, Keeps, HasAll, AreColumns, TellsBehind, TellOrder}
 use Rattle.pfc_hb.proofs.ListAny.{list_any-found, list_any-at}
 use Rattle.pfc_hb.proofs.BeforeLaws.{Before-ordered, Before-cause, cause-leads, leads-before, is_before-decides}
 
@@ -202,16 +202,33 @@ module _ (events : List Event) (slots : List ℕ) (width : ℕ) where
             ];
       }
 
-  -- what slots and clocks tell together
-  pub tell_order : (clocks : List (List ℕ)) → AreSlots events slots width → length clocks ≡ length events → AreClocks events slots width (length events) clocks
-      → TellOrder events slots clocks
-  tell_order clocks are long each = record {
+  -- what the column of an event's process tells
+  tells_behind : (clocks : List (List ℕ)) (i : ℕ) → i < length events → length clocks ≡ length events → AreClocks events slots width (length events) clocks
+      → TellsBehind events i (map (λ clock. get_or clock (get_or slots i 0) 0) clocks)
+  tells_behind clocks i small long each =
+      let s = get_or slots i 0 in
+      record {
+        wide = length-map clocks (λ clock. get_or clock s 0) ∙ long;
+        told = λ j lt within.
+            let c = each j within in
+            let at : get_or (map (λ clock. get_or clock s 0) clocks) j 0 ≡ get_or (get_or clocks j []) s 0 =
+            get_or-map (λ clock. get_or clock s 0) clocks j [] 0 (rw long within) in
+            let past = ltb i (get_or (get_or clocks j []) s 0) in
+            let decided : Decides past (Before events i j) = (λ h. c.sound i lt (ltb-true _ _ h), λ b. lt-ltb _ _ (c.complete i b)) in
+            ap (ltb i) at ∙ same_from_decides past (is_before events i j) decided (is_before-decides events i j within);
+      }
+
+  -- what slots and columns tell together
+  pub tell_order : (clocks columns : List (List ℕ)) → AreSlots events slots width → length clocks ≡ length events
+      → AreClocks events slots width (length events) clocks → AreColumns clocks width columns → TellOrder events slots columns
+  tell_order clocks columns are long each beside = record {
     slotted = are.each;
-    clocked = long;
-    within = λ i j small within. rw ((each j within).wide) (are.within i small);
-    told = λ i j lt within.
-        let c = each j within in
-        let decided : Decides (counts_past slots clocks i j) (Before events i j) =
-        (λ h. c.sound i lt (ltb-true _ _ h), λ b. lt-ltb _ _ (c.complete i b)) in
-        same_from_decides (counts_past slots clocks i j) (is_before events i j) decided (is_before-decides events i j within);
+    within = λ i small. rw beside.each (are.within i small);
+    told = λ i small. subst (TellsBehind events i) (sym (beside.column (get_or slots i 0) (are.within i small))) (tells_behind clocks i small long each);
   }
+
+  pub clocks-wide : (clocks : List (List ℕ)) → length clocks ≡ length events → AreClocks events slots width (length events) clocks
+      → All (λ clock. length clock ≡ width) clocks
+  clocks-wide clocks long each k d lt =
+      let there : get_or clocks k d ≡ get_or clocks k [] = get_or_default clocks k d [] lt in
+      rw there (each k (rw long at lt)).wide

@@ -7,9 +7,9 @@ use Rattle.std.proofs.lemmas.List.{append_assoc, length-append, get_or_append_le
 use Rattle.std.proofs.lemmas.List.Elements.{Contains-get_or, Contains-append_left, Contains-append_right, Contains-append_cases, Contains-push, Contains-push_cases}
 use Rattle.pfc_hb.specs.declared.events.Event.{Event}
 use Rattle.pfc_hb.specs.declared.events.Race.{Race}
-use Rattle.pfc_hb.specs.Order.{event_at, Before, is_before}
+use Rattle.pfc_hb.specs.Order.{event_at, has_same_process, Before, is_before}
 use Rattle.pfc_hb.specs.Conflicts.{have_clash, conflicts, IsRace, Precedes, AreRaces, is_race, race_at, races_with, races_below, races_of}
-use Rattle.pfc_hb.proofs.BeforeLaws.{is_before-decides}
+use Rattle.pfc_hb.proofs.BeforeLaws.{is_before-decides, same_process-before}
 
 -- ## Lists
 
@@ -50,6 +50,11 @@ all_pairs_none R i j d lt within = absurd (omega (arith, within))
 kept-pairs : (R : Race → Race → Type 0) (r : Race) (b : Bool) → AllPairs R (kept r b)
 kept-pairs R r true i j d lt within = absurd (omega (arith, lt, within))
 kept-pairs R r false i j d lt within = absurd (omega (arith, within))
+
+own_ordered : (clash same before : Bool) → (same ≡ true → before ≡ true) → ((clash && not same) && not before) ≡ (clash && not before)
+own_ordered false same before h = refl
+own_ordered true false before h = refl
+own_ordered true true before h = rw (h refl) refl
 
 module _ (events : List Event) where
   -- whether a pair is put in
@@ -99,6 +104,12 @@ module _ (events : List Event) where
       let quiet : conflicts (event_at events i) (event_at events n) ≡ false = and_left _ _ calm in
       let nothing : passes i n ≡ false = and_right _ _ (and_left _ _ quiet) in
       rw (races_with-no_accesses i n none, nothing) refl
+
+  -- events of one process are in order, so the test of the processes adds nothing to that of the order
+  pub race-unordered : (i j : ℕ) → i < j → j < length events → is_race events i j ≡ (have_clash (event_at events i) (event_at events j) && not (is_before events i j))
+  race-unordered i j lt within =
+      own_ordered (have_clash (event_at events i) (event_at events j)) (has_same_process (event_at events i) (event_at events j)) (is_before events i j)
+      (λ s. (is_before-decides events i j within).1 (same_process-before events i j lt within s))
 
   -- one second event more
   pub races_with-step : (i j : ℕ) (start now later : List Race) (racing : Bool) → i < j → racing ≡ is_race events i j

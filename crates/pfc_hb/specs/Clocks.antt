@@ -1,7 +1,7 @@
 -- How the order is kept. Each event has a clock, with one count for each process: how many events of the run, from its first
 -- on, end with the latest event of that process that is before this event or is it. So an event is before another exactly
 -- where the other's clock counts past it.
-use Rattle.std.specs.Prelude.{◌≡◌, ℕ, ◌+◌, ◌<◌, ◌≤◌, Bool, true, false, ◌||◌, nat_lt, List, [], length, slice_index, slice_index_or}
+use Rattle.std.specs.Prelude.{◌≡◌, ℕ, ◌+◌, ◌<◌, ◌≤◌, Bool, true, false, ◌||◌, nat_lt, List, [], length, map, slice_index, slice_index_or}
 use Rattle.std.specs.List.{list_any}
 use Rattle.pfc_hb.specs.declared.events.Event.{Event}
 use Rattle.pfc_hb.specs.declared.objects.Thing.{Thing}
@@ -65,13 +65,18 @@ Keeps slots before after = (k : ℕ) → Has slots before k → Has slots after 
 abbrev pub HasAll : List Event → List ℕ → (Event → Event → Bool) → ℕ → List ℕ → Type 0
 HasAll events slots test j clock = (k : ℕ) → k < j → test (event_at events k) (event_at events j) ≡ true → Has slots clock k
 
--- whether the clock of the later event counts past the earlier one
-abbrev pub counts_past : List ℕ → List (List ℕ) → ℕ → ℕ → Bool
-counts_past slots clocks i j = nat_lt i (slice_index (slice_index_or clocks j []) (slice_index slots i))
+-- for each of the slots of these clocks the counts that all of them have there
+pub record AreColumns (clocks : List (List ℕ)) (width : ℕ) (columns : List (List ℕ)) : Type 0 where
+  pub each : length columns ≡ width
+  pub column : (slot : ℕ) → slot < width → slice_index_or columns slot [] ≡ map (λ clock. slice_index clock slot) clocks
 
--- slots and clocks that tell the order of these events
-pub record TellOrder (events : List Event) (slots : List ℕ) (clocks : List (List ℕ)) : Type 0 where
+-- The counts of the process of the event at i in the clocks of all events. A later event is behind it where the count stands past it.
+pub record TellsBehind (events : List Event) (i : ℕ) (column : List ℕ) : Type 0 where
+  pub wide : length column ≡ length events
+  pub told : (j : ℕ) → i < j → j < length events → nat_lt i (slice_index column j) ≡ is_before events i j
+
+-- slots and columns that tell the order of these events
+pub record TellOrder (events : List Event) (slots : List ℕ) (columns : List (List ℕ)) : Type 0 where
   pub slotted : length slots ≡ length events
-  pub clocked : length clocks ≡ length events
-  pub within : (i j : ℕ) → i < length events → j < length events → slice_index slots i < length (slice_index_or clocks j [])
-  pub told : (i j : ℕ) → i < j → j < length events → counts_past slots clocks i j ≡ is_before events i j
+  pub within : (i : ℕ) → i < length events → slice_index slots i < length columns
+  pub told : (i : ℕ) → i < length events → TellsBehind events i (slice_index_or columns (slice_index slots i) [])

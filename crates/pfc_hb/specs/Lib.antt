@@ -1,4 +1,6 @@
 pub mod Clocks
 pub mod Conflicts
+pub mod Keys
 pub mod Lines
 pub mod Order
+pub mod Rows

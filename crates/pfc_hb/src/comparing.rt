@@ -1,10 +1,12 @@
 //! What two events have in common.
-ghost use Rattle.std.specs.Prelude.{◌≡◌, ◌||◌, ◌&&◌};
+ghost use Rattle.std.specs.Prelude.{◌≡◌, ◌≤◌, ◌||◌, ◌&&◌, length};
 ghost use Rattle.std.specs.List.{list_any, starts_with};
 ghost use Rattle.std.specs.Ordering.{int_eq};
+ghost use Rattle.std.specs.Bool.{Decides};
 ghost use Rattle.pfc_hb.specs.Clocks.{has_thing, reaches};
-ghost use Rattle.pfc_hb.specs.Conflicts.{clashes, clashes_with, conflicts, have_clash, overlaps, writes_against};
+ghost use Rattle.pfc_hb.specs.Conflicts.{clashes, clashes_with, overlaps, writes_against};
 ghost use Rattle.pfc_hb.specs.Order.{is_same_thing};
+ghost use Rattle.pfc_hb.specs.Rows.{is_same_access};
 
 use crate::{Access, Event, Thing};
 
@@ -32,25 +34,38 @@ fn are_same(first: Thing, second: Thing) -> bool
     first == second
 }
 
-/// Whether two events of different processes have accesses that clash.
-pub(crate) fn are_in_conflict(first: &Event, second: &Event) -> bool
-    ensures { result ≡ conflicts first.now second.now }
+/// Whether an access clashes with some access of an event.
+pub(crate) fn clashes_with_event(access: &Access, event: &Event) -> bool
+    ensures { result ≡ clashes_with event.now access.now }
 {
-    have_clashing_accesses(first, second) && first.process != second.process
+    let others = event.accesses.as_slice();
+    if others.len() == 1 {
+        // nearly all events that have accesses have one
+        return do_clash(access, &others[0]);
+    }
+    clashes_with_some(access, others)
 }
 
-fn have_clashing_accesses(first: &Event, second: &Event) -> bool
-    ensures { result ≡ have_clash first.now second.now }
+/// Whether the accesses of two events are the same, one by one.
+pub(crate) fn have_same_accesses(first: &Event, second: &Event) -> bool
+    ensures { Decides result (first.now.accesses ≡ second.now.accesses) }
 {
     let accesses = first.accesses.as_slice();
     let others = second.accesses.as_slice();
-    if accesses.len() == 1 && others.len() == 1 {
-        // nearly all events that have accesses have one
-        return do_clash(&accesses[0], &others[0]);
-    }
-    accesses
-        .iter()
-        .any(|access| clashes_with_some(access, others))
+    accesses.len() == others.len()
+        && accesses
+            .iter()
+            .zip(others)
+            .all(|(access, other)| is_same(access, other))
+}
+
+fn is_same(first: &Access, second: &Access) -> bool
+    ensures { result ≡ is_same_access first.now second.now }
+{
+    first.spot.variable == second.spot.variable
+        && first.spot.activation == second.spot.activation
+        && first.write == second.write
+        && first.spot.path.steps() == second.spot.path.steps()
 }
 
 /// Whether a write of the first event takes part in its conflict with the second.
@@ -65,6 +80,8 @@ pub(crate) fn has_write_against(first: &Event, second: &Event) -> bool
         .any(|access| access.write && clashes_with_some(access, others))
 }
 
+// It stands apart, so that loops over events that have one access stay short.
+#[inline(never)]
 fn clashes_with_some(access: &Access, others: &[Access]) -> bool
     ensures { result ≡ list_any (clashes access.now) others.now }
 {
@@ -84,5 +101,30 @@ fn do_clash(first: &Access, second: &Access) -> bool
 fn do_overlap(path: &[i32], other: &[i32]) -> bool
     ensures { result ≡ overlaps path.now other.now }
 {
-    path.is_empty() || other.is_empty() || path.starts_with(other) || other.starts_with(path)
+    path.is_empty() || other.is_empty() || path[0] == other[0] && does_one_begin(path, other)
+}
+
+// It stands apart, since few paths have the same first step.
+#[inline(never)]
+fn does_one_begin(path: &[i32], other: &[i32]) -> bool
+    ensures { result ≡ overlaps path.now other.now }
+{
+    if path.len() <= other.len() {
+        does_begin_with(other, path)
+    } else {
+        does_begin_with(path, other)
+    }
+}
+
+/// Whether a path begins with one that is no longer.
+fn does_begin_with(path: &[i32], front: &[i32]) -> bool
+    requires { length front.now ≤ length path.now }
+    ensures { result ≡ starts_with int_eq path.now front.now }
+{
+    for place in 0..front.len() {
+        if path[place] != front[place] {
+            return false;
+        }
+    }
+    true
 }

@@ -7,12 +7,15 @@
 
 mod accesses;
 mod clocks;
+mod columns;
 mod comparing;
 mod events;
+mod keys;
 mod lines;
 mod objects;
 mod order;
 mod pairs;
+mod rows;
 mod slots;
 
 pub use accesses::{Access, Accesses, Path, Spot};

@@ -1,49 +1,49 @@
 //! The order of the events of a run, kept as their clocks.
 ghost use Rattle.std.specs.Prelude.{◌≡◌, ◌<◌, ◌≤◌, ℕ, true, [], IfOk, MatchOption, length, slice_index_or, slice_index};
-ghost use Rattle.pfc_hb.specs.Clocks.{AreClocks, AreSlots, Gathers, Has, HasAll, IsClock, IsLastWith, Keeps, NoneWith, TellOrder, counts_past, has_thing, leads, reaches};
+ghost use Rattle.pfc_hb.specs.Clocks.{AreClocks, AreSlots, Gathers, Has, HasAll, IsClock, IsLastWith, Keeps, NoneWith, TellOrder, has_thing, leads, reaches};
 ghost use Rattle.pfc_hb.specs.Order.{Before, event_at, shares_thing};
 
 use crate::clocks::Clock;
+use crate::columns::{Column, columns_of};
 use crate::comparing::{has_object, reaches_process};
 use crate::slots::{Slots, slots_of};
 use crate::{Event, Thing};
 use pfc_base::Memory;
 use std::alloc::Global;
 
-/// The order of some events: for each the slot of its process, and its clock.
+/// The order of some events: for each the slot of its process, and for each slot its column.
 #[derive(Drop)]
 pub(crate) struct Order {
     pub(crate) slots: Vec<usize>,
-    pub(crate) clocks: Vec<Clock>,
+    pub(crate) columns: Vec<Column>,
 }
 
 impl Order {
-    /// Whether the clock of the second event, the later one, counts past the first.
-    pub(crate) fn is_before(&self, first: usize, second: usize) -> bool
-        requires first { first < length self.now.slots.items }
-        requires second { second < length self.now.clocks.items }
-        requires slot { slice_index self.now.slots.items first < length (slice_index_or self.now.clocks.items second []) }
-        ensures { result ≡ counts_past self.now.slots.items self.now.clocks.items first second }
+    /// The counts of the process of an event in the clocks of all events.
+    pub(crate) fn column(&self, place: usize) -> &[u32]
+        requires place { place < length self.now.slots.items }
+        requires slot { slice_index self.now.slots.items place < length self.now.columns.items }
+        ensures { result.now ≡ slice_index_or self.now.columns.items (slice_index self.now.slots.items place) [] }
     {
-        let slot = self.slots[first];
-        first < self.clocks[second].count(slot) as usize
+        self.columns[self.slots[place]].as_slice()
     }
 }
 
 /// The order of the events of a run. The only refusal is want of memory.
 pub(crate) fn order_of(alloc: Global, events: &[Event]) -> Result<Order, Memory>
     requires { length events.now ≤ 2000 }
-    ensures { IfOk result (λ order. TellOrder events.now order.slots.items order.clocks.items) }
+    ensures { IfOk result (λ order. TellOrder events.now order.slots.items order.columns.items) }
 {
     let slots = slots_of(alloc, events)?;
     let clocks = clocks_of(alloc, events, &slots)?;
+    let columns = columns_of(alloc, &clocks, slots.width)?;
     let Slots {
         of_events,
         width: _,
     } = slots;
     Ok(Order {
         slots: of_events,
-        clocks,
+        columns,
     })
 }
 

@@ -23,6 +23,10 @@ a part and the whole|1.3r0 2w0|1-2
 two parts|1.3w0 2.4w0|
 a part of a part|1.3w0 2.3.1w0|1-2
 other parts of one part|1.3.2w0 2.3.1w0|
+the same part of other parts|1.1.3w0 2.2.3w0|
+a part of a part of a part|1.3.1w0 2.3.1.2w0 3.3.2.2w0|1-2
+parts three steps deep|1.3.1.2w0 2.3.1.2w0 3.3.1.1w0|1-2
+a part of the third step|1.3.1.2w0 2.3.1.2.1w0 3.3.1.1.1w0|1-2
 several accesses|1r0r1w2 2r1w3w0|1-2
 several accesses, none in conflict|1r0r1w2 2r1r0w3|
 the lost update|1r0 2r0 1w0 2w0|1-4 2-3 3-4
@@ -58,6 +62,9 @@ an object that is met from further back|1w0 1s0 2 2 2s0 2w0|
 a message that is written|1w0c0 2c0r0|
 what orders also conflicts|1s0w0 2s0w0|
 three writers|1w0 2w0 3w0|1-2 1-3 2-3
+two activations in turn|1a0w0 2a1w0 1a0w0 2a1w0 3a0w0 3a1w0|1-5 2-6 3-5 4-6
+two parts of one part in turn|1.3.1w0 2.3.2w0 1.3.1w0 2.3.2w0 3.3w0|1-5 2-5 3-5 4-5
+the same several accesses again|1r0w1 2r0w1 1r0w1 2r0w1|1-2 1-4 2-3 3-4
 in order by the first|2w1 3w1 1w0 3w0 2w0|1-2 3-4 3-5 4-5
 ";
 

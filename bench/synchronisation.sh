@@ -3,6 +3,8 @@
 # a `signal`, the two sides of a message, a call of a monitor and its return, a call of an entry and its `accept`;
 # and what the same actions cost in the table alone: where nobody waits, where one process waits and is woken, where it
 # waits twice, as a caller does, and where a partner is looked for as well, as for a message. There are 64 processes.
+# The last two have 1,002: a `resume` and a new `delay` where 1,000 wait at one condition, and the two that look for a
+# partner where 1,000 wait at channels of their own.
 # It works on a copy of the repository, to which it adds a small program; needs rt and valgrind.
 set -e
 top=$(cd "$(dirname "$0")/.." && pwd)
@@ -12,7 +14,7 @@ cp -r "$top/crates" "$top/crates.txt" "$copy"
 cd "$copy"
 git init -q .
 echo "pairs: pfc_base pfc_state pfc_world pfc_pass pfc_monitor pfc_meet" >> crates.txt
-mkdir -p crates/pairs/{src,specs,proofs/{create_all,repeat}}
+mkdir -p crates/pairs/{src,specs,proofs/{create_all,repeat,delay_all,send_all}}
 cd crates/pairs
 touch specs/Lib.antt proofs/Lib.antt
 cat > src/main.rt <<'PROGRAM'
@@ -21,7 +23,7 @@ ghost use Rattle.std.specs.Prelude.{◌≡◌, None, Some, MatchOption};
 ghost use Rattle.pfc_world.specs.Tickets.{IsNew};
 
 use pfc_meet::{Accepted, Called, Uncalled, accept, call_entry, end_accept};
-use pfc_monitor::{Monitors, enter, leave};
+use pfc_monitor::{Monitors, delay, enter, leave, resume};
 use pfc_pass::{Passed, Semaphores, receive, sem_signal, sem_wait, send};
 use pfc_world::{After, Arm, Running, State, Why, World};
 use std::env;
@@ -226,6 +228,90 @@ fn call_and_accept(world: &mut World)
     free(world);
 }
 
+/// A process enters the monitor.
+fn enter_alone(world: &mut World, mons: &mut Monitors, p: u32)
+    requires { world.old.acting ≡ None }
+    ensures { world.new.acting ≡ None }
+{
+    if !mons.has(0) {
+        return;
+    }
+    if let Some(r) = next_action(world, p) {
+        let entered = enter(world, mons, r, 0);
+        match entered {
+            After::Goes(r) => world.rest(r),
+            After::Waits => {}
+        }
+    }
+}
+
+/// The holder of the monitor waits at its condition.
+fn delay_holder(world: &mut World, mons: &mut Monitors)
+    requires { world.old.acting ≡ None }
+    ensures { world.new.acting ≡ None }
+{
+    if !mons.has_condition(0) {
+        return;
+    }
+    let m = mons.monitor_of(0);
+    if let Some(p) = mons.holder(m) {
+        if let Some(r) = next_action(world, p) {
+            if mons.holder(m) == Some(r.number()) {
+                let _ = delay(world, mons, r, 0, 0);
+            } else {
+                world.rest(r);
+            }
+        }
+    }
+}
+
+/// The holder of the monitor resumes the first that waits at its condition, which waits there anew.
+fn resume_and_delay(world: &mut World, mons: &mut Monitors)
+    requires { world.old.acting ≡ None }
+    ensures { world.new.acting ≡ None }
+{
+    if !mons.has_condition(0) {
+        return;
+    }
+    let m = mons.monitor_of(0);
+    if let Some(r) = next_action(world, 1) {
+        if mons.holder(m) == Some(r.number()) {
+            let resumed = resume(world, mons, r, 0);
+            match resumed {
+                After::Goes(r) => world.rest(r),
+                After::Waits => {}
+            }
+        } else {
+            world.rest(r);
+        }
+    }
+    delay_holder(world, mons);
+}
+
+/// All but the first three wait at the condition, and process 1 holds its monitor.
+fn delay_all(world: &mut World, mons: &mut Monitors)
+    requires { world.old.acting ≡ None }
+    ensures { world.new.acting ≡ None }
+{
+    for p in 3..1002 {
+        enter_alone(world, mons, p);
+        delay_holder(world, mons);
+    }
+    enter_alone(world, mons, 1);
+}
+
+/// All but the first three wait to send, each to a channel of its own.
+fn send_all(world: &mut World)
+    requires { world.old.acting ≡ None }
+    ensures { world.new.acting ≡ None }
+{
+    for p in 3..1002 {
+        if let Some(r) = next_action(world, p) {
+            world.block(r, Why::Send(p));
+        }
+    }
+}
+
 fn pair(world: &mut World, sems: &mut Semaphores, mons: &mut Monitors, case: usize)
     requires { world.old.acting ≡ None }
     ensures { world.new.acting ≡ None }
@@ -238,7 +324,8 @@ fn pair(world: &mut World, sems: &mut Semaphores, mons: &mut Monitors, case: usi
         6 => message(world),
         7 => enter_and_leave(world, mons),
         8 => call_and_accept(world),
-        9 => look_and_wake(world),
+        9 | 11 => look_and_wake(world),
+        10 => resume_and_delay(world, mons),
         _ => {}
     }
 }
@@ -259,22 +346,28 @@ fn main(rt: HostRuntime) -> ExitCode {
         Ok(words) => words,
         Err(_) => return ExitCode::from(8),
     };
-    let Ok(mut world) = World::with_processes(rt.alloc(), 64, 4) else {
+    let n = if words.len() > 9 { 1_002 } else { 64 };
+    let Ok(mut world) = World::with_processes(rt.alloc(), n, 4, n) else {
         return ExitCode::from(8);
     };
     let Ok(mut sems) = Semaphores::new(rt.alloc(), 1) else {
         return ExitCode::from(8);
     };
-    let Ok(mut mons) = Monitors::new(rt.alloc(), 1, &[]) else {
+    let Ok(mut mons) = Monitors::new(rt.alloc(), 1, &[0]) else {
         return ExitCode::from(8);
     };
     create_all(&mut world);
     start_all(&mut world);
+    match words.len() {
+        10 => delay_all(&mut world, &mut mons),
+        11 => send_all(&mut world),
+        _ => {}
+    }
     repeat(&mut world, &mut sems, &mut mons, words.len());
     ExitCode::from(0)
 }
 PROGRAM
-for loop in create_all:p repeat:i; do
+for loop in create_all:p repeat:i delay_all:p send_all:p; do
     function=${loop%:*}
     variable=${loop#*:}
     cat > proofs/$function/Invariants.antt <<PROOF
@@ -298,3 +391,5 @@ counted "a wait and a signal that ends it" a a a a
 counted "a message, where the sender waits" a a a a a
 counted "a call of a free monitor and its return" a a a a a a
 counted "a call of an entry, its accept and the end of the meeting" a a a a a a a
+counted "a resume and a new delay, where 1,000 wait at one condition" a a a a a a a a a
+counted "two actions that look for a partner, one that waits and one that wakes it, where 1,000 wait at channels of their own" a a a a a a a a a a

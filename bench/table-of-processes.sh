@@ -125,7 +125,7 @@ fn main(rt: HostRuntime) -> ExitCode {
         8 => 64,
         _ => 1024,
     };
-    let Ok(mut world) = World::with_processes(rt.alloc(), n, 4) else {
+    let Ok(mut world) = World::with_processes(rt.alloc(), n, 4, n) else {
         return ExitCode::from(8);
     };
     if case > 2 {

@@ -14,6 +14,20 @@ use pfc_rewriting::{Going, next_deed};
 use std::alloc::Global;
 use std::mem;
 
+/// This is at hand. Before it there was mostly nothing, which takes no work to let go of.
+fn hold<'t>(place: &mut At<'t>, at: At<'t>)
+    ensures { place.new ≡ at.entry }
+{
+    match mem::replace(place, at) {
+        At::Rest => {}
+        before => let_go(before),
+    }
+}
+
+/// Lets go of what was at hand.
+#[inline(never)]
+fn let_go<'t>(_before: At<'t>) {}
+
 /// The one action that comes next for what a process is at. What is left behind it is pending then. Its only refusal is want of memory,
 /// which leaves the process before the same action.
 fn rewrite<'t>(
@@ -30,9 +44,10 @@ fn rewrite<'t>(
         pending: mem::replace(&mut doing.pending, Vec::new(alloc)),
     };
     let came = next_deed(alloc, program, &mut doing.names, &mut going);
-    doing.line = going.line;
-    doing.at = going.at;
-    doing.pending = going.pending;
+    let Going { line, at, pending } = going;
+    doing.line = line;
+    hold(&mut doing.at, at);
+    drop(mem::replace(&mut doing.pending, pending));
     came
 }
 

@@ -74,7 +74,7 @@ pub fn activate<'t>(
     };
     let types = source.program.tables.types;
     let display = &state.activities[p as usize].display;
-    let beginning = prepare(
+    let Ok(beginning) = prepare(
         alloc,
         types,
         &state.store,
@@ -82,9 +82,18 @@ pub fn activate<'t>(
         place.number,
         block,
         args,
-    )?;
-    make_room(&mut state.activities[p as usize])?;
-    state.store.add(place.number, beginning.values)?;
+    ) else {
+        drop(doing);
+        return Err(Memory);
+    };
+    let Ok(()) = make_room(&mut state.activities[p as usize]) else {
+        drop(doing);
+        return Err(Memory);
+    };
+    let Ok(()) = state.store.add(place.number, beginning.values) else {
+        drop(doing);
+        return Err(Memory);
+    };
     enter(
         &mut state.activities[p as usize],
         place,
@@ -141,12 +150,18 @@ fn enter<'t>(
     requires { vec_len activity.old.activations + 1 ≤ vec_capacity activity.old.activations }
     ensures { (t : Tables) → activity_shown t activity.new ≡ entered t activity.old place.number place.scope entry doing.entry display }
 {
-    let before = mem::replace(&mut activity.doing, doing);
+    let Doing {
+        names,
+        line,
+        at,
+        pending,
+    } = mem::replace(&mut activity.doing, doing);
+    drop(at);
     let back = mem::replace(&mut activity.display, display);
-    activity.hand = Hand::Empty;
+    drop(mem::replace(&mut activity.hand, Hand::Empty));
     let caller = match entry.waits {
-        Waits::Statement => Caller::Remainder(before.names, before.pending),
-        Waits::Value => Caller::Value(before.names, before.line, before.pending),
+        Waits::Statement => Caller::Remainder(names, pending),
+        Waits::Value => Caller::Value(names, line, pending),
     };
     let activation = Activation {
         number: place.number,
@@ -156,5 +171,5 @@ fn enter<'t>(
         display: back,
         cells: entry.cells,
     };
-    activity.activations.push(activation).unwrap();
+    activity.activations.push_reserved(activation);
 }

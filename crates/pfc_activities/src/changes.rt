@@ -9,6 +9,7 @@ ghost use Rattle.pfc_activities.specs.Relation.{IsIn, MayAct, IsKept, GoesOn, Is
 use crate::{Hand, State};
 use pfc_base::RunFault;
 use pfc_pending::At;
+use std::mem;
 
 /// What an action was.
 #[derive(Clone, Copy, Debug, PartialEq, Eq)]
@@ -18,6 +19,10 @@ pub enum Done {
     /// A fault, at a line from 1.
     Faulted { line: u32, fault: RunFault },
 }
+
+/// Lets go of what was at hand.
+#[inline(never)]
+fn let_go<'t>(_before: At<'t>) {}
 
 impl<'t> State<'t> {
     /// The line of the statement that the process is at.
@@ -37,8 +42,14 @@ impl<'t> State<'t> {
         ensures world { self.new.world ≡ self.old.world }
     {
         let activity = &mut self.activities[p as usize];
-        activity.doing.at = at;
-        activity.hand = Hand::Empty;
+        match mem::replace(&mut activity.doing.at, at) {
+            At::Rest => {}
+            before => let_go(before),
+        }
+        match mem::replace(&mut activity.hand, Hand::Empty) {
+            Hand::Empty => {}
+            shown => drop(shown),
+        }
     }
 
     /// An action of the process was done at this line.

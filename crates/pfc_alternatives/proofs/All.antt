@@ -11,10 +11,11 @@ use Rattle.pfc_alternatives.specs.Nodes.{Nodes, node_at, IsProcess, IsIn, AreBef
 use Rattle.pfc_alternatives.proofs.One.{IsOfferedOne, IsWithdrawnOne}
 
 pub others-kept : (nodes : Nodes) (p : ℕ) → KeepsOthers nodes nodes p
-others-kept nodes p = record { room = refl; long = refl; others = λ q k away lt. refl }
+others-kept nodes p = record { places = refl; room = refl; long = refl; others = λ q k away lt. refl }
 
 pub others-more : (a b c : Nodes) (p : ℕ) → KeepsOthers a b p → KeepsOthers b c p → KeepsOthers a c p
 others-more a b c p h g = record {
+  places = g.places ∙ h.places;
   room = g.room ∙ h.room;
   long = g.long ∙ h.long;
   others = λ q k away lt. g.others q k away (subst (λ n. k < n) (sym h.room) lt) ∙ h.others q k away lt;
@@ -38,7 +39,7 @@ any = Send 0
 pub record IsOffering (old new : Nodes) (p : ℕ) (arms : List Arm) (place ticket : ℕ) : Type 0 where
   pub others : KeepsOthers old new p
   pub only : AreBefore new p place ticket
-  pub offered : (j : ℕ) → j < place → IsIn new p (list_of (get_or arms j any)) ticket
+  pub offered : (j : ℕ) → j < place → IsIn new p (list_of old.places (get_or arms j any)) ticket
 
 pub offering-starts : (nodes : Nodes) (p : ℕ) (arms : List Arm) (ticket : ℕ) → AreBefore nodes p 0 ticket → IsOffering nodes nodes p arms 0 ticket
 offering-starts nodes p arms ticket free = record {
@@ -48,34 +49,35 @@ offering-starts nodes p arms ticket free = record {
 }
 
 pub offering-more : (old mid new : Nodes) (p : ℕ) (arms : List Arm) (arm : Arm) (place ticket : ℕ) → IsOffering old mid p arms place ticket → arm ≡ get_or arms place any
-    → IsOfferedOne mid new p place (list_of arm) ticket → IsOffering old new p arms (place + 1) ticket
+    → IsOfferedOne mid new p place (list_of mid.places arm) ticket → IsOffering old new p arms (place + 1) ticket
 offering-more old mid new p arms arm place ticket h is one = record {
   others = others-more old mid new p h.others one.others;
   only = one.only;
   offered = λ j lt. elim (cases_eq j place) [
-    | inl here ↦ subst (λ n. IsIn new p n ticket) (ap list_of (is ∙ ap (λ n. get_or arms n any) (sym here))) one.offered
-    | inr other ↦ one.kept (list_of (get_or arms j any)) (h.offered j (omega (arith, lt, other)))
+    | inl here ↦ subst (λ n. IsIn new p n ticket) (ap (λ n. list_of n arm) h.others.places ∙ ap (list_of old.places) (is ∙ ap (λ n. get_or arms n any) (sym here))) one.offered
+    | inr other ↦ one.kept (list_of old.places (get_or arms j any)) (h.offered j (omega (arith, lt, other)))
   ];
 }
 
 -- the same alternative is in the same list
-same-list : (a b : Arm) → same_arm a b ≡ true → list_of a ≡ list_of b
-same-list (Send c) (Send d) h = ap (λ n. list_of (Send n)) (eqb-true c d h)
-same-list (Receive c) (Receive d) h = ap (λ n. list_of (Receive n)) (eqb-true c d h)
-same-list (Accept e) (Accept f) h = ap (λ n. list_of (Accept n)) (eqb-true e f h)
-same-list _ _ h = cc
+same-list : (places : ℕ) (a b : Arm) → same_arm a b ≡ true → list_of places a ≡ list_of places b
+same-list places (Send c) (Send d) h = ap (λ n. list_of places (Send n)) (eqb-true c d h)
+same-list places (Receive c) (Receive d) h = ap (λ n. list_of places (Receive n)) (eqb-true c d h)
+same-list places (Accept e) (Accept f) h = ap (λ n. list_of places (Accept n)) (eqb-true e f h)
+same-list places _ _ h = cc
 
 -- an alternative that is offered is so at a place
-found : (P : ℕ → Type 0) (arm : Arm) (arms : List Arm) → ((j : ℕ) → j < length arms → P (list_of (get_or arms j any))) → has_arm arm arms ≡ true → P (list_of arm)
-found P arm [] h is = cc
-found P arm (a ∷ rest) h is = go (same_arm a arm) refl (found P arm rest (λ j lt. h (suc j) (omega (arith, lt)))) is
+found : (P : ℕ → Type 0) (places : ℕ) (arm : Arm) (arms : List Arm) → ((j : ℕ) → j < length arms → P (list_of places (get_or arms j any))) → has_arm arm arms ≡ true → P (list_of places arm)
+found P places arm [] h is = cc
+found P places arm (a ∷ rest) h is = go (same_arm a arm) refl (found P places arm rest (λ j lt. h (suc j) (omega (arith, lt)))) is
   where
-    go : (b : Bool) → same_arm a arm ≡ b → (has_arm arm rest ≡ true → P (list_of arm)) → (b || has_arm arm rest) ≡ true → P (list_of arm)
-    go true same ih e = subst P (same-list a arm same) (h 0 (omega arith))
+    go : (b : Bool) → same_arm a arm ≡ b → (has_arm arm rest ≡ true → P (list_of places arm)) → (b || has_arm arm rest) ≡ true → P (list_of places arm)
+    go true same ih e = subst P (same-list places a arm same) (h 0 (omega arith))
     go false same ih e = ih e
 
-pub offering-ends : (old new : Nodes) (p : ℕ) (arms : List Arm) (ticket : ℕ) → IsOffering old new p arms (length arms) ticket → (arm : Arm) → has_arm arm arms ≡ true → IsIn new p (list_of arm) ticket
-offering-ends old new p arms ticket h arm is = found (λ n. IsIn new p n ticket) arm arms h.offered is
+pub offering-ends : (old new : Nodes) (p : ℕ) (arms : List Arm) (ticket : ℕ) → IsOffering old new p arms (length arms) ticket → (arm : Arm) → has_arm arm arms ≡ true
+    → IsIn new p (list_of old.places arm) ticket
+offering-ends old new p arms ticket h arm is = found (λ n. IsIn new p n ticket) old.places arm arms h.offered is
 
 -- So many of the places are taken out.
 pub record IsWithdrawing (old new : Nodes) (p place : ℕ) : Type 0 where

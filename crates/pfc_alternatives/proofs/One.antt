@@ -54,6 +54,7 @@ put-in nodes new p place list ticket is process lt before = subst (λ v. IsOffer
   };
   only = record { only = λ k l t low h. only k l t low (cases_eq k place) h };
   others = record {
+    places = refl;
     room = refl;
     long = length-set nodes.members (p * nodes.room + place) (in_list list ticket);
     others = λ q k away low. node-of-another nodes p q place k (in_list list ticket) away lt low;
@@ -87,7 +88,7 @@ put-by nodes p place list ticket before h = record {
   };
   kept = λ l is. is;
   only = record { only = λ k l t low is. let old : (k < place) × (t ≡ ticket) = before.only k l t low is in (omega (arith, old.0), old.1) };
-  others = record { room = refl; long = refl; others = λ q k away low. refl };
+  others = record { places = refl; room = refl; long = refl; others = λ q k away low. refl };
 }
 
 pub record IsWithdrawnOne (old new : Nodes) (p place : ℕ) : Type 0 where
@@ -100,6 +101,7 @@ take-out nodes new p place is process lt = subst (λ v. IsWithdrawnOne nodes v p
   none = node-same nodes p place None (place-of-process (p * nodes.room) nodes.room (length nodes.members) place process lt);
   rest = λ k away low. node-other nodes p place k None away;
   others = record {
+    places = refl;
     room = refl;
     long = length-set nodes.members (p * nodes.room + place) None;
     others = λ q k away low. node-of-another nodes p q place k None away lt low;
@@ -110,7 +112,7 @@ pub none-out : (nodes : Nodes) (p place : ℕ) → is_some (node_at nodes p plac
 none-out nodes p place h = record {
   none = none-of (node_at nodes p place) h;
   rest = λ k away low. refl;
-  others = record { room = refl; long = refl; others = λ q k away low. refl };
+  others = record { places = refl; room = refl; long = refl; others = λ q k away low. refl };
 }
   where
     none-of : (o : Option Member) → is_some o ≡ false → o ≡ None

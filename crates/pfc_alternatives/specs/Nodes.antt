@@ -5,8 +5,11 @@ use Rattle.pfc_links.specs.declared.links.Member.{Member}
 use Rattle.pfc_links.specs.Members.{Lists, member_at, in_list, IsLast}
 use Rattle.pfc_alternatives.specs.Lists.{list_count}
 
--- What each place is a member of: those of a process stand one behind the other, and so do the processes.
+-- What each place is a member of: those of a process stand one behind the other, and so do the processes; and how many
+-- lists there are.
 pub record Nodes : Type 0 where
+  -- how many lists each kind of alternatives has
+  pub places : ℕ
   pub room : ℕ
   pub members : List (Option Member)
 
@@ -40,11 +43,14 @@ pub record IsLastOf (nodes : Nodes) (list p : ℕ) : Type 0 where
 
 -- As many places are there after as before, and those of other processes than p stay what they are.
 pub record KeepsOthers (old new : Nodes) (p : ℕ) : Type 0 where
+  pub places : new.places ≡ old.places
   pub room : new.room ≡ old.room
   pub long : length new.members ≡ length old.members
   pub others : (q k : ℕ) → q ≢ p → k < old.room → node_at new q k ≡ node_at old q k
 
 -- the lists are those of the alternatives, and their places have numbers
-pub record AreNodes (nodes : Lists) : Type 0 where
-  pub lists : nodes.lists ≡ list_count
+pub record AreNodes (places : ℕ) (nodes : Lists) : Type 0 where
+  pub some : 0 < places
+  pub most : places ≤ 262144
+  pub lists : nodes.lists ≡ list_count places
   pub few : length nodes.members < 2 ^ 31

@@ -6,7 +6,7 @@ ghost use Rattle.pfc_state.specs.Waits.{has_arm};
 ghost use Rattle.pfc_alternatives.specs.Lists.{list_count, list_of};
 ghost use Rattle.pfc_alternatives.specs.Nodes.{node_at, IsProcess, IsIn, AreBefore, AreEarlier, IsLastOf, KeepsOthers};
 
-use crate::lists::{LISTS, list_of};
+use crate::lists::{list_of, places_for};
 use pfc_base::Memory;
 use pfc_links::Links;
 use pfc_state::Arm;
@@ -18,6 +18,8 @@ use std::marker::Model;
 /// all. A contract sees what each place of each process is a member of.
 #[derive(Drop)]
 pub struct Alternatives {
+    /// how many lists each kind of alternatives has
+    places: u32,
     /// how many alternatives each process has room for
     room: u32,
     /// the places: those of a process stand one behind the other
@@ -29,16 +31,24 @@ impl Model for Alternatives {
 
     ghost Value = { Nodes };
 
-    ghost view = { λ a. record { room = a.room; members = a.nodes.members } };
+    ghost view = { λ a. record { places = a.places; room = a.room; members = a.nodes.members } };
 
-    ghost invariant = { λ a. AreNodes a.nodes };
+    ghost invariant = { λ a. AreNodes a.places a.nodes };
 }
 
 impl Alternatives {
-    /// Nobody waits with any; there is room for so many processes with so many alternatives each. Its only
-    /// refusal is want of memory; no other call takes memory.
-    pub fn new(alloc: Global, processes: u32, room: u32) -> Result<Alternatives, Memory>
-        ensures { IfOk result (λ a. a ≡ record { room = room; members = replicate (processes * room) None }) }
+    /// Nobody waits with any; there is room for so many processes with so many alternatives each. Each kind of
+    /// alternatives has as many lists as there are objects, but at least one and at most 262,144: where all numbers of
+    /// channels and entries are below this, no two share a list. Its only refusal is want of memory, which it takes for
+    /// each place and each list; no other call takes memory.
+    pub fn new(
+        alloc: Global,
+        processes: u32,
+        room: u32,
+        objects: u32,
+    ) -> Result<Alternatives, Memory>
+        ensures room { IfOk result (λ a. a.room ≡ room) }
+        ensures members { IfOk result (λ a. a.members ≡ replicate (processes * room) None) }
     {
         let Some(places) = processes.checked_mul(room) else {
             return Err(Memory);
@@ -46,17 +56,19 @@ impl Alternatives {
         if places >= MOST_PLACES {
             return Err(Memory);
         }
+        let lists = places_for(objects);
         Ok(Alternatives {
+            places: lists,
             room,
-            nodes: Links::new(alloc, places, LISTS)?,
+            nodes: Links::new(alloc, places, lists * 3)?,
         })
     }
 
     /// The first in the list of an alternative.
     pub fn first(&self, arm: Arm) -> Option<u32>
-        ensures { MatchOption result (IsEmpty self.now.members (list_of arm)) (IsFirst self.now.members (list_of arm)) }
+        ensures { MatchOption result (IsEmpty self.now.members (list_of self.now.places arm)) (IsFirst self.now.members (list_of self.now.places arm)) }
     {
-        self.nodes.first(list_of(arm))
+        self.nodes.first(list_of(self.places, arm))
     }
 
     /// What is behind a place in its list.
@@ -83,7 +95,7 @@ impl Alternatives {
         requires free { AreBefore self.old p 0 ticket }
         requires last { AreEarlier self.old p ticket }
         requires from_one { 0 < ticket }
-        ensures offered { (arm : Arm) → has_arm arm arms.now ≡ true → IsIn self.new p (list_of arm) ticket }
+        ensures offered { (arm : Arm) → has_arm arm arms.now ≡ true → IsIn self.new p (list_of self.old.places arm) ticket }
         ensures only { AreBefore self.new p (length arms.now) ticket }
         ensures others { KeepsOthers self.old self.new p }
     {
@@ -122,12 +134,12 @@ impl Alternatives {
         requires free { AreBefore self.old p place ticket }
         requires last { AreEarlier self.old p ticket }
         requires from_one { 0 < ticket }
-        ensures offered { IsIn self.new p (list_of arm) ticket }
+        ensures offered { IsIn self.new p (list_of self.old.places arm) ticket }
         ensures kept { (list : ℕ) → IsIn self.old p list ticket → IsIn self.new p list ticket }
         ensures only { AreBefore self.new p (place + 1) ticket }
         ensures others { KeepsOthers self.old self.new p }
     {
-        let list = list_of(arm);
+        let list = list_of(self.places, arm);
         if self.last_process(list) != Some(p) {
             let node = self.node(p, place);
             self.nodes.append(node, list, ticket);
@@ -149,7 +161,7 @@ impl Alternatives {
 
     /// Whose place is the last of a list.
     fn last_process(&self, list: u32) -> Option<u32>
-        requires known { list < list_count }
+        requires known { list < list_count self.now.places }
         requires room { 0 < self.now.room }
         ensures { MatchOption result (IsEmpty self.now.members list) (IsLastOf self.now list) }
     {

@@ -18,7 +18,11 @@ use std::alloc::Global;
 fn put_part<'t>(pending: &mut Vec<Pending<'t>>, part: Pending<'t>) -> Result<(), Memory>
     ensures { OnOk result ((t : Tables) → waiting t pending.new.items ≡ over t (waiting t pending.old.items) part.entry) }
 {
-    pending.push(part)?;
+    let Ok(()) = pending.reserve(1) else {
+        drop(part);
+        return Err(Memory);
+    };
+    pending.push_reserved(part);
     Ok(())
 }
 
@@ -27,7 +31,8 @@ fn put_part<'t>(pending: &mut Vec<Pending<'t>>, part: Pending<'t>) -> Result<(),
 fn put_names<'t>(pending: &mut Vec<Pending<'t>>, names: Names) -> Result<(), Memory>
     ensures { OnOk result ((t : Tables) → remainder_of (waiting t pending.new.items) ≡ in_names (names_view t names) (remainder_of (waiting t pending.old.items))) }
 {
-    pending.push(Pending::InNames(names))?;
+    pending.reserve(1)?;
+    pending.push_reserved(Pending::InNames(names));
     Ok(())
 }
 
@@ -90,7 +95,8 @@ pub(crate) fn main_pending<'t>(
     ensures { IfOk result (λ pending. (t : Tables) → remainder_of (waiting t pending.items) ≡ initialising (blocks_view t program.now.modules.items) (in_names (names_view t program.now.main.names) (body_of (block_view t program.now.main)))) }
 {
     let mut pending = Vec::new(alloc);
-    pending.push(Pending::Ends(program.main.last_line))?;
+    pending.reserve(1)?;
+    pending.push_reserved(Pending::Ends(program.main.last_line));
     put_body(alloc, &program.main, &mut pending)?;
     put_modules(alloc, &program.modules, &mut pending)?;
     Ok(pending)

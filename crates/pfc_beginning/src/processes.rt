@@ -40,16 +40,19 @@ fn main_process<'t>(alloc: Global, source: &Source<'t>) -> Result<Activity<'t>, 
     ensures { IfOk result (λ a. (variables : List Value) → shown (main_activity (program_with source.now variables)) ≡ activity_shown source.now.program.tables a) }
 {
     let main = &source.program.main;
+    let names = main.names.copy(alloc)?;
+    let activations = main_activations(alloc, main)?;
+    let pending = main_pending(alloc, &source.program)?;
     let doing = Doing {
-        names: main.names.copy(alloc)?,
+        names,
         line: main.first_line,
         at: At::Rest,
-        pending: main_pending(alloc, &source.program)?,
+        pending,
     };
     Ok(Activity {
         doing,
         display: Display::new(alloc),
-        activations: main_activations(alloc, main)?,
+        activations,
         hand: Hand::Empty,
         line: main.first_line,
     })
@@ -65,10 +68,12 @@ fn idle_process<'t>(
 {
     let scope = source.program.tables.scopes.process_scope(declaration);
     let block = source.program.block_at(scope);
+    let names = block.names.copy(alloc)?;
     let mut pending = Vec::new(alloc);
-    pending.push(Pending::Ends(block.last_line))?;
+    pending.reserve(1)?;
+    pending.push_reserved(Pending::Ends(block.last_line));
     let doing = Doing {
-        names: block.names.copy(alloc)?,
+        names,
         line: block.first_line,
         at: At::Rest,
         pending,
@@ -87,7 +92,11 @@ fn idle_process<'t>(
 fn add<'t>(made: &mut Vec<Activity<'t>>, activity: Activity<'t>) -> Result<(), Memory>
     ensures { OnOk result ((t : Tables) → activities_shown t made.new.items ≡ activities_shown t made.old.items ++ activity_shown t activity.entry ∷ []) }
 {
-    made.push(activity)?;
+    let Ok(()) = made.reserve(1) else {
+        drop(activity);
+        return Err(Memory);
+    };
+    made.push_reserved(activity);
     Ok(())
 }
 

@@ -8,7 +8,7 @@ ghost use Rattle.pfc_activities.specs.Relation.{Stands};
 ghost use Rattle.pfc_semantics.specs.Configurations.{most_alternatives, start};
 ghost use Rattle.pfc_beginning.specs.Beginnings.{program_with};
 
-use crate::counts::{are_below, module_count};
+use crate::counts::{are_below, module_count, object_count};
 use crate::processes::processes;
 use pfc_activities::{Source, State};
 use pfc_base::Memory;
@@ -57,7 +57,9 @@ fn table(alloc: Global, source: &Source) -> Result<World, Memory>
     if count > MOST_PROCESSES {
         return Err(Memory);
     }
-    let world = World::with_processes(alloc, 1 + count as u32, MOST_ALTERNATIVES)?;
+    let processes = 1 + count as u32;
+    let objects = object_count(source, processes);
+    let world = World::with_processes(alloc, processes, MOST_ALTERNATIVES, objects)?;
     Ok(world)
 }
 
@@ -72,12 +74,12 @@ pub fn at_start<'t>(
 ) -> Result<State<'t>, Memory>
     ensures { IfOk result (λ state. Stands source.now state (start (program_with source.now (values_view variables.items)) input.now seed)) }
 {
-    let activities = processes(alloc, source)?;
     let world = table(alloc, source)?;
     let semaphores = Semaphores::new(alloc, source.objects.semaphores)?;
     let guards = monitors(alloc, source)?;
     let free = resources(alloc, source)?;
     let bytes = Input::new(alloc, input)?;
+    let activities = processes(alloc, source)?;
     let store = Store::with_main(alloc, variables);
     let draws = Draws::new(seed);
     Ok(State {

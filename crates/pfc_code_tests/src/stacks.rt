@@ -93,7 +93,7 @@ fn perform(alloc: Global, instr: Instr, held: Four) -> Result<(Seen, Store), Mem
 {
     let image = image_of(alloc, instr)?;
     let mut store = ready(alloc, &image, held)?;
-    let mut world = World::with_processes(alloc, 1, 0)?;
+    let mut world = World::with_processes(alloc, 1, 0, 1)?;
     let main = world.begin(0);
     let seen = match store.run_instr(&image, main) {
         Instructed::Quiet(r) => rested(&mut world, r, Seen::Quiet),

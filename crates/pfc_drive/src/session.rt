@@ -62,7 +62,7 @@ impl Session {
         ensures { IfOk result (λ s. s ≡ start_state (plain_image image.now) input.now seed) }
     {
         let store = Store::start(alloc, image)?;
-        let world = World::with_processes(alloc, 1, 0)?;
+        let world = World::with_processes(alloc, 1, 0, 1)?;
         let mut lines = Vec::with_capacity(alloc, 1)?;
         lines.push(main_line(image))?;
         Ok(Session {

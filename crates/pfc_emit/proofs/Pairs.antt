@@ -1,5 +1,5 @@
 -- Instructions and their lines, side by side.
-use Rattle.std.proofs.Common.{◌≡◌, ◌<◌, ℕ, zero, suc, true, List, [], ◌∷◌, ◌++◌, length, get_or, set, refl, ap, arith}
+use Rattle.std.proofs.Common.{◌≡◌, ◌<◌, ℕ, zero, suc, true, List, [], ◌∷◌, ◌++◌, length, take, get_or, set, refl, ap, arith}
 use Rattle.std.specs.List.{zip}
 use Rattle.std.proofs.lemmas.Slice.Zip.{length-zip, firsts-zip, seconds-zip}
 use Rattle.pfc_code.specs.declared.instructions.Instr.{Instr}
@@ -39,3 +39,11 @@ pairs_patched (x ∷ xs) [] at target d same = absurd (omega arith)
 pairs_patched (x ∷ xs) (y ∷ ys) zero target d same = refl
 pairs_patched (x ∷ xs) (y ∷ ys) (suc at) target d same =
     ap (λ pairs. (x, y) ∷ pairs) (pairs_patched xs ys at target d (omega arith))
+
+-- fewer at both ends are fewer pairs
+pub pairs_cut :
+    {A B : Type 0} (count : ℕ) (xs : List A) (ys : List B) → zip (take count xs) (take count ys) ≡ take count (zip xs ys)
+pairs_cut zero xs ys = refl
+pairs_cut (suc count) [] ys = refl
+pairs_cut (suc count) (x ∷ xs) [] = refl
+pairs_cut (suc count) (x ∷ xs) (y ∷ ys) = ap (λ pairs. (x, y) ∷ pairs) (pairs_cut count xs ys)

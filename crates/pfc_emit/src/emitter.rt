@@ -1,5 +1,5 @@
 //! The emitter.
-ghost use Rattle.std.specs.Prelude.{◌≡◌, ◌++◌, [], ◌∷◌, ◌<◌, ◌≤◌, true, length, map, Err, IfOk, IfErr, OnOk, OnErr};
+ghost use Rattle.std.specs.Prelude.{◌≡◌, ◌++◌, [], ◌∷◌, ◌<◌, ◌≤◌, true, length, map, take, Err, IfOk, IfErr, OnOk, OnErr};
 ghost use Rattle.pfc_emit.specs.Patches.{has_address_at, patched};
 
 use crate::addresses::retarget;
@@ -97,6 +97,16 @@ impl Emitter {
     {
         let instr = &mut self.code[at as usize];
         *instr = retarget(*instr, target);
+    }
+
+    /// Only the first `count` instructions are kept.
+    #[tactic(auto, using(crate::proofs::Pairs::pairs_cut, crate::proofs::Pairs::length_pairs))]
+    pub fn cut(&mut self, count: u32)
+        requires { count ≤ length self.old }
+        ensures { self.new ≡ take count self.old }
+    {
+        self.code.truncate(count as usize);
+        self.lines.truncate(count as usize);
     }
 
     /// The address of the next instruction, which is the number of instructions so far, at most 200,000.

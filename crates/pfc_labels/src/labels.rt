@@ -63,32 +63,36 @@ fn add_names(
 ) -> Result<(), Memory>
     ensures { OnOk result (all.new.items ≡ all.old.items ++ infos program.now (names_labelled (all_labelled program.now.tables.types.now) names.now)) }
 {
+    let mut from = 0;
     for k in 0..names.len() {
-        add_variable(alloc, program, names, k, tokens, all)?;
+        from = add_variable(alloc, program, names, k, tokens, from, all)?;
     }
     Ok(())
 }
 
-/// The processes of the variable at a place of the layout.
+/// The processes of the variable at a place of the layout, whose name stands in the tokens from a place on; where those behind it are looked
+/// for is given. The names of a scope stand in the order of the text.
 fn add_variable(
     alloc: Global,
     program: &Program,
     names: &Scope,
     k: u32,
     tokens: &[Token],
+    from: usize,
     all: &mut Vec<ProcessInfo>,
-) -> Result<(), Memory>
+) -> Result<usize, Memory>
     requires { k < length names.now }
     ensures { OnOk result ((d : List ℕ × Meaning) → all.new.items ≡ all.old.items ++ infos program.now (name_labelled (all_labelled program.now.tables.types.now) (get_or names.now k d).0 (get_or names.now k d).1)) }
 {
     let meaning = names.meaning_at(k);
     if !holds_processes(program, meaning) {
-        return Ok(());
+        return Ok(from);
     }
-    let Some(name) = variable_name(names, k, tokens) else {
+    let Some((name, place)) = variable_name(names, k, tokens, from) else {
         return Err(Memory);
     };
-    add_name(alloc, program, tokens, meaning, name, all)
+    add_name(alloc, program, tokens, meaning, name, all)?;
+    Ok(place)
 }
 
 /// A variable of this meaning may hold a process.

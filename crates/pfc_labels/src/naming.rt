@@ -23,16 +23,21 @@ pub(crate) fn field_name<'t>(fields: &Fields, i: u32, tokens: &'t [Token]) -> Op
     None
 }
 
-/// The name of a variable by its place in the layout, from 0, where the tokens hold it.
-pub(crate) fn variable_name<'t>(names: &Scope, i: u32, tokens: &'t [Token]) -> Option<&'t Name>
+/// The name of a variable by its place in the layout, from 0, where the tokens from a place on hold it, and the place of that token.
+pub(crate) fn variable_name<'t>(
+    names: &Scope,
+    i: u32,
+    tokens: &'t [Token],
+    from: usize,
+) -> Option<(&'t Name, usize)>
     requires { i < length names.now }
-    ensures { IfSome result (λ x. (d : List ℕ × Meaning) → (get_or names.now i d).0 ≡ x.now) }
+    ensures { IfSome result (λ r. (d : List ℕ × Meaning) → (get_or names.now i d).0 ≡ r.0.now) }
 {
-    for token in tokens {
-        if let Kind::Name(name) = &token.kind {
+    for k in from..tokens.len() {
+        if let Kind::Name(name) = &tokens[k].kind {
             if let Some(place) = names.position(name) {
                 if place == i {
-                    return Some(name);
+                    return Some((name, k));
                 }
             }
         }

@@ -15,6 +15,7 @@ ghost use Rattle.pfc_meeting.specs.Going.{HasRoom, gone_on, left_of, onward};
 use pfc_activities::{Activity, Hand};
 use pfc_base::Memory;
 use pfc_pending::{At, Pending, Replica, Stmts};
+use std::mem;
 
 /// How a process goes on behind an alternative: the first `kept` of what is pending is left, and above it are the statements behind the
 /// alternative, whose next scope has this number, and the write of its replica where there is one.
@@ -46,7 +47,7 @@ fn put<'t>(pending: &mut Vec<Pending<'t>>, part: Pending<'t>)
     ensures room { vec_capacity pending.old ≤ vec_capacity pending.new }
     ensures begin { (n : ℕ) → n ≤ vec_len pending.old → take n pending.new.items ≡ take n pending.old.items }
 {
-    pending.push(part).unwrap();
+    pending.push_reserved(part);
 }
 
 /// Statements are pending, unless there are none.
@@ -89,6 +90,6 @@ pub fn go_onward<'t>(activity: &mut Activity<'t>, way: Onward<'t>)
     pending.truncate(way.kept);
     put_statements(pending, way.next, way.stmts);
     put_replica(pending, way.replica);
-    activity.doing.at = At::Rest;
-    activity.hand = Hand::Empty;
+    drop(mem::replace(&mut activity.doing.at, At::Rest));
+    drop(mem::replace(&mut activity.hand, Hand::Empty));
 }

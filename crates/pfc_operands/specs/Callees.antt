@@ -8,7 +8,7 @@ use Rattle.pfc_semantics.specs.Programs.{Program, program_over}
 use Rattle.pfc_translation.specs.Operands.{arguments, results}
 
 -- a program over its table of types and its scopes
-pub program_in : Tree → Forms → Blocks → Program
+unfoldable pub program_in : Tree → Forms → Blocks → Program
 program_in tree forms blocks = program_over (record { forms = forms; blocks = blocks }) (tree_view tree)
 
 -- the cells of each block's parameters, and of each block's result

@@ -14,7 +14,7 @@ use std::test::Fail;
 fn two_ready(alloc: Global) -> Result<World, Memory>
     ensures { IfOk result (λ w. w ≡ record { rows = Waits Why.Coend 1 [] ∷ Is_ready ∷ Is_ready ∷ Is_idle ∷ []; acting = None; done = 0; moment = 0; room = 0 }) }
 {
-    let mut world = World::with_processes(alloc, 4, 0)?;
+    let mut world = World::with_processes(alloc, 4, 0, 16)?;
     let _ = world.create(1);
     let _ = world.create(2);
     let main = world.begin(0);
@@ -27,7 +27,7 @@ fn two_ready(alloc: Global) -> Result<World, Memory>
 
 /// Main waits on a semaphore, and there is no other process.
 fn nobody_ready(alloc: Global) -> Result<World, Memory> {
-    let mut world = World::with_processes(alloc, 1, 0)?;
+    let mut world = World::with_processes(alloc, 1, 0, 16)?;
     let main = world.begin(0);
     world.block(main, Why::Semaphore(0));
     Ok(world)

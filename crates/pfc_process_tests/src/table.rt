@@ -27,7 +27,7 @@ fn two_children(alloc: Global) -> Result<World, Memory>
     ensures world { IfOk result (λ w. w ≡ record { rows = Waits Why.Coend 1 [] ∷ Is_ready ∷ Is_ready ∷ Is_idle ∷ []; acting = None; done = 1; moment = 1; room = 2 }) }
     ensures fresh { IfOk result (λ w. IsNew w.rows w.done) }
 {
-    let mut world = World::with_processes(alloc, 4, 2)?;
+    let mut world = World::with_processes(alloc, 4, 2, 16)?;
     let _ = world.create(1);
     let _ = world.create(2);
     let main = world.begin(0);
@@ -40,7 +40,7 @@ fn two_children(alloc: Global) -> Result<World, Memory>
 }
 
 fn children_are_activated(alloc: Global) -> Result<[bool; 4], Memory> {
-    let mut world = World::with_processes(alloc, 4, 2)?;
+    let mut world = World::with_processes(alloc, 4, 2, 16)?;
     let counts = (world.processes(), world.room(), world.done(), world.now());
     let main = world.begin(0);
     let goes = match world.coend(main) {
@@ -171,7 +171,7 @@ fn who_is_due_is_woken_without_a_move_of_the_clock(alloc: Global) -> Result<[boo
 }
 
 fn nobody_may_be_left(alloc: Global) -> Result<bool, Memory> {
-    let mut world = World::with_processes(alloc, 4, 0)?;
+    let mut world = World::with_processes(alloc, 4, 0, 16)?;
     let main = world.begin(0);
     world.block(main, Why::Condition { number: 2, rank: 0 });
     Ok((world.settle(), world.now()) == (Settled::NobodyReady, 0))

@@ -7,6 +7,7 @@ ghost use Rattle.pfc_returning.specs.Ending.{IsBack, GoesBack};
 use pfc_activities::{Activity, Caller, Doing, Done, Hand, State};
 use pfc_pending::At;
 use pfc_store::Value;
+use std::mem;
 
 /// The process is where its innermost activation was called, at this line; an expression there has the value.
 fn go_back<'t>(activity: &mut Activity<'t>, value: Value, line: u32)
@@ -16,25 +17,27 @@ fn go_back<'t>(activity: &mut Activity<'t>, value: Value, line: u32)
         return;
     };
     activity.display = ended.display;
-    activity.hand = Hand::Empty;
+    drop(mem::replace(&mut activity.hand, Hand::Empty));
     activity.line = line;
     match ended.caller {
         Caller::Nobody => {}
         Caller::Remainder(names, pending) => {
-            activity.doing = Doing {
+            let doing = Doing {
                 names,
                 line,
                 at: At::Rest,
                 pending,
             };
+            drop(mem::replace(&mut activity.doing, doing));
         }
         Caller::Value(names, before, pending) => {
-            activity.doing = Doing {
+            let doing = Doing {
                 names,
                 line: before,
                 at: At::Value(value),
                 pending,
             };
+            drop(mem::replace(&mut activity.doing, doing));
         }
     }
 }

@@ -11,6 +11,7 @@ use pfc_activities::{Activation, Activity, Done, Hand, State};
 use pfc_pending::{At, Deed};
 use pfc_store::{Display, Store};
 use std::alloc::Global;
+use std::mem;
 
 /// The variables of these activations are gone.
 fn remove_rooms<'t>(activations: &[Activation<'t>], store: &mut Store)
@@ -27,9 +28,9 @@ fn end_activity<'t>(alloc: Global, activity: &mut Activity<'t>, line: u32)
 {
     activity.activations = Vec::new(alloc);
     activity.display = Display::new(alloc);
-    activity.hand = Hand::Empty;
+    drop(mem::replace(&mut activity.hand, Hand::Empty));
     activity.line = line;
-    activity.doing.at = At::Deed(Deed::Finishes(line));
+    drop(mem::replace(&mut activity.doing.at, At::Deed(Deed::Finishes(line))));
 }
 
 /// The process has finished, at the line of its last `end`. The end of the last child makes main ready, where that one waits at `coend`.

@@ -13,7 +13,7 @@ const MANY: u64 = 10_000;
 pub(crate) fn five_children(alloc: Global) -> Result<World, Memory>
     ensures { IfOk result (λ w. w.acting ≡ None) }
 {
-    let mut world = World::with_processes(alloc, 6, 2)?;
+    let mut world = World::with_processes(alloc, 6, 2, 8)?;
     let _ = world.create(1);
     let _ = world.create(2);
     let _ = world.create(3);

@@ -12,6 +12,7 @@ use Rattle.pfc_state.specs.declared.waits.Why.TheVariants.{Select}
 use Rattle.pfc_state.specs.declared.waits.Arm.{Arm}
 use Rattle.pfc_state.specs.Stands.{Stand, Is_idle, Is_created, Is_ready, Waits, Is_done, IsWaiting, is_unfinished, may_end}
 use Rattle.pfc_world.specs.Indexes.{number, count_of, AreListed}
+use Rattle.pfc_world.specs.declared.lists.Spread.{Spread}
 use Rattle.pfc_world.specs.Lists.{list_at, member_of}
 use Rattle.pfc_world.specs.Settling.{children_may_end, may_all_end}
 use Rattle.pfc_world.specs.Tables.{Table, at}
@@ -33,9 +34,9 @@ pub record IsEnding (old now : Table) : Type 0 where
   pub servers : AreServers now.rows
 
 -- who may end waits
-wait-ends : (why : Why) (ticket : ℕ) (arms : List Arm) → may_end (Waits why ticket arms) ≡ true → member_of (Waits why ticket arms) ≡ in_list (list_at 7 0) ticket
-wait-ends (Select due terminate) ticket arms h = refl
-wait-ends _ ticket arms h = cc
+wait-ends : (spread : Spread) (why : Why) (ticket : ℕ) (arms : List Arm) → may_end (Waits why ticket arms) ≡ true → member_of spread (Waits why ticket arms) ≡ in_list (list_at spread 7 0) ticket
+wait-ends spread (Select due terminate) ticket arms h = refl
+wait-ends spread _ ticket arms h = cc
 
 pub ends-wait : (s : Stand) → may_end s ≡ true → IsWaiting s
 ends-wait (Waits why ticket arms) h = tt
@@ -45,20 +46,20 @@ ends-wait Is_ready h = cc
 ends-wait Is_done h = cc
 
 -- who may end is in the list of selects
-ends-listed : (s : Stand) → may_end s ≡ true → (t : ℕ) × (member_of s ≡ in_list (list_at 7 0) t)
-ends-listed (Waits why ticket arms) h = (ticket, wait-ends why ticket arms h)
-ends-listed Is_idle h = cc
-ends-listed Is_created h = cc
-ends-listed Is_ready h = cc
-ends-listed Is_done h = cc
+ends-listed : (spread : Spread) (s : Stand) → may_end s ≡ true → (t : ℕ) × (member_of spread s ≡ in_list (list_at spread 7 0) t)
+ends-listed spread (Waits why ticket arms) h = (ticket, wait-ends spread why ticket arms h)
+ends-listed spread Is_idle h = cc
+ends-listed spread Is_created h = cc
+ends-listed spread Is_ready h = cc
+ends-listed spread Is_done h = cc
 
 -- who is in a list is unfinished
-listed-unfinished : (s : Stand) (list t : ℕ) → member_of s ≡ in_list list t → is_unfinished s ≡ true
-listed-unfinished (Waits why ticket arms) list t h = refl
-listed-unfinished Is_idle list t h = cc
-listed-unfinished Is_created list t h = cc
-listed-unfinished Is_ready list t h = cc
-listed-unfinished Is_done list t h = cc
+listed-unfinished : (spread : Spread) (s : Stand) (list t : ℕ) → member_of spread s ≡ in_list list t → is_unfinished s ≡ true
+listed-unfinished spread (Waits why ticket arms) list t h = refl
+listed-unfinished spread Is_idle list t h = cc
+listed-unfinished spread Is_created list t h = cc
+listed-unfinished spread Is_ready list t h = cc
+listed-unfinished spread Is_done list t h = cc
 
 left-of : (a b : Bool) → (a && b) ≡ true → a ≡ true
 left-of true b h = refl
@@ -143,40 +144,40 @@ not-true true f = absurd (f refl)
 not-true false f = refl
 
 -- nobody is in the list of selects
-pub no-server : (rows : List Stand) (lists : Lists) → AreListed rows lists → IsEmpty lists.members (list_at 7 0) → IsNoServer rows
-no-server rows lists listed h q some =
-    not-true (may_end (at rows q)) (λ is. let own : (t : ℕ) × (member_of (at rows q) ≡ in_list (list_at 7 0) t) = ends-listed (at rows q) is in h.none q own.0 (same-member rows lists q listed ∙ own.1))
+pub no-server : (spread : Spread) (rows : List Stand) (lists : Lists) → AreListed spread rows lists → IsEmpty lists.members (list_at spread 7 0) → IsNoServer rows
+no-server spread rows lists listed h q some =
+    not-true (may_end (at rows q)) (λ is. let own : (t : ℕ) × (member_of spread (at rows q) ≡ in_list (list_at spread 7 0) t) = ends-listed spread (at rows q) is in h.none q own.0 (same-member spread rows lists q listed ∙ own.1))
 
 -- the first of the list, which is not main, is a server
-pub first-server : (rows : List Stand) (lists : Lists) (p : ℕ) → AreListed rows lists → AreServers rows → 0 < p → IsFirstIn lists.members (list_at 7 0) p → IsServer rows p
-first-server rows lists p listed serves some h =
-    (some, serves p some (listed-unfinished (at rows p) (list_at 7 0) h.ticket (sym (same-member rows lists p listed) ∙ h.own)))
+pub first-server : (spread : Spread) (rows : List Stand) (lists : Lists) (p : ℕ) → AreListed spread rows lists → AreServers rows → 0 < p → IsFirstIn lists.members (list_at spread 7 0) p → IsServer rows p
+first-server spread rows lists p listed serves some h =
+    (some, serves p some (listed-unfinished spread (at rows p) (list_at spread 7 0) h.ticket (sym (same-member spread rows lists p listed) ∙ h.own)))
 
 -- main is the first, and the next is a server, if there is one
-pub second-server : (rows : List Stand) (lists : Lists) (o : Option ℕ) → AreApart rows → AreListed rows lists → AreServers rows → (h : IsFirstIn lists.members (list_at 7 0) 0)
-    → MatchOption o (IsNobodyAbove lists.members (list_at 7 0) h.ticket) (IsNext lists.members (list_at 7 0) h.ticket) → MatchOption o (IsNoServer rows) (IsServer rows)
-second-server rows lists o apart listed serves h = go o
+pub second-server : (spread : Spread) (rows : List Stand) (lists : Lists) (o : Option ℕ) → AreApart rows → AreListed spread rows lists → AreServers rows → (h : IsFirstIn lists.members (list_at spread 7 0) 0)
+    → MatchOption o (IsNobodyAbove lists.members (list_at spread 7 0) h.ticket) (IsNext lists.members (list_at spread 7 0) h.ticket) → MatchOption o (IsNoServer rows) (IsServer rows)
+second-server spread rows lists o apart listed serves h = go o
   where
-    main : member_of (at rows 0) ≡ in_list (list_at 7 0) h.ticket
-    main = sym (same-member rows lists 0 listed) ∙ h.own
+    main : member_of spread (at rows 0) ≡ in_list (list_at spread 7 0) h.ticket
+    main = sym (same-member spread rows lists 0 listed) ∙ h.own
 
-    ticket-same : (t : ℕ) → member_of (at rows 0) ≡ in_list (list_at 7 0) t → Some h.ticket ≡ Some t
-    ticket-same t is = sym (member-ticket (at rows 0) (list_at 7 0) h.ticket main) ∙ member-ticket (at rows 0) (list_at 7 0) t is
+    ticket-same : (t : ℕ) → member_of spread (at rows 0) ≡ in_list (list_at spread 7 0) t → Some h.ticket ≡ Some t
+    ticket-same t is = sym (member-ticket spread (at rows 0) (list_at spread 7 0) h.ticket main) ∙ member-ticket spread (at rows 0) (list_at spread 7 0) t is
 
     from : (a b : ℕ) → Some a ≡ Some b → a ≡ b
     from a b e = cc
 
-    go : (o : Option ℕ) → MatchOption o (IsNobodyAbove lists.members (list_at 7 0) h.ticket) (IsNext lists.members (list_at 7 0) h.ticket) → MatchOption o (IsNoServer rows) (IsServer rows)
+    go : (o : Option ℕ) → MatchOption o (IsNobodyAbove lists.members (list_at spread 7 0) h.ticket) (IsNext lists.members (list_at spread 7 0) h.ticket) → MatchOption o (IsNoServer rows) (IsServer rows)
     go None n = λ q some. not-true (may_end (at rows q)) (λ is.
-        let own : (t : ℕ) × (member_of (at rows q) ≡ in_list (list_at 7 0) t) = ends-listed (at rows q) is in
-        let least : h.ticket ≤ own.0 = h.least q own.0 (same-member rows lists q listed ∙ own.1) in
-        let most : own.0 ≤ h.ticket = n.most q own.0 (same-member rows lists q listed ∙ own.1) in
+        let own : (t : ℕ) × (member_of spread (at rows q) ≡ in_list (list_at spread 7 0) t) = ends-listed spread (at rows q) is in
+        let least : h.ticket ≤ own.0 = h.least q own.0 (same-member spread rows lists q listed ∙ own.1) in
+        let most : own.0 ≤ h.ticket = n.most q own.0 (same-member spread rows lists q listed ∙ own.1) in
         let same : own.0 ≡ h.ticket = omega (arith, least, most) in
-        let here : q ≡ 0 = apart q 0 h.ticket (member-ticket (at rows q) (list_at 7 0) own.0 own.1 ∙ ap (λ v. Some v) same) (member-ticket (at rows 0) (list_at 7 0) h.ticket main) in
+        let here : q ≡ 0 = apart q 0 h.ticket (member-ticket spread (at rows q) (list_at spread 7 0) own.0 own.1 ∙ ap (λ v. Some v) same) (member-ticket spread (at rows 0) (list_at spread 7 0) h.ticket main) in
         omega (arith, some, here))
     go (Some q) n =
-        let own : member_of (at rows q) ≡ in_list (list_at 7 0) n.ticket = sym (same-member rows lists q listed) ∙ n.own in
+        let own : member_of spread (at rows q) ≡ in_list (list_at spread 7 0) n.ticket = sym (same-member spread rows lists q listed) ∙ n.own in
         let above : h.ticket < n.ticket = n.above in
-        let away : q ≢ 0 = λ here. let same : h.ticket ≡ n.ticket = from h.ticket n.ticket (ticket-same n.ticket (ap (λ m. member_of (at rows m)) (sym here) ∙ own)) in omega (arith, above, same) in
+        let away : q ≢ 0 = λ here. let same : h.ticket ≡ n.ticket = from h.ticket n.ticket (ticket-same n.ticket (ap (λ m. member_of spread (at rows m)) (sym here) ∙ own)) in omega (arith, above, same) in
         let some : 0 < q = omega (arith, away) in
-        (some, serves q some (listed-unfinished (at rows q) (list_at 7 0) n.ticket own))
+        (some, serves q some (listed-unfinished spread (at rows q) (list_at spread 7 0) n.ticket own))

@@ -6,9 +6,6 @@ use Rattle.pfc_state.specs.declared.waits.Why.TheVariants.{Select, Barred}
 use Rattle.pfc_state.specs.declared.waits.Arm.{Arm}
 use Rattle.pfc_state.specs.Waits.{same_why, has_arm}
 use Rattle.pfc_state.specs.Stands.{is_above, IsWaiting, ticket_of, Stand, Is_idle, Is_created, Is_ready, Waits, Is_done, ticket_at, ticket_offering, ticket_barred}
-use Rattle.pfc_world.specs.Sought.{key_of}
-use Rattle.pfc_world.specs.declared.walks.Sought.{Sought}
-use Rattle.pfc_world.specs.declared.walks.Sought.TheVariants.{At, BarredAt}
 use Rattle.pfc_world.specs.Tables.{at}
 use Rattle.pfc_world.specs.Tickets.{AreApart}
 use Rattle.pfc_world.specs.Firsts.{IsFirst, IsLast, IsNobody, GivesTickets, first, last}
@@ -84,7 +81,3 @@ barred-give resource after Is_idle t h = h
 barred-give resource after Is_created t h = h
 barred-give resource after Is_ready t h = h
 barred-give resource after Is_done t h = h
-
-pub sought-gives : (sought : Sought) → GivesTickets (key_of sought)
-sought-gives (At why) stand t h = at-gives why stand t h
-sought-gives (BarredAt resource after) stand t h = barred-give resource after stand t h

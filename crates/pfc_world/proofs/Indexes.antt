@@ -6,13 +6,17 @@ use Rattle.std.proofs.Math.ListN.{get_or-map}
 use Rattle.pfc_links.specs.declared.links.Member.{Member}
 use Rattle.pfc_links.specs.Members.{member_at, in_list}
 use Rattle.pfc_moments.specs.Moments.{moment_at}
+use Rattle.pfc_ranks.specs.declared.ranks.Delay.{Delay}
+use Rattle.pfc_ranks.specs.Delays.{delay_at}
 use Rattle.pfc_state.specs.declared.waits.Why.{Why}
-use Rattle.pfc_state.specs.declared.waits.Why.TheVariants.{Select}
+use Rattle.pfc_state.specs.declared.waits.Why.TheVariants.{Barred, Condition, Select}
 use Rattle.pfc_state.specs.declared.waits.Arm.{Arm}
 use Rattle.pfc_state.specs.Stands.{Stand, Is_idle, Is_created, Is_ready, Waits, Is_done, IsWaiting, is_ready, is_created, is_unfinished, may_end, due_of, ticket_of, started}
 use Rattle.pfc_world.specs.declared.index.Index.{Index}
 use Rattle.pfc_world.specs.Indexes.{IsReadySet, IsIndexed, Admits, BeginsWait, IsListed, EndsWait, number, count_of}
-use Rattle.pfc_world.specs.Lists.{list_count, member_of}
+use Rattle.pfc_world.specs.Delays.{barred_of, delay_of}
+use Rattle.pfc_world.specs.declared.lists.Spread.{Spread}
+use Rattle.pfc_world.specs.Lists.{list_count, member_of, IsSpread}
 use Rattle.pfc_world.specs.Tables.{at}
 use Rattle.pfc_world.specs.Tickets.{AreTickets, IsNew}
 use Rattle.pfc_world.proofs.Counting.{count-set, count-most, count-one, count-map, count-idle, none-created}
@@ -20,10 +24,13 @@ use Rattle.pfc_world.proofs.ReadySets.{ready-set, ready-kept}
 
 -- all of it is changed as the process is
 record IsChanged (old new : Index) (rows : List Stand) (p : ℕ) (s : Stand) : Type 0 where
+  spread : new.spread ≡ old.spread
   bits : IsReadySet (set rows p s) new.ready
-  members : new.waits.members ≡ set old.waits.members p (member_of s)
+  members : new.waits.members ≡ set old.waits.members p (member_of old.spread s)
   lists : new.waits.lists ≡ old.waits.lists
   dues : new.dues ≡ set old.dues p (due_of s)
+  ranks : new.ranks ≡ set old.ranks p (delay_of s)
+  barred : new.barred ≡ set old.barred p (barred_of s)
   unfinished : new.unfinished + number (is_unfinished (at rows p)) ≡ old.unfinished + number (is_unfinished s)
   created : new.created + number (is_created (at rows p)) ≡ old.created + number (is_created s)
   ending : new.ending + number (may_end (at rows p)) ≡ old.ending + number (may_end s)
@@ -35,38 +42,87 @@ changed-index : (rows new : List Stand) (p : ℕ) (s : Stand) (ix ix' : Index) �
 changed-index rows new p s ix ix' lt is h c = subst (λ v. IsIndexed v ix') (sym is) (record {
   some = rw length-set h.some;
   few = rw length-set h.few;
+  spread = subst IsSpread (sym c.spread) h.spread;
   bits = c.bits;
-  waits = c.members ∙ ap (λ v. set v p (member_of s)) h.waits ∙ sym (map-set member_of rows p s);
-  lists = c.lists ∙ h.lists;
+  waits =
+      c.members ∙ ap (λ v. set v p (member_of ix.spread s)) h.waits ∙ sym (map-set (member_of ix.spread) rows p s)
+      ∙ ap (λ v. map (member_of v) (set rows p s)) (sym c.spread);
+  lists = c.lists ∙ h.lists ∙ ap list_count (sym c.spread);
   dues = c.dues ∙ ap (λ v. set v p (due_of s)) h.dues ∙ sym (map-set due_of rows p s);
+  ranks = c.ranks ∙ ap (λ v. set v p (delay_of s)) h.ranks ∙ sym (map-set delay_of rows p s);
+  barred = c.barred ∙ ap (λ v. set v p (barred_of s)) h.barred ∙ sym (map-set barred_of rows p s);
   unfinished = same-count ix'.unfinished (count_of is_unfinished (set rows p s)) ix.unfinished (count_of is_unfinished rows) (number (is_unfinished (at rows p))) (number (is_unfinished s)) c.unfinished h.unfinished (count-set is_unfinished rows p s lt);
   created = same-count ix'.created (count_of is_created (set rows p s)) ix.created (count_of is_created rows) (number (is_created (at rows p))) (number (is_created s)) c.created h.created (count-set is_created rows p s lt);
   ending = same-count ix'.ending (count_of may_end (set rows p s)) ix.ending (count_of may_end rows) (number (may_end (at rows p))) (number (may_end s)) c.ending h.ending (count-set may_end rows p s lt);
 })
 
 -- what the index says of a process
-pub member-is : (rows : List Stand) (ix : Index) (p : ℕ) → IsIndexed rows ix → member_at ix.waits.members p ≡ member_of (at rows p)
-member-is rows ix p h = ap (λ v. member_at v p) h.waits ∙ get_or-map member_of rows p Is_idle
+pub member-is : (rows : List Stand) (ix : Index) (p : ℕ) → IsIndexed rows ix → member_at ix.waits.members p ≡ member_of ix.spread (at rows p)
+member-is rows ix p h = ap (λ v. member_at v p) h.waits ∙ get_or-map (member_of ix.spread) rows p Is_idle
 
 pub moment-is : (rows : List Stand) (ix : Index) (p : ℕ) → IsIndexed rows ix → moment_at ix.dues p ≡ due_of (at rows p)
 moment-is rows ix p h = ap (λ v. moment_at v p) h.dues ∙ get_or-map due_of rows p Is_idle
 
+pub delay-is : (rows : List Stand) (ix : Index) (p : ℕ) → IsIndexed rows ix → delay_at ix.ranks p ≡ delay_of (at rows p)
+delay-is rows ix p h = ap (λ v. delay_at v p) h.ranks ∙ get_or-map delay_of rows p Is_idle
+
+pub barred-is : (rows : List Stand) (ix : Index) (p : ℕ) → IsIndexed rows ix → delay_at ix.barred p ≡ barred_of (at rows p)
+barred-is rows ix p h = ap (λ v. delay_at v p) h.barred ∙ get_or-map barred_of rows p Is_idle
+
 pub members-room : (rows : List Stand) (ix : Index) → IsIndexed rows ix → length ix.waits.members ≡ length rows
-members-room rows ix h = ap length h.waits ∙ length-map rows member_of
+members-room rows ix h = ap length h.waits ∙ length-map rows (member_of ix.spread)
 
 dues-room : (rows : List Stand) (ix : Index) → IsIndexed rows ix → length ix.dues ≡ length rows
 dues-room rows ix h = ap length h.dues ∙ length-map rows due_of
+
+ranks-room : (rows : List Stand) (ix : Index) → IsIndexed rows ix → length ix.ranks ≡ length rows
+ranks-room rows ix h = ap length h.ranks ∙ length-map rows delay_of
+
+barred-room : (rows : List Stand) (ix : Index) → IsIndexed rows ix → length ix.barred ≡ length rows
+barred-room rows ix h = ap length h.barred ∙ length-map rows barred_of
 
 abbrev ticket_in : Option Member → Option ℕ
 ticket_in (Some m) = Some m.ticket
 ticket_in None = None
 
-pub member-ticket : (s : Stand) (list t : ℕ) → member_of s ≡ in_list list t → ticket_of s ≡ Some t
-member-ticket (Waits why ticket arms) list t h = ap ticket_in h
-member-ticket Is_idle list t h = cc
-member-ticket Is_created list t h = cc
-member-ticket Is_ready list t h = cc
-member-ticket Is_done list t h = cc
+pub member-ticket : (spread : Spread) (s : Stand) (list t : ℕ) → member_of spread s ≡ in_list list t → ticket_of s ≡ Some t
+member-ticket spread (Waits why ticket arms) list t h = ap ticket_in h
+member-ticket spread Is_idle list t h = cc
+member-ticket spread Is_created list t h = cc
+member-ticket spread Is_ready list t h = cc
+member-ticket spread Is_done list t h = cc
+
+wait-ticket : (why : Why) (ticket : ℕ) (arms : List Arm) (delay : Delay) → delay_of (Waits why ticket arms) ≡ Some delay → ticket ≡ delay.ticket
+wait-ticket (Condition number rank) ticket arms delay h = ap ticket_delayed h
+  where
+    ticket_delayed : Option Delay → ℕ
+    ticket_delayed (Some d) = d.ticket
+    ticket_delayed None = ticket
+wait-ticket _ ticket arms delay h = cc
+
+-- a process is delayed with the ticket of its wait
+pub delay-ticket : (s : Stand) (delay : Delay) → delay_of s ≡ Some delay → ticket_of s ≡ Some delay.ticket
+delay-ticket (Waits why ticket arms) delay h = ap (λ n. Some n) (wait-ticket why ticket arms delay h)
+delay-ticket Is_idle delay h = cc
+delay-ticket Is_created delay h = cc
+delay-ticket Is_ready delay h = cc
+delay-ticket Is_done delay h = cc
+
+wait-barred : (why : Why) (ticket : ℕ) (arms : List Arm) (delay : Delay) → barred_of (Waits why ticket arms) ≡ Some delay → ticket ≡ delay.ticket
+wait-barred (Barred resource procedure) ticket arms delay h = ap ticket_delayed h
+  where
+    ticket_delayed : Option Delay → ℕ
+    ticket_delayed (Some d) = d.ticket
+    ticket_delayed None = ticket
+wait-barred _ ticket arms delay h = cc
+
+-- a process is barred with the ticket of its wait
+pub barred-ticket : (s : Stand) (delay : Delay) → barred_of s ≡ Some delay → ticket_of s ≡ Some delay.ticket
+barred-ticket (Waits why ticket arms) delay h = ap (λ n. Some n) (wait-barred why ticket arms delay h)
+barred-ticket Is_idle delay h = cc
+barred-ticket Is_created delay h = cc
+barred-ticket Is_ready delay h = cc
+barred-ticket Is_done delay h = cc
 
 -- a process that acts may be put into a list, with the ticket of the present action
 pub admits : (rows : List Stand) (ix : Index) (p done t : ℕ) → p < length rows → at rows p ≡ Is_ready → AreTickets rows done → IsNew rows done → t ≡ done + 1 → IsIndexed rows ix
@@ -74,12 +130,20 @@ pub admits : (rows : List Stand) (ix : Index) (p done t : ℕ) → p < length ro
 admits rows ix p done t lt ready tickets fresh is h = record {
   ready = let room : length rows ≤ length ix.ready = h.bits.room in omega (arith, room, lt);
   waits = let room : length ix.waits.members ≡ length rows = members-room rows ix h in omega (arith, room, lt);
+  spread = h.spread;
   lists = h.lists;
   dues = let room : length ix.dues ≡ length rows = dues-room rows ix h in omega (arith, room, lt);
-  free = member-is rows ix p h ∙ ap member_of ready;
+  ranks = let room : length ix.ranks ≡ length rows = ranks-room rows ix h in omega (arith, room, lt);
+  barred = let room : length ix.barred ≡ length rows = barred-room rows ix h in omega (arith, room, lt);
+  free = member-is rows ix p h ∙ ap (member_of ix.spread) ready;
   undue = moment-is rows ix p h ∙ ap due_of ready;
+  undelayed = delay-is rows ix p h ∙ ap delay_of ready;
+  unbarred = barred-is rows ix p h ∙ ap barred_of ready;
   from_one = omega (arith, is);
-  last = λ list q u own. last q u (member-ticket (at rows q) list u (sym (member-is rows ix q h) ∙ own));
+  last = λ list q u own. last q u (member-ticket ix.spread (at rows q) list u (sym (member-is rows ix q h) ∙ own));
+  distinct = λ q delay own same.
+      let lt' : delay.ticket < t = last q delay.ticket (barred-ticket (at rows q) delay (sym (barred-is rows ix q h) ∙ own)) in omega (arith, lt', same);
+  apart = λ q delay own same. let lt' : delay.ticket < t = last q delay.ticket (delay-ticket (at rows q) delay (sym (delay-is rows ix q h) ∙ own)) in omega (arith, lt', same);
   ending = let le : count_of may_end rows ≤ length rows = count-most may_end rows in let e : ix.ending ≡ count_of may_end rows = h.ending in let few : length rows ≤ 1024 = h.few in omega (arith, le, e, few);
 }
   where
@@ -99,9 +163,12 @@ pub begun-index : (rows new : List Stand) (p t : ℕ) (why : Why) (arms : List A
     → IsIndexed rows ix → BeginsWait ix ix' p why t → IsIndexed new ix'
 begun-index rows new p t why arms ix ix' lt ready is h b = changed-index rows new p (Waits why t arms) ix ix' lt is h (record {
   bits = subst (λ v. IsReadySet (set rows p (Waits why t arms)) v) (sym b.ready) (ready-set rows ix.ready p (Waits why t arms) false lt refl h.bits);
+  spread = b.spread;
   members = b.members;
   lists = b.lists;
   dues = b.dues;
+  ranks = b.ranks;
+  barred = b.barred;
   unfinished = ap (λ n. n + number (is_unfinished (at rows p))) b.unfinished ∙ ap (λ s. ix.unfinished + number (is_unfinished s)) ready;
   created = ap (λ n. n + number (is_created (at rows p))) b.created ∙ ap (λ s. ix.created + number (is_created s)) ready;
   ending =
@@ -111,12 +178,12 @@ begun-index rows new p t why arms ix ix' lt ready is h b = changed-index rows ne
       omega (arith, none, some, same);
 })
 
-waiting-member : (s : Stand) → IsWaiting s → is_some (member_of s) ≡ true
-waiting-member (Waits why ticket arms) h = refl
-waiting-member Is_idle h = absurd h
-waiting-member Is_created h = absurd h
-waiting-member Is_ready h = absurd h
-waiting-member Is_done h = absurd h
+waiting-member : (spread : Spread) (s : Stand) → IsWaiting s → is_some (member_of spread s) ≡ true
+waiting-member spread (Waits why ticket arms) h = refl
+waiting-member spread Is_idle h = absurd h
+waiting-member spread Is_created h = absurd h
+waiting-member spread Is_ready h = absurd h
+waiting-member spread Is_done h = absurd h
 
 waiting-unfinished : (s : Stand) → IsWaiting s → is_unfinished s ≡ true
 waiting-unfinished (Waits why ticket arms) h = refl
@@ -144,8 +211,10 @@ pub is-listed : (rows : List Stand) (ix : Index) (p : ℕ) (ends : Bool) → p <
 is-listed rows ix p ends lt waits is h = record {
   ready = let room : length rows ≤ length ix.ready = h.bits.room in omega (arith, room, lt);
   waits = let room : length ix.waits.members ≡ length rows = members-room rows ix h in omega (arith, room, lt);
-  member = ap is_some (member-is rows ix p h) ∙ waiting-member (at rows p) waits;
+  member = ap is_some (member-is rows ix p h) ∙ waiting-member ix.spread (at rows p) waits;
   dues = let room : length ix.dues ≡ length rows = dues-room rows ix h in omega (arith, room, lt);
+  ranks = let room : length ix.ranks ≡ length rows = ranks-room rows ix h in omega (arith, room, lt);
+  barred = let room : length ix.barred ≡ length rows = barred-room rows ix h in omega (arith, room, lt);
   unfinished =
       let one : number (is_unfinished (at rows p)) ≤ count_of is_unfinished rows = count-one is_unfinished rows p lt in
       let is_one : number (is_unfinished (at rows p)) ≡ 1 = ap number (waiting-unfinished (at rows p) waits) in
@@ -161,9 +230,12 @@ pub woken-index : (rows new : List Stand) (p : ℕ) (ends : Bool) (ix ix' : Inde
     → IsIndexed rows ix → EndsWait ix ix' p ends → ix'.ready ≡ set ix.ready p true → ix'.unfinished ≡ ix.unfinished → IsIndexed new ix'
 woken-index rows new p ends ix ix' lt waits may is h e ready unfinished = changed-index rows new p Is_ready ix ix' lt is h (record {
   bits = subst (λ v. IsReadySet (set rows p Is_ready) v) (sym ready) (ready-set rows ix.ready p Is_ready true lt refl h.bits);
+  spread = e.spread;
   members = e.members;
   lists = e.lists;
   dues = e.dues;
+  ranks = e.ranks;
+  barred = e.barred;
   unfinished = ap (λ n. n + number (is_unfinished (at rows p))) unfinished ∙ ap (λ b. ix.unfinished + number b) (waiting-unfinished (at rows p) waits);
   created = ap (λ n. n + number (is_created (at rows p))) e.created ∙ ap (λ b. ix.created + number b) (waiting-begun (at rows p) waits);
   ending = let same : number ends ≡ number (may_end (at rows p)) = ap number may in let left : ix'.ending + number ends ≡ ix.ending = e.ending in omega (arith, same, left);
@@ -174,16 +246,19 @@ pub ended-index : (rows new : List Stand) (p : ℕ) (ends : Bool) (ix ix' : Inde
     → IsIndexed rows ix → EndsWait ix ix' p ends → ix'.ready ≡ ix.ready → ix'.unfinished + 1 ≡ ix.unfinished → IsIndexed new ix'
 ended-index rows new p ends ix ix' lt waits may is h e ready unfinished = changed-index rows new p Is_done ix ix' lt is h (record {
   bits = subst (λ v. IsReadySet (set rows p Is_done) v) (sym ready) (ready-kept rows ix.ready p Is_done (waiting-unready (at rows p) waits) h.bits);
+  spread = e.spread;
   members = e.members;
   lists = e.lists;
   dues = e.dues;
+  ranks = e.ranks;
+  barred = e.barred;
   unfinished = let one : number (is_unfinished (at rows p)) ≡ 1 = ap number (waiting-unfinished (at rows p) waits) in omega (arith, one, unfinished);
   created = ap (λ n. n + number (is_created (at rows p))) e.created ∙ ap (λ b. ix.created + number b) (waiting-begun (at rows p) waits);
   ending = let same : number ends ≡ number (may_end (at rows p)) = ap number may in let left : ix'.ending + number ends ≡ ix.ending = e.ending in omega (arith, same, left);
 })
 
 -- nothing is kept of who neither waits nor is due
-unlisted : (rows : List Stand) (ix : Index) (p : ℕ) → IsIndexed rows ix → member_of (at rows p) ≡ None → set ix.waits.members p None ≡ ix.waits.members
+unlisted : (rows : List Stand) (ix : Index) (p : ℕ) → IsIndexed rows ix → member_of ix.spread (at rows p) ≡ None → set ix.waits.members p None ≡ ix.waits.members
 unlisted rows ix p h none = kept ix.waits.members (member-is rows ix p h ∙ none)
   where
     kept : (ms : List (Option Member)) → member_at ms p ≡ None → set ms p None ≡ ms
@@ -194,6 +269,18 @@ undue rows ix p h none = kept ix.dues (moment-is rows ix p h ∙ none)
   where
     kept : (ms : List (Option ℕ)) → moment_at ms p ≡ None → set ms p None ≡ ms
     kept ms e = ap (λ v. set ms p v) (sym e) ∙ set-get_or ms p None
+
+undelayed : (rows : List Stand) (ix : Index) (p : ℕ) → IsIndexed rows ix → delay_of (at rows p) ≡ None → set ix.ranks p None ≡ ix.ranks
+undelayed rows ix p h none = kept ix.ranks (delay-is rows ix p h ∙ none)
+  where
+    kept : (ds : List (Option Delay)) → delay_at ds p ≡ None → set ds p None ≡ ds
+    kept ds e = ap (λ v. set ds p v) (sym e) ∙ set-get_or ds p None
+
+unbarred : (rows : List Stand) (ix : Index) (p : ℕ) → IsIndexed rows ix → barred_of (at rows p) ≡ None → set ix.barred p None ≡ ix.barred
+unbarred rows ix p h none = kept ix.barred (barred-is rows ix p h ∙ none)
+  where
+    kept : (ds : List (Option Delay)) → delay_at ds p ≡ None → set ds p None ≡ ds
+    kept ds e = ap (λ v. set ds p v) (sym e) ∙ set-get_or ds p None
 
 abbrev with_counts : Index → List Bool → ℕ → ℕ → Index
 with_counts ix ready unfinished created = record ix { ready = ready; unfinished = unfinished; created = created }
@@ -210,9 +297,12 @@ pub finished-index : (rows new : List Stand) (p n : ℕ) (ix : Index) (ready : L
     → IsIndexed rows ix → ready ≡ set ix.ready p false → n ≡ ix.unfinished - 1 → IsIndexed new (with_counts ix ready n ix.created)
 finished-index rows new p n ix ready lt was is h made count = changed-index rows new p Is_done ix (with_counts ix ready n ix.created) lt is h (record {
   bits = subst (λ v. IsReadySet (set rows p Is_done) v) (sym made) (ready-set rows ix.ready p Is_done false lt refl h.bits);
-  members = sym (unlisted rows ix p h (ap member_of was));
+  spread = refl;
+  members = sym (unlisted rows ix p h (ap (member_of ix.spread) was));
   lists = refl;
   dues = sym (undue rows ix p h (ap due_of was));
+  ranks = sym (undelayed rows ix p h (ap delay_of was));
+  barred = sym (unbarred rows ix p h (ap barred_of was));
   unfinished =
       let one : number (is_unfinished (at rows p)) ≡ 1 = ap (λ s. number (is_unfinished s)) was in
       let some : 0 < ix.unfinished = some-unfinished rows ix p lt was h in
@@ -242,12 +332,26 @@ over-undue Is_created h = cc
 over-undue Is_ready h = cc
 over-undue (Waits why ticket arms) h = cc
 
-over-free : (s : Stand) → is_unfinished s ≡ false → member_of s ≡ None
-over-free Is_idle h = refl
-over-free Is_done h = refl
-over-free Is_created h = cc
-over-free Is_ready h = cc
-over-free (Waits why ticket arms) h = cc
+over-undelayed : (s : Stand) → is_unfinished s ≡ false → delay_of s ≡ None
+over-undelayed Is_idle h = refl
+over-undelayed Is_done h = refl
+over-undelayed Is_created h = cc
+over-undelayed Is_ready h = cc
+over-undelayed (Waits why ticket arms) h = cc
+
+over-unbarred : (s : Stand) → is_unfinished s ≡ false → barred_of s ≡ None
+over-unbarred Is_idle h = refl
+over-unbarred Is_done h = refl
+over-unbarred Is_created h = cc
+over-unbarred Is_ready h = cc
+over-unbarred (Waits why ticket arms) h = cc
+
+over-free : (spread : Spread) (s : Stand) → is_unfinished s ≡ false → member_of spread s ≡ None
+over-free spread Is_idle h = refl
+over-free spread Is_done h = refl
+over-free spread Is_created h = cc
+over-free spread Is_ready h = cc
+over-free spread (Waits why ticket arms) h = cc
 
 over-stays : (s : Stand) → is_unfinished s ≡ false → may_end s ≡ false
 over-stays Is_idle h = refl
@@ -261,9 +365,12 @@ pub created-index : (rows new : List Stand) (p n m : ℕ) (ix : Index) → p < l
     → IsIndexed rows ix → n ≡ ix.unfinished + 1 → m ≡ ix.created + 1 → IsIndexed new (with_counts ix ix.ready n m)
 created-index rows new p n m ix lt was is h count more = changed-index rows new p Is_created ix (with_counts ix ix.ready n m) lt is h (record {
   bits = ready-kept rows ix.ready p Is_created (over-unready (at rows p) was) h.bits;
-  members = sym (unlisted rows ix p h (over-free (at rows p) was));
+  spread = refl;
+  members = sym (unlisted rows ix p h (over-free ix.spread (at rows p) was));
   lists = refl;
   dues = sym (undue rows ix p h (over-undue (at rows p) was));
+  ranks = sym (undelayed rows ix p h (over-undelayed (at rows p) was));
+  barred = sym (unbarred rows ix p h (over-unbarred (at rows p) was));
   unfinished = let none : number (is_unfinished (at rows p)) ≡ 0 = ap number was in omega (arith, none, count);
   created = let none : number (is_created (at rows p)) ≡ 0 = ap number (over-begun (at rows p) was) in omega (arith, none, more);
   ending = let none : number (may_end (at rows p)) ≡ 0 = ap number (over-stays (at rows p) was) in omega (arith, none);
@@ -290,38 +397,49 @@ started-set n ready ready' some room none made = subst (λ v. IsReadySet (Is_rea
       each = each;
     }
 
-idle-members : (n : ℕ) → replicate n None ≡ map member_of (replicate n Is_idle)
-idle-members zero = refl
-idle-members (suc n) = ap (λ v. None ∷ v) (idle-members n)
+idle-members : (spread : Spread) (n : ℕ) → replicate n None ≡ map (member_of spread) (replicate n Is_idle)
+idle-members spread zero = refl
+idle-members spread (suc n) = ap (λ v. None ∷ v) (idle-members spread n)
 
 idle-dues : (n : ℕ) → replicate n None ≡ map due_of (replicate n Is_idle)
 idle-dues zero = refl
 idle-dues (suc n) = ap (λ v. None ∷ v) (idle-dues n)
 
+idle-ranks : (n : ℕ) → replicate n None ≡ map delay_of (replicate n Is_idle)
+idle-ranks zero = refl
+idle-ranks (suc n) = ap (λ v. None ∷ v) (idle-ranks n)
+
+idle-barred : (n : ℕ) → replicate n None ≡ map barred_of (replicate n Is_idle)
+idle-barred zero = refl
+idle-barred (suc n) = ap (λ v. None ∷ v) (idle-barred n)
+
 -- the index of a table that is made
-pub first-index : (n : ℕ) (ix : Index) → 0 < n → n ≤ 1024 → IsReadySet (Is_ready ∷ replicate (n - 1) Is_idle) ix.ready → ix.waits.members ≡ replicate n None → ix.waits.lists ≡ list_count
-    → ix.dues ≡ replicate n None → ix.unfinished ≡ 1 → ix.created ≡ 0 → ix.ending ≡ 0 → IsIndexed (Is_ready ∷ replicate (n - 1) Is_idle) ix
-first-index n ix some few bits members lists dues unfinished created ending =
+pub first-index : (n : ℕ) (ix : Index) → 0 < n → n ≤ 1024 → IsSpread ix.spread → IsReadySet (Is_ready ∷ replicate (n - 1) Is_idle) ix.ready → ix.waits.members ≡ replicate n None → ix.waits.lists ≡ list_count ix.spread
+    → ix.dues ≡ replicate n None → ix.ranks ≡ replicate n None → ix.barred ≡ replicate n None → ix.unfinished ≡ 1 → ix.created ≡ 0 → ix.ending ≡ 0 → IsIndexed (Is_ready ∷ replicate (n - 1) Is_idle) ix
+first-index n ix some few spread bits members lists dues ranks barred unfinished created ending =
     let e : n ≡ suc (n - 1) = omega (arith, some) in
     let long : length (replicate (n - 1) Is_idle) ≡ n - 1 = length-replicate (n - 1) Is_idle in
     record {
       some = omega arith;
       few = omega (arith, long, e, few);
+      spread = spread;
       bits = bits;
-      waits = members ∙ ap (λ k. replicate k None) e ∙ ap (λ v. None ∷ v) (idle-members (n - 1));
+      waits = members ∙ ap (λ k. replicate k None) e ∙ ap (λ v. None ∷ v) (idle-members ix.spread (n - 1));
       lists = lists;
       dues = dues ∙ ap (λ k. replicate k None) e ∙ ap (λ v. None ∷ v) (idle-dues (n - 1));
+      ranks = ranks ∙ ap (λ k. replicate k None) e ∙ ap (λ v. None ∷ v) (idle-ranks (n - 1));
+      barred = barred ∙ ap (λ k. replicate k None) e ∙ ap (λ v. None ∷ v) (idle-barred (n - 1));
       unfinished = unfinished ∙ ap (λ k. suc k) (sym (count-idle is_unfinished refl (n - 1)));
       created = created ∙ sym (count-idle is_created refl (n - 1));
       ending = ending ∙ sym (count-idle may_end refl (n - 1));
     }
 
-started-member : (s : Stand) → member_of (started s) ≡ member_of s
-started-member Is_idle = refl
-started-member Is_created = refl
-started-member Is_ready = refl
-started-member (Waits why ticket arms) = refl
-started-member Is_done = refl
+started-member : (spread : Spread) (s : Stand) → member_of spread (started s) ≡ member_of spread s
+started-member spread Is_idle = refl
+started-member spread Is_created = refl
+started-member spread Is_ready = refl
+started-member spread (Waits why ticket arms) = refl
+started-member spread Is_done = refl
 
 started-due : (s : Stand) → due_of (started s) ≡ due_of s
 started-due Is_idle = refl
@@ -329,6 +447,20 @@ started-due Is_created = refl
 started-due Is_ready = refl
 started-due (Waits why ticket arms) = refl
 started-due Is_done = refl
+
+started-delay : (s : Stand) → delay_of (started s) ≡ delay_of s
+started-delay Is_idle = refl
+started-delay Is_created = refl
+started-delay Is_ready = refl
+started-delay (Waits why ticket arms) = refl
+started-delay Is_done = refl
+
+started-barred : (s : Stand) → barred_of (started s) ≡ barred_of s
+started-barred Is_idle = refl
+started-barred Is_created = refl
+started-barred Is_ready = refl
+started-barred (Waits why ticket arms) = refl
+started-barred Is_done = refl
 
 started-unfinished : (s : Stand) → is_unfinished (started s) ≡ is_unfinished s
 started-unfinished Is_idle = refl
@@ -356,10 +488,13 @@ pub all-started-index : (rows new : List Stand) (ix : Index) (ready : List Bool)
 all-started-index rows new ix ready is bits h = record {
   some = subst (λ v. 0 < length v) (sym is) (rw length-map h.some);
   few = subst (λ v. length v ≤ 1024) (sym is) (rw length-map h.few);
+  spread = h.spread;
   bits = bits;
-  waits = h.waits ∙ sym (map-same member_of started-member rows) ∙ ap (map member_of) (sym is);
+  waits = h.waits ∙ sym (map-same (member_of ix.spread) (started-member ix.spread) rows) ∙ ap (map (member_of ix.spread)) (sym is);
   lists = h.lists;
   dues = h.dues ∙ sym (map-same due_of started-due rows) ∙ ap (map due_of) (sym is);
+  ranks = h.ranks ∙ sym (map-same delay_of started-delay rows) ∙ ap (map delay_of) (sym is);
+  barred = h.barred ∙ sym (map-same barred_of started-barred rows) ∙ ap (map barred_of) (sym is);
   unfinished = h.unfinished ∙ sym (count-map is_unfinished started started-unfinished rows) ∙ ap (count_of is_unfinished) (sym is);
   created = sym (none-created rows) ∙ ap (count_of is_created) (sym is);
   ending = h.ending ∙ sym (count-map may_end started started-end rows) ∙ ap (count_of may_end) (sym is);

@@ -1,4 +1,5 @@
 pub mod AfterSettling
+pub mod Barring
 pub mod Changes
 pub mod ChildrenEnd
 pub mod Counting
@@ -14,7 +15,6 @@ pub mod OfferLists
 pub mod Offering
 pub mod Offerers
 pub mod Open
-pub mod Ranking
 pub mod Ranks
 pub mod ReadySets
 pub mod Starts

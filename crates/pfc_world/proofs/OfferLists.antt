@@ -63,14 +63,14 @@ record IsChanged (rows : List Stand) (old new : Nodes) (p : ℕ) (s : Stand) : T
   others : KeepsOthers old new p
   few : length (arms_of s) ≤ old.room
   each : (k list t : ℕ) → k < old.room → node_at new p k ≡ in_list list t → (k < length (arms_of s)) × (ticket_of s ≡ Some t)
-  every : (arm : Arm) (t : ℕ) → ticket_offering arm s ≡ Some t → IsIn new p (list_of arm) t
+  every : (arm : Arm) (t : ℕ) → ticket_offering arm s ≡ Some t → IsIn new p (list_of old.places arm) t
 
 changed : (rows now : List Stand) (old new : Nodes) (p : ℕ) (s : Stand) → p < length rows → now ≡ set rows p s → AreOffered rows old → IsChanged rows old new p s → AreOffered now new
 changed rows now old new p s lt is h c = subst (λ v. AreOffered v new) (sym is) (record {
   long = c.others.long ∙ h.long ∙ ap (λ n. n * old.room) (sym (length-set rows p s)) ∙ ap (λ n. length (set rows p s) * n) (sym c.others.room);
   few = λ q. subst (λ n. length (arms_of (at (set rows p s) q)) ≤ n) (sym c.others.room) (few q (cases_eq q p));
   each = λ q k list t low own. each q k list t (subst (λ n. k < n) c.others.room low) own (cases_eq q p);
-  every = λ arm q t own. every arm q t own (cases_eq q p);
+  every = λ arm q t own. subst (λ n. IsIn new q (list_of n arm) t) (sym c.others.places) (every arm q t own (cases_eq q p));
 })
   where
     here : (q : ℕ) → q ≡ p → at (set rows p s) q ≡ s
@@ -89,20 +89,20 @@ changed rows now old new p s lt is h c = subst (λ v. AreOffered v new) (sym is)
     each q k list t low own (inr away) =
         subst (λ v. (k < length (arms_of v)) × (ticket_of v ≡ Some t)) (sym (there q away)) (h.each q k list t low (sym (c.others.others q k away low) ∙ own))
 
-    every : (arm : Arm) (q t : ℕ) → ticket_offering arm (at (set rows p s) q) ≡ Some t → (q ≡ p) ⊎ (q ≢ p) → IsIn new q (list_of arm) t
+    every : (arm : Arm) (q t : ℕ) → ticket_offering arm (at (set rows p s) q) ≡ Some t → (q ≡ p) ⊎ (q ≢ p) → IsIn new q (list_of old.places arm) t
     every arm q t own (inl same) =
-        subst (λ n. IsIn new n (list_of arm) t) (sym same) (c.every arm t (sym (ap (ticket_offering arm) (here q same)) ∙ own))
+        subst (λ n. IsIn new n (list_of old.places arm) t) (sym same) (c.every arm t (sym (ap (ticket_offering arm) (here q same)) ∙ own))
     every arm q t own (inr away) =
-        let was : IsIn old q (list_of arm) t = h.every arm q t (sym (ap (ticket_offering arm) (there q away)) ∙ own) in
+        let was : IsIn old q (list_of old.places arm) t = h.every arm q t (sym (ap (ticket_offering arm) (there q away)) ∙ own) in
         record { place = was.place; within = subst (λ n. was.place < n) (sym c.others.room) was.within; is = c.others.others q was.place away was.within ∙ was.is }
 
 -- a process that waited with no alternative waits with none
 pub kept-offered : (rows now : List Stand) (nodes : Nodes) (p : ℕ) (s : Stand) → p < length rows → OffersNone (at rows p) → now ≡ set rows p s → OffersNone s → AreOffered rows nodes → AreOffered now nodes
 kept-offered rows now nodes p s lt was is none h = changed rows now nodes nodes p s lt is h (record {
-  others = record { room = refl; long = refl; others = λ q k away low. refl };
+  others = record { places = refl; room = refl; long = refl; others = λ q k away low. refl };
   few = subst (λ v. length v ≤ nodes.room) (sym none.none) zero-le;
   each = λ k list t low own. empty ((k < length (arms_of s)) × (ticket_of s ≡ Some t)) (arms_of (at rows p)) k was.none (h.each p k list t low own).0;
-  every = λ arm t own. clash (IsIn nodes p (list_of arm) t) (ticket_offering arm s) t (none.nobody arm) own;
+  every = λ arm t own. clash (IsIn nodes p (list_of nodes.places arm) t) (ticket_offering arm s) t (none.nobody arm) own;
 })
 
 no-node : (A : Type 0) (o : Option Member) (list t : ℕ) → o ≡ None → o ≡ in_list list t → A
@@ -115,7 +115,7 @@ withdrawn-offered rows now old new p s lt is none h out others = changed rows no
   others = others;
   few = subst (λ v. length v ≤ old.room) (sym none.none) zero-le;
   each = λ k list t low own. no-node ((k < length (arms_of s)) × (ticket_of s ≡ Some t)) (node_at new p k) list t (out k low) own;
-  every = λ arm t own. clash (IsIn new p (list_of arm) t) (ticket_offering arm s) t (none.nobody arm) own;
+  every = λ arm t own. clash (IsIn new p (list_of old.places arm) t) (ticket_offering arm s) t (none.nobody arm) own;
 })
 
 -- a process that acts waits with no alternative as yet
@@ -140,7 +140,7 @@ tested false ticket t h = cc
 
 -- a process that acted waits with these alternatives
 pub put-offered : (rows now : List Stand) (old new : Nodes) (p ticket : ℕ) (due : Option ℕ) (terminate : Bool) (arms : List Arm) → p < length rows → now ≡ set rows p (Waits (Select due terminate) ticket arms)
-    → length arms ≤ old.room → AreOffered rows old → ((arm : Arm) → has_arm arm arms ≡ true → IsIn new p (list_of arm) ticket) → AreBefore new p (length arms) ticket → KeepsOthers old new p
+    → length arms ≤ old.room → AreOffered rows old → ((arm : Arm) → has_arm arm arms ≡ true → IsIn new p (list_of old.places arm) ticket) → AreBefore new p (length arms) ticket → KeepsOthers old new p
     → AreOffered now new
 put-offered rows now old new p ticket due terminate arms lt is few h offered only others = changed rows now old new p (Waits (Select due terminate) ticket arms) lt is h (record {
   others = others;
@@ -150,7 +150,7 @@ put-offered rows now old new p ticket due terminate arms lt is few h offered onl
       (has.0, ap (λ n. Some n) (sym has.1));
   every = λ arm t own.
       let has : (has_arm arm arms ≡ true) × (ticket ≡ t) = tested (has_arm arm arms) ticket t own in
-      subst (λ n. IsIn new p (list_of arm) n) has.1 (offered arm has.0);
+      subst (λ n. IsIn new p (list_of old.places arm) n) has.1 (offered arm has.0);
 })
 
 -- of a process that waits, no place is in a list but those of its alternatives
@@ -205,28 +205,36 @@ idle-at n p = elim (cases_lt p n) [
 ]
 
 -- nobody waits as yet
-pub first-offered : (n room : ℕ) (nodes : Nodes) → 0 < n → nodes ≡ record { room = room; members = replicate (n * room) None } → AreOffered (Is_ready ∷ replicate (n - 1) Is_idle) nodes
-first-offered n room nodes some is = subst (λ v. AreOffered (Is_ready ∷ replicate (n - 1) Is_idle) v) (sym is) (record {
+pub first-offered : (n room : ℕ) (nodes : Nodes) → 0 < n → nodes.room ≡ room → nodes.members ≡ replicate (n * room) None → AreOffered (Is_ready ∷ replicate (n - 1) Is_idle) nodes
+first-offered n room nodes some room_is members_are = subst (λ v. AreOffered (Is_ready ∷ replicate (n - 1) Is_idle) v) (sym is) (record {
   long = length-replicate (n * room) None ∙ ap (λ k. k * room) (let e : n ≡ suc (n - 1) = omega (arith, some) in e ∙ ap suc (sym (length-replicate (n - 1) Is_idle)));
   few = λ p. few p;
   each = λ p k list t low own. no-node ((k < length (arms_of (at (Is_ready ∷ replicate (n - 1) Is_idle) p))) × (ticket_of (at (Is_ready ∷ replicate (n - 1) Is_idle) p) ≡ Some t)) (member_at (replicate (n * room) None) (p * room + k)) list t (none-at (n * room) (p * room + k)) own;
   every = λ arm p t own. every arm p t own;
 })
   where
+    made : Nodes
+    made = record { places = nodes.places; room = room; members = replicate (n * room) None }
+
+    is : nodes ≡ made
+    is =
+        ap (λ v. record { places = nodes.places; room = v; members = nodes.members }) room_is
+        ∙ ap (λ v. record { places = nodes.places; room = room; members = v }) members_are
+
     few : (p : ℕ) → length (arms_of (at (Is_ready ∷ replicate (n - 1) Is_idle) p)) ≤ room
     few zero = zero-le
     few (suc p) = subst (λ s. length (arms_of s) ≤ room) (sym (idle-at (n - 1) p)) zero-le
 
-    every : (arm : Arm) (p t : ℕ) → ticket_offering arm (at (Is_ready ∷ replicate (n - 1) Is_idle) p) ≡ Some t → IsIn (record { room = room; members = replicate (n * room) None }) p (list_of arm) t
+    every : (arm : Arm) (p t : ℕ) → ticket_offering arm (at (Is_ready ∷ replicate (n - 1) Is_idle) p) ≡ Some t → IsIn made p (list_of nodes.places arm) t
     every arm zero t own = clash _ (ticket_offering arm Is_ready) t refl own
     every arm (suc p) t own = clash _ (ticket_offering arm (at (replicate (n - 1) Is_idle) p)) t (ap (ticket_offering arm) (idle-at (n - 1) p)) own
 
 -- the same, where the process and the ticket were named otherwise
 pub select-offered : (rows now : List Stand) (old new : Nodes) (p p' ticket ticket' : ℕ) (due : Option ℕ) (terminate : Bool) (arms : List Arm) → p' ≡ p → ticket' ≡ ticket → p < length rows
-    → now ≡ set rows p (Waits (Select due terminate) ticket arms) → length arms ≤ old.room → AreOffered rows old → ((arm : Arm) → has_arm arm arms ≡ true → IsIn new p' (list_of arm) ticket')
+    → now ≡ set rows p (Waits (Select due terminate) ticket arms) → length arms ≤ old.room → AreOffered rows old → ((arm : Arm) → has_arm arm arms ≡ true → IsIn new p' (list_of old.places arm) ticket')
     → AreBefore new p' (length arms) ticket' → KeepsOthers old new p' → AreOffered now new
 select-offered rows now old new p p' ticket ticket' due terminate arms same since lt is few h offered only others =
     put-offered rows now old new p ticket due terminate arms lt is few h
-    (λ arm has. subst (λ n. IsIn new n (list_of arm) ticket) same (subst (λ n. IsIn new p' (list_of arm) n) since (offered arm has)))
+    (λ arm has. subst (λ n. IsIn new n (list_of old.places arm) ticket) same (subst (λ n. IsIn new p' (list_of old.places arm) n) since (offered arm has)))
     (subst (λ n. AreBefore new n (length arms) ticket) same (subst (λ n. AreBefore new p' (length arms) n) since only))
     (subst (λ n. KeepsOthers old new n) same others)

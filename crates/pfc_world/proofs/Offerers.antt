@@ -44,7 +44,7 @@ is-of rows nodes x list t h own = record { within = low; room = room; since = si
 -- The place is in the list of the alternative, and who waits with it has no lesser ticket.
 pub record IsAhead (arm : Arm) (rows : List Stand) (nodes : Nodes) (x : ℕ) : Type 0 where
   pub ticket : ℕ
-  pub own : member_at nodes.members x ≡ in_list (list_of arm) ticket
+  pub own : member_at nodes.members x ≡ in_list (list_of nodes.places arm) ticket
   pub rest : (q t : ℕ) → ticket_offering arm (at rows q) ≡ Some t → ticket ≤ t
 
 -- where the walk has come to: a place, or the end
@@ -56,13 +56,13 @@ none-is None f = refl
 none-is (Some t) f = absurd (f t refl)
 
 pub walk-starts : (arm : Arm) (rows : List Stand) (nodes : Nodes) (o : Option ℕ) → AreOffered rows nodes
-    → MatchOption o (IsEmpty nodes.members (list_of arm)) (IsFirstIn nodes.members (list_of arm)) → IsWalk arm rows nodes o
+    → MatchOption o (IsEmpty nodes.members (list_of nodes.places arm)) (IsFirstIn nodes.members (list_of nodes.places arm)) → IsWalk arm rows nodes o
 walk-starts arm rows nodes None h e =
-    λ q. none-is (ticket_offering arm (at rows q)) (λ t own. let i : IsIn nodes q (list_of arm) t = h.every arm q t own in e.none (q * nodes.room + i.place) t i.is)
+    λ q. none-is (ticket_offering arm (at rows q)) (λ t own. let i : IsIn nodes q (list_of nodes.places arm) t = h.every arm q t own in e.none (q * nodes.room + i.place) t i.is)
 walk-starts arm rows nodes (Some x) h f = record {
   ticket = f.ticket;
   own = f.own;
-  rest = λ q t own. let i : IsIn nodes q (list_of arm) t = h.every arm q t own in f.least (q * nodes.room + i.place) t i.is;
+  rest = λ q t own. let i : IsIn nodes q (list_of nodes.places arm) t = h.every arm q t own in f.least (q * nodes.room + i.place) t i.is;
 }
 
 not-key : (A : Type 0) (o : Option ℕ) (t : ℕ) → is_some o ≡ false → o ≡ Some t → A
@@ -72,7 +72,7 @@ not-key A (Some u) t h e = cc
 -- the next place of the list, where the process of this one does not wait with the alternative
 pub walk-steps : (arm : Arm) (rows : List Stand) (nodes : Nodes) (x : ℕ) (o : Option ℕ) → AreApart rows → AreOffered rows nodes → (h : IsAhead arm rows nodes x)
     → is_some (ticket_offering arm (at rows (x / nodes.room))) ≡ false
-    → MatchOption o (IsNobodyAbove nodes.members (list_of arm) h.ticket) (IsNext nodes.members (list_of arm) h.ticket) → IsWalk arm rows nodes o
+    → MatchOption o (IsNobodyAbove nodes.members (list_of nodes.places arm) h.ticket) (IsNext nodes.members (list_of nodes.places arm) h.ticket) → IsWalk arm rows nodes o
 walk-steps arm rows nodes x o apart offered h not = go o
   where
     above : (q t : ℕ) → ticket_offering arm (at rows q) ≡ Some t → h.ticket < t
@@ -81,19 +81,19 @@ walk-steps arm rows nodes x o apart offered h not = go o
         elim (cases_eq t h.ticket) [
           | inl same ↦
               let at_it : q ≡ x / nodes.room =
-              apart q (x / nodes.room) t (offerings-give arm (at rows q) t e) ((is-of rows nodes x (list_of arm) h.ticket offered h.own).since ∙ ap (λ n. Some n) (sym same)) in
+              apart q (x / nodes.room) t (offerings-give arm (at rows q) t e) ((is-of rows nodes x (list_of nodes.places arm) h.ticket offered h.own).since ∙ ap (λ n. Some n) (sym same)) in
               not-key (h.ticket < t) (ticket_offering arm (at rows (x / nodes.room))) t not (sym (ap (λ n. ticket_offering arm (at rows n)) at_it) ∙ e)
           | inr other ↦ omega (arith, le, other)
         ]
 
-    go : (o : Option ℕ) → MatchOption o (IsNobodyAbove nodes.members (list_of arm) h.ticket) (IsNext nodes.members (list_of arm) h.ticket) → IsWalk arm rows nodes o
+    go : (o : Option ℕ) → MatchOption o (IsNobodyAbove nodes.members (list_of nodes.places arm) h.ticket) (IsNext nodes.members (list_of nodes.places arm) h.ticket) → IsWalk arm rows nodes o
     go None n = λ q. none-is (ticket_offering arm (at rows q)) (λ t e.
-        let i : IsIn nodes q (list_of arm) t = offered.every arm q t e in
+        let i : IsIn nodes q (list_of nodes.places arm) t = offered.every arm q t e in
         let le : t ≤ h.ticket = n.most (q * nodes.room + i.place) t i.is in let lt : h.ticket < t = above q t e in omega (arith, le, lt))
     go (Some y) n = record {
       ticket = n.ticket;
       own = n.own;
-      rest = λ q t e. let i : IsIn nodes q (list_of arm) t = offered.every arm q t e in n.least (q * nodes.room + i.place) t i.is (above q t e);
+      rest = λ q t e. let i : IsIn nodes q (list_of nodes.places arm) t = offered.every arm q t e in n.least (q * nodes.room + i.place) t i.is (above q t e);
     }
 
 some-of : (o : Option ℕ) → is_some o ≡ true → (t : ℕ) × (o ≡ Some t)
@@ -106,7 +106,7 @@ pub walk-found : (arm : Arm) (rows : List Stand) (nodes : Nodes) (x p : ℕ) →
 walk-found arm rows nodes x p offered is h found =
     let own : (t : ℕ) × (ticket_offering arm (at rows p) ≡ Some t) = some-of (ticket_offering arm (at rows p)) found in
     let same : Some own.0 ≡ Some h.ticket =
-    sym (offerings-give arm (at rows p) own.0 own.1) ∙ ap (λ n. ticket_of (at rows n)) is ∙ (is-of rows nodes x (list_of arm) h.ticket offered h.own).since in
+    sym (offerings-give arm (at rows p) own.0 own.1) ∙ ap (λ n. ticket_of (at rows n)) is ∙ (is-of rows nodes x (list_of nodes.places arm) h.ticket offered h.own).since in
     record { ticket = h.ticket; own = own.1 ∙ same; least = h.rest }
 
 abbrev ticket_in : Option Member → ℕ
@@ -119,10 +119,10 @@ distance nodes done None = 0
 distance nodes done (Some x) = suc (done + 1 - ticket_in (member_at nodes.members x))
 
 pub walk-nearer : (arm : Arm) (rows : List Stand) (nodes : Nodes) (x done : ℕ) (o : Option ℕ) → AreTickets rows done → AreOffered rows nodes → (h : IsAhead arm rows nodes x)
-    → MatchOption o (IsNobodyAbove nodes.members (list_of arm) h.ticket) (IsNext nodes.members (list_of arm) h.ticket) → distance nodes done o < distance nodes done (Some x)
+    → MatchOption o (IsNobodyAbove nodes.members (list_of nodes.places arm) h.ticket) (IsNext nodes.members (list_of nodes.places arm) h.ticket) → distance nodes done o < distance nodes done (Some x)
 walk-nearer arm rows nodes x done None tickets offered h n = omega arith
 walk-nearer arm rows nodes x done (Some y) tickets offered h n =
-    let le : n.ticket ≤ done + 1 = tickets.upto (y / nodes.room) n.ticket (is-of rows nodes y (list_of arm) n.ticket offered n.own).since in
+    let le : n.ticket ≤ done + 1 = tickets.upto (y / nodes.room) n.ticket (is-of rows nodes y (list_of nodes.places arm) n.ticket offered n.own).since in
     let beyond : h.ticket < n.ticket = n.above in
     let e : ticket_in (member_at nodes.members x) ≡ h.ticket = ap ticket_in h.own in
     let f : ticket_in (member_at nodes.members y) ≡ n.ticket = ap ticket_in n.own in

@@ -1,5 +1,6 @@
 pub mod Channels
 pub mod Coend
+pub mod Delays
 pub mod Firsts
 pub mod Goings
 pub mod Holders
@@ -16,7 +17,6 @@ pub mod Rows
 pub mod Selects
 pub mod Semaphores
 pub mod Settling
-pub mod Sought
 pub mod Tables
 pub mod Terminating
 pub mod Tickets

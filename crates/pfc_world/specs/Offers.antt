@@ -14,7 +14,7 @@ pub record AreOffered (rows : List Stand) (nodes : Nodes) : Type 0 where
   pub long : length nodes.members ≡ length rows * nodes.room
   pub few : (p : ℕ) → length (arms_of (at rows p)) ≤ nodes.room
   pub each : (p k list t : ℕ) → k < nodes.room → node_at nodes p k ≡ in_list list t → (k < length (arms_of (at rows p))) × (ticket_of (at rows p) ≡ Some t)
-  pub every : (arm : Arm) (p t : ℕ) → ticket_offering arm (at rows p) ≡ Some t → IsIn nodes p (list_of arm) t
+  pub every : (arm : Arm) (p t : ℕ) → ticket_offering arm (at rows p) ≡ Some t → IsIn nodes p (list_of nodes.places arm) t
 
 -- what is kept beside the rows is what they say
 pub record IsKept (w : Table) (index : Index) (nodes : Nodes) : Type 0 where

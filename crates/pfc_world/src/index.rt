@@ -2,41 +2,52 @@
 ghost use Rattle.std.specs.Prelude.{◌≡◌, ◌+◌, ◌-◌, ◌<◌, ◌≤◌, ◌∷◌, true, false, [], length, set, replicate, IfOk};
 ghost use Rattle.pfc_state.specs.Stands.{Is_idle, Is_ready, Waits, may_end};
 ghost use Rattle.pfc_state.specs.Waits.{due_of_wait};
+ghost use Rattle.pfc_world.specs.Delays.{barred_of_wait, barred_at, delay_of_wait};
 ghost use Rattle.pfc_world.specs.Indexes.{IsIndexed, Admits, BeginsWait, IsListed, EndsWait};
 
 use crate::Why;
-use crate::lists::{LISTS, list_of};
+use crate::lists::Spread;
 use pfc_base::Memory;
 use pfc_links::Links;
 use pfc_lists::Numbers;
 use pfc_moments::Moments;
+use pfc_ranks::{Delay, Ranks};
 use std::alloc::Global;
 
-/// Who is ready; who waits in which list; who is due, and when; how many processes are unfinished, main included;
-/// how many of these are created and wait to be started; and how many wait in a select with an open `terminate`.
+/// How waits are spread over lists; who is ready; who waits in which list; who is due, and when; who is delayed at a
+/// condition, by ranks; who is barred at a resource; how many processes are unfinished, main included; how many of these
+/// are created and wait to be started; and how many wait in a select with an open `terminate`.
 #[derive(Drop)]
 pub(crate) struct Index {
+    pub(crate) spread: Spread,
     pub(crate) ready: Numbers,
     pub(crate) waits: Links,
     pub(crate) dues: Moments,
+    pub(crate) ranks: Ranks,
+    pub(crate) barred: Ranks,
     pub(crate) unfinished: u32,
     pub(crate) created: u32,
     pub(crate) ending: u32,
 }
 
 impl Index {
-    /// That of n processes before the first action: main is ready, and the others are idle.
-    pub(crate) fn new(alloc: Global, n: u32) -> Result<Index, Memory>
+    /// That of n processes before the first action, with so many lists for each cause of waits: main is ready, and the
+    /// others are idle.
+    pub(crate) fn new(alloc: Global, n: u32, objects: u32) -> Result<Index, Memory>
         requires some { 0 < n }
         requires few { n ≤ 1024 }
         ensures { IfOk result (λ index. IsIndexed (Is_ready ∷ replicate (n - 1) Is_idle) index) }
     {
+        let spread = Spread::new(n, objects);
         let mut ready = Numbers::new(alloc, n)?;
         ready.put(0, true);
         Ok(Index {
+            spread,
             ready,
-            waits: Links::new(alloc, n, LISTS)?,
+            waits: Links::new(alloc, n, spread.lists())?,
             dues: Moments::new(alloc, n)?,
+            ranks: Ranks::new(alloc, n)?,
+            barred: Ranks::new(alloc, n)?,
             unfinished: 1,
             created: 0,
             ending: 0,
@@ -49,9 +60,15 @@ impl Index {
         ensures { BeginsWait self.old self.new p why ticket }
     {
         self.ready.put(p, false);
-        self.waits.append(p, list_of(why), ticket);
+        self.waits.append(p, self.spread.list_of(why), ticket);
         if let Some(moment) = due_of(why) {
             self.dues.put(p, moment);
+        }
+        if let Some(delay) = delay_of(why, ticket) {
+            self.ranks.put(p, delay);
+        }
+        if let Some(delay) = barred_of(why, ticket) {
+            self.barred.put(p, delay);
         }
         if may_end(why) {
             self.ending += 1;
@@ -88,6 +105,8 @@ impl Index {
     {
         self.waits.remove(p);
         self.dues.remove(p);
+        self.ranks.remove(p);
+        self.barred.remove(p);
         if ends {
             self.ending -= 1;
         }
@@ -102,6 +121,41 @@ fn due_of(why: Why) -> Option<u64>
         Why::Sleep(moment) => Some(moment),
         Why::Select { due, .. } => due,
         _ => None,
+    }
+}
+
+/// The delay of a wait at a condition, with its rank and this ticket.
+fn delay_of(why: Why, ticket: u64) -> Option<Delay>
+    ensures { result ≡ delay_of_wait why ticket }
+{
+    match why {
+        Why::Condition { number, rank } => Some(Delay {
+            object: number,
+            rank,
+            ticket,
+        }),
+        _ => None,
+    }
+}
+
+/// The delay of a wait at a guarded procedure of a resource, with this ticket.
+fn barred_of(why: Why, ticket: u64) -> Option<Delay>
+    ensures { result ≡ barred_of_wait why ticket }
+{
+    match why {
+        Why::Barred { resource, .. } => Some(barred(resource, ticket)),
+        _ => None,
+    }
+}
+
+/// To be barred at a resource with this ticket.
+pub(crate) fn barred(resource: u32, ticket: u64) -> Delay
+    ensures { result ≡ barred_at resource ticket }
+{
+    Delay {
+        object: resource,
+        rank: 0,
+        ticket,
     }
 }
 

@@ -1,33 +1,30 @@
 //! Who is first, and who is last, among those who wait: walks along one list.
 ghost use Rattle.std.specs.Prelude.{◌≡◌, ◌<◌, length, IfSome, MatchOption};
-ghost use Rattle.pfc_state.specs.Stands.{IsWaiting, ticket_offering};
-ghost use Rattle.pfc_world.specs.Firsts.{first, last, lesser_rank, least_rank, IsFirst, IsLast, IsNobody};
+ghost use Rattle.pfc_state.specs.Stands.{IsWaiting, ticket_at, ticket_offering};
+ghost use Rattle.pfc_world.specs.Firsts.{first, last, IsFirst, IsLast, IsNobody};
 ghost use Rattle.pfc_world.specs.Indexes.{AreListed};
-ghost use Rattle.pfc_world.specs.Lists.{list_count};
 ghost use Rattle.pfc_world.specs.Offers.{AreOffered};
-ghost use Rattle.pfc_world.specs.Sought.{key_of, list_sought};
 ghost use Rattle.pfc_world.specs.Tables.{at};
 
-use crate::Arm;
-use crate::lists::{list_of, list_of_barred, list_of_condition};
+use crate::lists::Spread;
 use crate::rows::Rows;
-use crate::walks::Sought;
+use crate::{Arm, Why};
 use pfc_alternatives::Alternatives;
 use pfc_links::Links;
 
-/// The process of least ticket among those that are sought.
-pub(crate) fn first_of(rows: &Rows, waits: &Links, sought: Sought) -> Option<u32>
-    requires { AreListed rows.now.rows waits.now }
-    ensures first { result ≡ first (key_of sought) rows.now.rows }
-    ensures found { MatchOption result (IsNobody (key_of sought) rows.now.rows) (IsFirst (key_of sought) rows.now.rows) }
+/// The process of least ticket among those whose wait is this one.
+pub(crate) fn first_of(rows: &Rows, spread: Spread, waits: &Links, why: Why) -> Option<u32>
+    requires { AreListed spread rows.now.rows waits.now }
+    ensures first { result ≡ first (ticket_at why) rows.now.rows }
+    ensures found { MatchOption result (IsNobody (ticket_at why) rows.now.rows) (IsFirst (ticket_at why) rows.now.rows) }
     ensures waits { IfSome result (λ p. IsWaiting (at rows.now.rows p)) }
     ensures within { IfSome result (λ p. p < length rows.now.rows) }
 {
     // this also tells that no two tickets are equal
     let _done = rows.done();
-    let mut next = waits.first(list_sought(sought));
+    let mut next = waits.first(spread.list_of(why));
     while let Some(p) = next {
-        if rows.is_sought(p, sought) {
+        if rows.waits_at(p, why) {
             return Some(p);
         }
         next = waits.next(p);
@@ -56,59 +53,22 @@ pub(crate) fn first_offering(rows: &Rows, offers: &Alternatives, arm: Arm) -> Op
     None
 }
 
-/// The process of greatest ticket among those that are sought.
-pub(crate) fn last_of(rows: &Rows, waits: &Links, sought: Sought) -> Option<u32>
-    requires { AreListed rows.now.rows waits.now }
-    ensures last { result ≡ last (key_of sought) rows.now.rows }
-    ensures found { MatchOption result (IsNobody (key_of sought) rows.now.rows) (IsLast (key_of sought) rows.now.rows) }
+/// The process of greatest ticket among those whose wait is this one.
+pub(crate) fn last_of(rows: &Rows, spread: Spread, waits: &Links, why: Why) -> Option<u32>
+    requires { AreListed spread rows.now.rows waits.now }
+    ensures last { result ≡ last (ticket_at why) rows.now.rows }
+    ensures found { MatchOption result (IsNobody (ticket_at why) rows.now.rows) (IsLast (ticket_at why) rows.now.rows) }
     ensures waits { IfSome result (λ p. IsWaiting (at rows.now.rows p)) }
     ensures within { IfSome result (λ p. p < length rows.now.rows) }
 {
     // this also tells that no two tickets are equal
     let _done = rows.done();
-    let mut next = waits.last(list_sought(sought));
+    let mut next = waits.last(spread.list_of(why));
     while let Some(p) = next {
-        if rows.is_sought(p, sought) {
+        if rows.waits_at(p, why) {
             return Some(p);
         }
         next = waits.previous(p);
     }
     None
-}
-
-/// The least rank of those who wait on the condition.
-pub(crate) fn least_rank_of(rows: &Rows, waits: &Links, condition: u32) -> Option<i32>
-    requires { AreListed rows.now.rows waits.now }
-    ensures { result ≡ least_rank condition rows.now.rows }
-{
-    // this also tells that no two tickets are equal
-    let _done = rows.done();
-    let mut least = None;
-    let mut next = waits.first(list_of_condition(condition));
-    while let Some(p) = next {
-        least = lesser_rank(least, rows.rank_on(p, condition));
-        next = waits.next(p);
-    }
-    least
-}
-
-fn lesser_rank(least: Option<i32>, rank: Option<i32>) -> Option<i32>
-    ensures { result ≡ lesser_rank least rank }
-{
-    match (least, rank) {
-        (None, _) => rank,
-        (_, None) => least,
-        (Some(least), Some(rank)) => Some(least.min(rank)),
-    }
-}
-
-/// The list in which those who are sought wait.
-fn list_sought(sought: Sought) -> u32
-    ensures list { result ≡ list_sought sought }
-    ensures known { result < list_count }
-{
-    match sought {
-        Sought::At(why) => list_of(why),
-        Sought::BarredAt { resource, .. } => list_of_barred(resource),
-    }
 }

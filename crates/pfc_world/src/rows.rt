@@ -1,16 +1,15 @@
 //! The rows of the table: what each process stands at, who acts, the number of actions done, and the clock.
 ghost use Rattle.std.specs.Prelude.{◌≡◌, ℕ, ◌+◌, ◌*◌, ◌^◌, ◌<◌, ◌≤◌, true, false, None, Some, Option, [], length, map, is_some, IfOk, IfSome, MatchOption};
 ghost use Rattle.pfc_state.specs.declared.waits.Why.{Why};
-ghost use Rattle.pfc_state.specs.Stands.{Is_ready, Waits, Is_done, IsWaiting, is_ready, is_unfinished, is_at_coend, state_of, ticket_of, arms_of, may_end, rank_on, ticket_offering};
+ghost use Rattle.pfc_state.specs.Stands.{Is_ready, Waits, Is_done, IsWaiting, is_ready, is_unfinished, is_at_coend, state_of, ticket_of, arms_of, may_end, ticket_at, ticket_offering};
 ghost use Rattle.pfc_state.specs.Waits.{is_select, place_of_arm};
 ghost use Rattle.pfc_world.specs.Coend.{IsAtCoend};
 ghost use Rattle.pfc_world.specs.Firsts.{offer_at};
-ghost use Rattle.pfc_world.specs.Sought.{key_of};
 ghost use Rattle.pfc_world.specs.Tables.{at, start_table, some_ready};
 ghost use Rattle.pfc_world.specs.Tickets.{AreTickets, IsNew};
 ghost use Rattle.pfc_world.specs.Transitions.{begun, rested, placed, blocked, is_released, released, ended, finished, all_started, ticked, IsCreation};
 
-use crate::walks::{Sought, start_all, ticket_of};
+use crate::walks::start_all;
 use crate::{Arm, Offer, Running, State, Why};
 use pfc_base::{Memory, RunFault};
 use pfc_state::Row;
@@ -293,22 +292,13 @@ impl Rows {
         self.arms(p).len()
     }
 
-    /// Whether a process is sought.
-    pub(crate) fn is_sought(&self, p: u32, sought: Sought) -> bool
+    /// Whether the wait of a process is this one.
+    pub(crate) fn waits_at(&self, p: u32, why: Why) -> bool
         requires { p < length self.now.rows }
-        ensures { result ≡ is_some (key_of sought (at self.now.rows p)) }
+        ensures { result ≡ is_some (ticket_at why (at self.now.rows p)) }
     {
         let row = &self.rows[p as usize];
-        ticket_of(row, sought).is_some()
-    }
-
-    /// The rank of a process, where it waits on the condition.
-    pub(crate) fn rank_on(&self, p: u32, condition: u32) -> Option<i32>
-        requires { p < length self.now.rows }
-        ensures { result ≡ rank_on condition (at self.now.rows p) }
-    {
-        let row = &self.rows[p as usize];
-        row.rank_on(condition)
+        row.ticket_at(why).is_some()
     }
 
     pub(crate) fn give_up(&mut self, r: Running)

@@ -4,7 +4,6 @@ ghost use Rattle.pfc_world.specs.Settling.{may_all_end};
 ghost use Rattle.pfc_world.specs.Terminating.{terminated, AreServers, IsNoServer, IsServer};
 
 use crate::World;
-use crate::lists::list_of_selects;
 
 impl World {
     /// Every child that waits in a select with an open `terminate` finishes, where nothing else can happen any more; and
@@ -26,7 +25,7 @@ impl World {
     {
         // this also tells that no two tickets are equal
         let _done = self.rows.done();
-        let Some(first) = self.index.waits.first(list_of_selects()) else {
+        let Some(first) = self.index.waits.first(self.index.spread.list_of_selects()) else {
             return None;
         };
         if first == 0 {

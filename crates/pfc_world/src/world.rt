@@ -4,7 +4,7 @@ ghost use Rattle.pfc_state.specs.declared.waits.Why.{Why};
 ghost use Rattle.pfc_state.specs.Stands.{Is_ready, Waits, Is_done, IsWaiting, is_due, state_of, ticket_of, arms_of, may_end, ticket_at, ticket_on, ticket_offering, ticket_barred};
 ghost use Rattle.pfc_state.specs.Waits.{is_select, place_of_arm};
 ghost use Rattle.pfc_world.specs.Coend.{IsAtCoend};
-ghost use Rattle.pfc_world.specs.Firsts.{first, last, offer_at, first_offer, first_ranked, least_rank, IsFirst, IsFirstRanked, IsLast, IsNobody};
+ghost use Rattle.pfc_world.specs.Firsts.{first, last, offer_at, first_offer, first_ranked, IsFirst, IsFirstRanked, IsLast, IsNobody};
 ghost use Rattle.pfc_world.specs.Settling.{earliest, woken_now, moved_to, settled, children_may_end, may_all_end, IsLeftBy, IsDue};
 ghost use Rattle.pfc_world.specs.Indexes.{IsReadySet, number};
 ghost use Rattle.pfc_world.specs.Ready.{ready_numbers, turn_of};
@@ -12,10 +12,9 @@ ghost use Rattle.pfc_world.specs.Tables.{at, start_table, some_ready, some_creat
 ghost use Rattle.pfc_world.specs.Tickets.{AreTickets, IsNew};
 ghost use Rattle.pfc_world.specs.Transitions.{begun, rested, placed, blocked, is_released, released, ended, finished, all_started, ticked, IsCreation};
 
-use crate::index::Index;
-use crate::lookups::{first_of, first_offering, last_of, least_rank_of};
+use crate::index::{Index, barred};
+use crate::lookups::{first_of, first_offering, last_of};
 use crate::rows::Rows;
-use crate::walks::Sought;
 use crate::{After, Arm, Offer, Running, Settled, State, Why};
 use pfc_alternatives::Alternatives;
 use pfc_base::{Memory, RunFault};
@@ -47,8 +46,12 @@ impl Model for World {
 
 impl World {
     /// The table of n processes, each with room for this many alternatives: main is ready, the others are
-    /// idle, and the clock is at 0. Its only refusal is want of memory; no other call takes memory.
-    pub fn with_processes(alloc: Global, n: u32, arms: u32) -> Result<World, Memory>
+    /// idle, and the clock is at 0. Each kind of wait, and of alternatives, has as many lists as there are objects, but at
+    /// least one and at most 262,144. Where all numbers of semaphores, channels, monitors, conditions and resources
+    /// are below this, and n times the number of entries of a process is no more, no two objects share a list. The memory
+    /// of a list is 8 bytes, and each object counts for seventeen. Its only refusal is want of memory; no other call takes
+    /// memory.
+    pub fn with_processes(alloc: Global, n: u32, arms: u32, objects: u32) -> Result<World, Memory>
         requires some { 0 < n }
         requires few { n ≤ 1024 }
         ensures world { IfOk result (λ world. world ≡ start_table n arms) }
@@ -56,8 +59,8 @@ impl World {
     {
         Ok(World {
             rows: Rows::with_processes(alloc, n, arms)?,
-            index: Index::new(alloc, n)?,
-            offers: Alternatives::new(alloc, n, arms)?,
+            index: Index::new(alloc, n, objects)?,
+            offers: Alternatives::new(alloc, n, arms, objects)?,
         })
     }
 
@@ -275,7 +278,7 @@ impl World {
         ensures waits { IfSome result (λ p. IsWaiting (at self.now.rows p)) }
         ensures within { IfSome result (λ p. p < length self.now.rows) }
     {
-        first_of(&self.rows, &self.index.waits, Sought::At(why))
+        first_of(&self.rows, self.index.spread, &self.index.waits, why)
     }
 
     /// The process of greatest ticket whose wait is exactly this one.
@@ -285,7 +288,7 @@ impl World {
         ensures waits { IfSome result (λ p. IsWaiting (at self.now.rows p)) }
         ensures within { IfSome result (λ p. p < length self.now.rows) }
     {
-        last_of(&self.rows, &self.index.waits, Sought::At(why))
+        last_of(&self.rows, self.index.spread, &self.index.waits, why)
     }
 
     /// The process of least rank among those that wait on the condition, and at that rank the one of least
@@ -296,13 +299,9 @@ impl World {
         ensures waits { IfSome result (λ p. IsWaiting (at self.now.rows p)) }
         ensures within { IfSome result (λ p. p < length self.now.rows) }
     {
-        match self.least_rank(condition) {
-            Some(rank) => self.first_at(Why::Condition {
-                number: condition,
-                rank,
-            }),
-            None => None,
-        }
+        // this also tells that no two tickets are equal
+        let _done = self.rows.done();
+        self.index.ranks.first(condition)
     }
 
     /// The process of least ticket among those that wait in a select with this alternative, and its first
@@ -336,8 +335,12 @@ impl World {
         ensures waits { IfSome result (λ p. IsWaiting (at self.now.rows p)) }
         ensures within { IfSome result (λ p. p < length self.now.rows) }
     {
-        let sought = Sought::BarredAt { resource, after };
-        first_of(&self.rows, &self.index.waits, sought)
+        // this also tells that no two tickets are equal
+        let _done = self.rows.done();
+        match after {
+            Some(after) => self.index.barred.first_behind(barred(resource, after)),
+            None => self.index.barred.first(resource),
+        }
     }
 }
 
@@ -372,12 +375,6 @@ impl World {
 }
 
 impl World {
-    fn least_rank(&self, condition: u32) -> Option<i32>
-        ensures { result ≡ least_rank condition self.now.rows }
-    {
-        least_rank_of(&self.rows, &self.index.waits, condition)
-    }
-
     fn some_ready(&self) -> bool
         ensures { result ≡ some_ready self.now.rows }
     {

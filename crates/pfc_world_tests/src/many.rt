@@ -14,6 +14,9 @@ const MOST: u32 = 1024;
 
 const LATEST: u64 = 1_000_000;
 
+/// How many lists the table keeps for each kind of wait, fewer than the numbers of semaphores and channels reach.
+const LISTS: u32 = 64;
+
 const SEMAPHORE: Why = Why::Semaphore(0);
 
 /// A table in which nobody acts.
@@ -26,7 +29,7 @@ struct Trial {
 impl Trial {
     /// All children are ready, and main waits at `coend`.
     fn new(alloc: Global) -> Result<Trial, Memory> {
-        let world = World::with_processes(alloc, MOST, 4)?;
+        let world = World::with_processes(alloc, MOST, 4, LISTS)?;
         let mut trial = Trial { world };
         for p in 1..MOST {
             trial.create(p);

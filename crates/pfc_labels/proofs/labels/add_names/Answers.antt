@@ -8,7 +8,7 @@ use Rattle.pfc_labels.proofs.labels.add_names.Goals as goal
 pub loop-k-preserved : goal.loop-k-preserved
 loop-k-preserved c =
     names_next (process_info (known c.args.program.now)) c.loop-k.all.items c.add_variable.new.all.items (all_labelled c.args.program.now.tables.types.now) c.args.names.now c.loop-k.k
-    (subst (λ (n : ℕ). c.loop-k.k < n) c.len-k-end.ensures c.loop-k-test.true) c.in_ok-add_variable.ensures
+    (subst (λ (n : ℕ). c.loop-k.k < n) c.len-k-end.ensures c.loop-k-test.true) c.in_ok-from.ensures
     ∙ c.loop-k.invariant
 
 pub returns : goal.returns

@@ -1,27 +1,22 @@
-use Rattle.std.proofs.Common.{rules, ◌≡◌, FitsSigned, w32, to_z, of_z, sym, ap, ◌∙◌, subst}
-use Rattle.std.specs.Prelude.{MatchOption}
-use Rattle.std.proofs.lemmas.Int.{to_z-of_z}
-use Rattle.pfc_state.specs.declared.waits.Why.TheVariants.{Condition}
-use Rattle.pfc_state.specs.Stands.{ticket_at}
-use Rattle.pfc_world.specs.Firsts.{IsFirst, IsNobody, first, first_with_rank}
-use Rattle.pfc_world.proofs.Ranks.{ranked-found, unranked-found}
+use Rattle.std.proofs.Common.{ap, ◌∙◌, subst}
+use Rattle.std.specs.Prelude.{MatchOption, IfSome}
+use Rattle.pfc_state.specs.Stands.{IsWaiting, ticket_on}
+use Rattle.pfc_world.specs.Firsts.{IsFirstRanked, IsNobody, first_ranked}
+use Rattle.pfc_world.specs.Tables.{at}
+use Rattle.pfc_world.proofs.Ranks.{ranked-first, ranked-found, ranked-waits}
 use Rattle.pfc_world.proofs.world.World.first_ranked.Goals as goal
 
--- the rank that was passed is the rank that was found
-same : (c : goal.After-first_at) → to_z w32 (of_z w32 c.in-Some.rank) ≡ c.in-Some.rank
-same c = let fits : FitsSigned w32 c.in-Some.rank = search rules in to_z-of_z w32 c.in-Some.rank fits
+pub returns-clause-first : goal.returns-clause-first
+returns-clause-first c =
+    ranked-first c.args.condition c.self.inside.rows.rows c.self.inside.index.ranks c.first.result c.done-done.ensures.tickets.apart c.self.invariant.indexed.ranks c.first.ensures
+    ∙ ap (λ w. first_ranked c.args.condition w.rows) c.self.view_is
 
-pub returns-in-Some-clause-first : goal.returns-in-Some-clause-first
-returns-in-Some-clause-first c =
-    c.first_at.ensures.first
-    ∙ ap (λ r. first (ticket_at (Condition c.args.condition r)) c.args.self.now.rows) (same c)
-    ∙ ap (λ o. first_with_rank c.args.condition o c.args.self.now.rows) (sym (sym c.least_rank.ensures ∙ c.in-Some.is))
+pub returns-clause-found : goal.returns-clause-found
+returns-clause-found c =
+    subst (λ w. MatchOption c.first.result (IsNobody (ticket_on c.args.condition) w.rows) (IsFirstRanked c.args.condition w.rows)) c.self.view_is
+    (ranked-found c.args.condition c.self.inside.rows.rows c.self.inside.index.ranks c.first.result c.self.invariant.indexed.ranks c.first.ensures)
 
-pub returns-in-Some-clause-found : goal.returns-in-Some-clause-found
-returns-in-Some-clause-found c =
-    ranked-found c.args.condition c.args.self.now.rows c.in-Some.rank c.first_at.result (sym c.least_rank.ensures ∙ c.in-Some.is)
-    (subst (λ r. MatchOption c.first_at.result (IsNobody (ticket_at (Condition c.args.condition r)) c.args.self.now.rows) (IsFirst (ticket_at (Condition c.args.condition r)) c.args.self.now.rows))
-    (same c) c.first_at.ensures.found)
-
-pub returns-in-None-clause-found : goal.returns-in-None-clause-found
-returns-in-None-clause-found c = unranked-found c.args.condition c.args.self.now.rows (sym c.least_rank.ensures ∙ c.in-None.is)
+pub returns-clause-waits : goal.returns-clause-waits
+returns-clause-waits c =
+    subst (λ w. IfSome c.first.result (λ p. IsWaiting (at w.rows p))) c.self.view_is
+    (ranked-waits c.args.condition c.self.inside.rows.rows c.self.inside.index.ranks c.first.result c.self.invariant.indexed.ranks c.first.ensures)

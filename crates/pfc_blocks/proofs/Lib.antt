@@ -1,0 +1,2 @@
+pub mod LabelPlaces
+pub mod CalledBlocks

@@ -1,0 +1,10 @@
+pub mod Arms
+pub mod Branches
+pub mod Leads
+pub mod Loops
+pub mod Nodes
+pub mod Parts
+pub mod Same
+pub mod Sums
+pub mod Targets
+pub mod Values

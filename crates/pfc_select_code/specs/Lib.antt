@@ -1,0 +1,4 @@
+pub mod Alternatives
+pub mod Cells
+pub mod Leading
+pub mod Values

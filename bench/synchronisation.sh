@@ -3,8 +3,9 @@
 # a `signal`, the two sides of a message, a call of a monitor and its return, a call of an entry and its `accept`;
 # and what the same actions cost in the table alone: where nobody waits, where one process waits and is woken, where it
 # waits twice, as a caller does, and where a partner is looked for as well, as for a message. There are 64 processes.
-# The last two have 1,002: a `resume` and a new `delay` where 1,000 wait at one condition, and the two that look for a
-# partner where 1,000 wait at channels of their own.
+# Then, with 64 and with 1,002, where all but three wait: a `resume` and a new `delay` at one condition, where all ranks
+# are equal and where they are drawn; two that sleep and wake, where the others sleep; and the two that look for a
+# partner, where the others wait at channels of their own.
 # It works on a copy of the repository, to which it adds a small program; needs rt and valgrind.
 set -e
 top=$(cd "$(dirname "$0")/.." && pwd)
@@ -14,7 +15,7 @@ cp -r "$top/crates" "$top/crates.txt" "$copy"
 cd "$copy"
 git init -q .
 echo "pairs: pfc_base pfc_state pfc_world pfc_pass pfc_monitor pfc_meet" >> crates.txt
-mkdir -p crates/pairs/{src,specs,proofs/{create_all,repeat,delay_all,send_all}}
+mkdir -p crates/pairs/{src,specs,proofs/{create_all,repeat,delay_all,send_all,sleep_all}}
 cd crates/pairs
 touch specs/Lib.antt proofs/Lib.antt
 cat > src/main.rt <<'PROGRAM'
@@ -245,8 +246,19 @@ fn enter_alone(world: &mut World, mons: &mut Monitors, p: u32)
     }
 }
 
+/// 0, or a rank that is drawn and rises with the actions, so that a new one comes anywhere among those that wait.
+fn rank_of(world: &World, drawn: bool) -> i32 {
+    if !drawn {
+        return 0;
+    }
+    let actions = world.done() % 1_000_000;
+    let word = (actions as u32).wrapping_mul(2_654_435_769) / 65_536;
+    let risen = if world.processes() > 64 { actions * 16 } else { actions * 256 };
+    i32::try_from(risen + u64::from(word)).unwrap_or(0)
+}
+
 /// The holder of the monitor waits at its condition.
-fn delay_holder(world: &mut World, mons: &mut Monitors)
+fn delay_holder(world: &mut World, mons: &mut Monitors, drawn: bool)
     requires { world.old.acting ≡ None }
     ensures { world.new.acting ≡ None }
 {
@@ -257,7 +269,8 @@ fn delay_holder(world: &mut World, mons: &mut Monitors)
     if let Some(p) = mons.holder(m) {
         if let Some(r) = next_action(world, p) {
             if mons.holder(m) == Some(r.number()) {
-                let _ = delay(world, mons, r, 0, 0);
+                let rank = rank_of(world, drawn);
+                let _ = delay(world, mons, r, 0, rank);
             } else {
                 world.rest(r);
             }
@@ -266,7 +279,7 @@ fn delay_holder(world: &mut World, mons: &mut Monitors)
 }
 
 /// The holder of the monitor resumes the first that waits at its condition, which waits there anew.
-fn resume_and_delay(world: &mut World, mons: &mut Monitors)
+fn resume_and_delay(world: &mut World, mons: &mut Monitors, drawn: bool)
     requires { world.old.acting ≡ None }
     ensures { world.new.acting ≡ None }
 {
@@ -285,17 +298,17 @@ fn resume_and_delay(world: &mut World, mons: &mut Monitors)
             world.rest(r);
         }
     }
-    delay_holder(world, mons);
+    delay_holder(world, mons, drawn);
 }
 
 /// All but the first three wait at the condition, and process 1 holds its monitor.
-fn delay_all(world: &mut World, mons: &mut Monitors)
+fn delay_all(world: &mut World, mons: &mut Monitors, drawn: bool)
     requires { world.old.acting ≡ None }
     ensures { world.new.acting ≡ None }
 {
     for p in 3..1002 {
         enter_alone(world, mons, p);
-        delay_holder(world, mons);
+        delay_holder(world, mons, drawn);
     }
     enter_alone(world, mons, 1);
 }
@@ -312,7 +325,39 @@ fn send_all(world: &mut World)
     }
 }
 
-fn pair(world: &mut World, sems: &mut Semaphores, mons: &mut Monitors, case: usize)
+/// An action that sleeps until a drawn moment that does not come, and one that ends the wait.
+fn sleep_and_wake(world: &mut World)
+    requires { world.old.acting ≡ None }
+    ensures { world.new.acting ≡ None }
+{
+    sleep(world, 1);
+    if let Some(r) = next_action(world, 2) {
+        world.rest(r);
+        free(world);
+    }
+}
+
+fn sleep(world: &mut World, p: u32)
+    requires { world.old.acting ≡ None }
+    ensures { world.new.acting ≡ None }
+{
+    if let Some(r) = next_action(world, p) {
+        let moment = LAST + world.done() % 1_000 * 761 % 1_000;
+        world.block(r, Why::Sleep(moment));
+    }
+}
+
+/// All but the first three sleep.
+fn sleep_all(world: &mut World)
+    requires { world.old.acting ≡ None }
+    ensures { world.new.acting ≡ None }
+{
+    for p in 3..1002 {
+        sleep(world, p);
+    }
+}
+
+fn pair(world: &mut World, sems: &mut Semaphores, mons: &mut Monitors, case: u32)
     requires { world.old.acting ≡ None }
     ensures { world.new.acting ≡ None }
 {
@@ -325,12 +370,14 @@ fn pair(world: &mut World, sems: &mut Semaphores, mons: &mut Monitors, case: usi
         7 => enter_and_leave(world, mons),
         8 => call_and_accept(world),
         9 | 11 => look_and_wake(world),
-        10 => resume_and_delay(world, mons),
+        10 | 12 => resume_and_delay(world, mons, false),
+        13 | 14 => resume_and_delay(world, mons, true),
+        15 | 16 => sleep_and_wake(world),
         _ => {}
     }
 }
 
-fn repeat(world: &mut World, sems: &mut Semaphores, mons: &mut Monitors, case: usize)
+fn repeat(world: &mut World, sems: &mut Semaphores, mons: &mut Monitors, case: u32)
     requires { world.old.acting ≡ None }
 {
     for _i in 0..PAIRS {
@@ -346,7 +393,14 @@ fn main(rt: HostRuntime) -> ExitCode {
         Ok(words) => words,
         Err(_) => return ExitCode::from(8),
     };
-    let n = if words.len() > 9 { 1_002 } else { 64 };
+    let case = match words.get(1) {
+        Some(word) => word.parse::<u32>().unwrap_or(0),
+        None => 0,
+    };
+    let n = match case {
+        10 | 11 | 13 | 15 => 1_002,
+        _ => 64,
+    };
     let Ok(mut world) = World::with_processes(rt.alloc(), n, 4, n) else {
         return ExitCode::from(8);
     };
@@ -358,16 +412,18 @@ fn main(rt: HostRuntime) -> ExitCode {
     };
     create_all(&mut world);
     start_all(&mut world);
-    match words.len() {
-        10 => delay_all(&mut world, &mut mons),
+    match case {
+        10 | 12 => delay_all(&mut world, &mut mons, false),
+        13 | 14 => delay_all(&mut world, &mut mons, true),
         11 => send_all(&mut world),
+        15 | 16 => sleep_all(&mut world),
         _ => {}
     }
-    repeat(&mut world, &mut sems, &mut mons, words.len());
+    repeat(&mut world, &mut sems, &mut mons, case);
     ExitCode::from(0)
 }
 PROGRAM
-for loop in create_all:p repeat:i delay_all:p send_all:p; do
+for loop in create_all:p repeat:i delay_all:p send_all:p sleep_all:p; do
     function=${loop%:*}
     variable=${loop#*:}
     cat > proofs/$function/Invariants.antt <<PROOF
@@ -383,13 +439,18 @@ counted() {
     valgrind --tool=callgrind --callgrind-out-file=counts ./out/pairs "${@:2}" > valgrind.log 2>&1
     awk -v what="$1" '/Collected/ { printf "%s: %d instructions\n", what, $4 / 100000 }' valgrind.log
 }
-counted "the table alone: two actions that rest" a
-counted "the table alone: an action that waits, and one that wakes it" a a
-counted "the table alone: the same, and a second wait of the first" a a a
-counted "the table alone: two actions that look for a partner, one that waits and one that wakes it" a a a a a a a a
-counted "a wait and a signal that ends it" a a a a
-counted "a message, where the sender waits" a a a a a
-counted "a call of a free monitor and its return" a a a a a a
-counted "a call of an entry, its accept and the end of the meeting" a a a a a a a
-counted "a resume and a new delay, where 1,000 wait at one condition" a a a a a a a a a
-counted "two actions that look for a partner, one that waits and one that wakes it, where 1,000 wait at channels of their own" a a a a a a a a a a
+counted "the table alone: two actions that rest" 2
+counted "the table alone: an action that waits, and one that wakes it" 3
+counted "the table alone: the same, and a second wait of the first" 4
+counted "the table alone: two actions that look for a partner, one that waits and one that wakes it" 9
+counted "a wait and a signal that ends it" 5
+counted "a message, where the sender waits" 6
+counted "a call of a free monitor and its return" 7
+counted "a call of an entry, its accept and the end of the meeting" 8
+counted "a resume and a new delay with equal ranks, where 60 wait at one condition" 12
+counted "a resume and a new delay with equal ranks, where 1,000 wait at one condition" 10
+counted "a resume and a new delay with drawn ranks, where 60 wait at one condition" 14
+counted "a resume and a new delay with drawn ranks, where 1,000 wait at one condition" 13
+counted "two actions, one that sleeps and one that wakes it, where 60 sleep" 16
+counted "two actions, one that sleeps and one that wakes it, where 1,000 sleep" 15
+counted "two actions that look for a partner, one that waits and one that wakes it, where 1,000 wait at channels of their own" 11

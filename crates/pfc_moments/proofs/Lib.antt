@@ -1,3 +1,2 @@
-pub mod Counts
 pub mod Order
-pub mod Sorting
+pub mod First

@@ -1,10 +1,13 @@
-//! Due moments of processes, in a sorted list.
-ghost use Rattle.std.specs.Prelude.{◌≡◌, ◌<◌, ◌≤◌, ℕ, Bool, true, false, None, Some, length, set, replicate, slice_index_or, is_some, IfOk, MatchOption};
-ghost use Rattle.std.specs.List.{AllWithin};
+//! Due moments of processes, and who is due in the order of the moments.
+ghost use Rattle.std.specs.Prelude.{◌≡◌, ◌<◌, ◌≤◌, ℕ, Bool, true, false, None, Some, length, set, replicate, slice_index_or, is_some, option_map, IfOk, MatchOption};
+ghost use Rattle.pfc_sorted.specs.Sorted.{passes, IsParted, IsPlace, AreSorted};
 ghost use Rattle.pfc_moments.specs.Moments.{moment_at, is_sooner, IsFirst, IsNobody};
+ghost use Rattle.pfc_moments.specs.Sorted.{due, comes_first};
 
 use pfc_base::Memory;
+use pfc_sorted::{count_passing, put_in, take_out};
 use std::alloc::Global;
+use std::collections::VecDeque;
 use std::marker::Model;
 
 /// A process that is due at a moment.
@@ -27,21 +30,23 @@ impl Due {
 #[derive(Drop)]
 pub struct Moments {
     /// who is due, the soonest first
-    sorted: Vec<Due>,
+    sorted: VecDeque<u16>,
     /// the moment of each process
     moments: Vec<Option<u64>>,
 }
 
 impl Model for Moments {
     ghost use Rattle.std.specs.Prelude.{ℕ, Option, List};
-    ghost use Rattle.std.specs.Prelude.{◌≤◌, length, vec_capacity};
-    ghost use Rattle.pfc_moments.specs.Sorted.{AreSorted};
+    ghost use Rattle.std.specs.Prelude.{◌≤◌, length};
+    ghost use Rattle.std.specs.VecDeque.{deque_capacity};
+    ghost use Rattle.pfc_sorted.specs.Sorted.{AreSorted};
+    ghost use Rattle.pfc_moments.specs.Sorted.{comes_first};
 
     ghost Value = { List (Option ℕ) };
 
     ghost view = { λ m. m.moments.items };
 
-    ghost invariant = { λ m. AreSorted m.sorted.items m.moments.items × (length m.moments.items ≤ vec_capacity m.sorted) × (length m.moments.items ≤ 1024) };
+    ghost invariant = { λ m. AreSorted comes_first m.sorted.items m.moments.items × (length m.moments.items ≤ deque_capacity m.sorted) × (length m.moments.items ≤ 1024) };
 }
 
 impl Moments {
@@ -51,7 +56,7 @@ impl Moments {
         requires { processes ≤ 1024 }
         ensures { IfOk result (λ m. m ≡ replicate processes None) }
     {
-        let sorted = Vec::with_capacity(alloc, processes as usize)?;
+        let sorted = VecDeque::with_capacity(alloc, processes as usize)?;
         let mut moments = Vec::with_capacity(alloc, processes as usize)?;
         for _p in 0..processes {
             moments.push(None)?;
@@ -63,7 +68,10 @@ impl Moments {
     pub fn first(&self) -> Option<Due>
         ensures { MatchOption result (IsNobody self.now) (IsFirst self.now) }
     {
-        self.sorted.first().copied()
+        match self.sorted.front() {
+            Some(first) => due_of(&self.moments, *first),
+            None => None,
+        }
     }
 
     /// A process that is not due is due at this moment from now on.
@@ -72,9 +80,8 @@ impl Moments {
         requires free { moment_at self.old process ≡ None }
         ensures { self.new ≡ set self.old process (Some moment) }
     {
-        let due = Due { moment, process };
-        let place = place_of(&self.sorted, due);
-        self.sorted.insert(place, due).unwrap();
+        let place = place_of(&self.sorted, &self.moments, Due { moment, process });
+        put_in(&mut self.sorted, place, process as u16);
         self.moments[process as usize] = Some(moment);
     }
 
@@ -84,19 +91,65 @@ impl Moments {
         ensures { self.new ≡ set self.old process None }
     {
         if let Some(moment) = self.moments[process as usize] {
-            let place = place_of(&self.sorted, Due { moment, process });
-            self.sorted.remove(place);
+            let place = place_of_process(&self.sorted, &self.moments, Due { moment, process });
+            take_out(&mut self.sorted, place);
             self.moments[process as usize] = None;
         }
     }
 }
 
-/// How many come before this one.
-fn place_of(sorted: &[Due], due: Due) -> usize
-    requires { (i j : ℕ) → i < j → j < length sorted.now → is_sooner (slice_index_or sorted.now i due) (slice_index_or sorted.now j due) ≡ true }
-    ensures within { result ≤ length sorted.now }
-    ensures before { AllWithin (λ other. is_sooner other due ≡ true) sorted.now 0 result }
-    ensures behind { AllWithin (λ other. is_sooner other due ≡ false) sorted.now result (length sorted.now) }
+/// When a process is due, if it is.
+fn due_of(moments: &[Option<u64>], process: u16) -> Option<Due>
+    ensures { result ≡ option_map (λ moment. due moment process) (moment_at moments.now process) }
 {
-    sorted.partition_point(|other| other.is_sooner(due))
+    match moments.get(process as usize) {
+        Some(Some(moment)) => Some(Due {
+            moment: *moment,
+            process: u32::from(process),
+        }),
+        _ => None,
+    }
+}
+
+/// Whether a process is due before this one.
+fn comes_before(moments: &[Option<u64>], process: u16, other: Due) -> bool
+    ensures { result ≡ passes (λ p moment. is_sooner (due moment p) other) moments.now process }
+{
+    match due_of(moments, process) {
+        Some(found) => found.is_sooner(other),
+        None => false,
+    }
+}
+
+/// Where the process stands that is due.
+fn place_of_process(sorted: &VecDeque<u16>, moments: &[Option<u64>], due: Due) -> usize
+    requires sorted { AreSorted comes_first sorted.now.items moments.now }
+    requires own { moment_at moments.now due.process ≡ Some due.moment }
+    ensures { IsPlace sorted.now.items due.process result }
+{
+    // Whoever is woken is mostly the first.
+    match sorted.front() {
+        Some(first) if u32::from(*first) == due.process => 0,
+        _ => count_before(sorted, moments, due),
+    }
+}
+
+/// Where one that becomes due belongs: how many come before it.
+fn place_of(sorted: &VecDeque<u16>, moments: &[Option<u64>], other: Due) -> usize
+    requires { AreSorted comes_first sorted.now.items moments.now }
+    ensures { IsParted (passes (λ p moment. is_sooner (due moment p) other) moments.now) sorted.now.items result }
+{
+    // Where all sleep equally long, whoever begins to sleep is the last.
+    match sorted.back() {
+        Some(last) if !comes_before(moments, *last, other) => count_before(sorted, moments, other),
+        _ => sorted.len(),
+    }
+}
+
+/// How many come before this one.
+fn count_before(sorted: &VecDeque<u16>, moments: &[Option<u64>], other: Due) -> usize
+    requires { AreSorted comes_first sorted.now.items moments.now }
+    ensures { IsParted (passes (λ p moment. is_sooner (due moment p) other) moments.now) sorted.now.items result }
+{
+    count_passing(sorted, |p| comes_before(moments, *p, other))
 }

@@ -1,12 +1,13 @@
 -- The first behind a delay in the sorted list.
-use Rattle.std.proofs.Common.{◌≡◌, ◌≢◌, ℕ, ◌<◌, ◌≤◌, Bool, true, false, not, inl, inr, Option, List, length, get_or, arith, refl, sym, ap, ◌∙◌}
-use Rattle.std.specs.List.{AllWithin}
-use Rattle.std.specs.List.Sorted.{IsPartitionedBy}
-use Rattle.std.proofs.lemmas.Bool.{cases_eq, cases_lt}
+use Rattle.std.proofs.Common.{◌≡◌, ◌≢◌, ℕ, ◌<◌, ◌≤◌, ◌==◌, Bool, true, false, not, inl, inr, Option, Some, List, length, arith, refl, sym, ap, ◌∙◌}
+use Rattle.std.proofs.lemmas.Bool.{cases_eq}
+use Rattle.pfc_sorted.specs.Sorted.{process_at, passes, IsParted, IsPlace, AreSorted}
+use Rattle.pfc_sorted.proofs.Puts.{same-key}
+use Rattle.pfc_sorted.proofs.Searches.{stands-behind, passes-at}
 use Rattle.pfc_ranks.specs.declared.ranks.Delay.{Delay}
-use Rattle.pfc_ranks.specs.declared.ranks.Delayed.{Delayed}
-use Rattle.pfc_ranks.specs.Delays.{is_before, IsFirstBehind, IsNobodyBehind}
-use Rattle.pfc_ranks.specs.Sorted.{nobody, delayed_at, IsPlace, AreSorted}
+use Rattle.pfc_ranks.specs.Delays.{delay_at, is_before, IsFirstBehind, IsNobodyBehind}
+use Rattle.pfc_ranks.specs.Sorted.{comes_first}
+use Rattle.pfc_ranks.proofs.First.{same-object, other-object}
 use Rattle.pfc_ranks.proofs.Order.{not-itself, before-low, before-trans}
 
 -- where a truth is contrary
@@ -14,101 +15,78 @@ not-true : (b : Bool) → (b ≡ true → ⊥) → b ≡ false
 not-true true h = absurd (h refl)
 not-true false h = refl
 
-turned-true : (b : Bool) → not b ≡ true → b ≡ false
-turned-true true h = cc
-turned-true false h = refl
-
 turned-false : (b : Bool) → not b ≡ false → b ≡ true
 turned-false true h = refl
 turned-false false h = cc
 
-turned : (b : Bool) → b ≡ false → not b ≡ true
-turned true h = cc
-turned false h = refl
-
-contrary : (A : Type 0) (b : Bool) → b ≡ true → b ≡ false → A
-contrary A true h g = cc
-contrary A false h g = cc
-
--- whoever is before one that is not behind the delay is not behind it
-pub parted-behind : (sorted : List Delayed) (delay : Delay)
-    → ((x : Delayed) (i j : ℕ) → i < j → j < length sorted → is_before (get_or sorted i x).delay (get_or sorted j x).delay ≡ true)
-    → IsPartitionedBy (λ other. not (is_before delay other.delay)) sorted
-parted-behind sorted delay h i j d le lt is =
-    elim (cases_eq i j) [
-      | inl same ↦ ap (λ n. not (is_before delay (get_or sorted n d).delay)) same ∙ is
-      | inr apart ↦
-          turned (is_before delay (get_or sorted i d).delay)
-          (not-true (is_before delay (get_or sorted i d).delay)
-          (λ e. contrary ⊥ (is_before delay (get_or sorted j d).delay)
-          (before-trans delay (get_or sorted i d).delay (get_or sorted j d).delay e (h d i j (omega (arith, le, apart)) lt))
-          (turned-true (is_before delay (get_or sorted j d).delay) is)))
-    ]
+turned : (b : Bool) → b ≡ true → not b ≡ false
+turned true h = refl
+turned false h = cc
 
 -- who stands where those behind the delay begin, at its object, is the first of them
-pub behind-at : (sorted : List Delayed) (delays : List (Option Delay)) (delay : Delay) (place : ℕ) → AreSorted sorted delays
-    → AllWithin (λ other. not (is_before delay other.delay) ≡ true) sorted 0 place
-    → AllWithin (λ other. not (is_before delay other.delay) ≡ false) sorted place (length sorted)
-    → place < length sorted → (delayed_at sorted place).delay.object ≡ delay.object → IsFirstBehind delays delay (delayed_at sorted place).process
-behind-at sorted delays delay place h before behind lt there = record {
+pub behind-at : (sorted : List ℕ) (delays : List (Option Delay)) (delay : Delay) (place : ℕ) → AreSorted comes_first sorted delays
+    → IsParted (passes (λ p other. not (is_before delay other)) delays) sorted place → place < length sorted
+    → passes (λ p other. other.object == delay.object) delays (process_at sorted place) ≡ true → IsFirstBehind delays delay (process_at sorted place)
+behind-at sorted delays delay place h parts lt here = record {
   found = mine;
-  own = h.each place lt;
-  there = there;
-  behind = turned-false (is_before delay mine) (behind place nobody (omega arith) lt);
-  least = λ q other own at_it is. no_earlier q other is (h.every q other own);
+  own = own;
+  there = same-object mine.object delay.object (passes-at (λ p other. other.object == delay.object) sorted delays place mine true own here);
+  behind = turned-false (is_before delay mine) (passes-at (λ p other. not (is_before delay other)) sorted delays place mine false own (parts.behind place 0 (omega arith) lt));
+  least = λ q other is at_it after. no_earlier q other is after;
 }
   where
     mine : Delay
-    mine = (delayed_at sorted place).delay
+    mine = (h.each place lt).0
 
-    no_earlier : (q : ℕ) (other : Delay) → is_before delay other ≡ true → (i : ℕ) × IsPlace sorted q other i → is_before other mine ≡ false
-    no_earlier q other is found = not-true (is_before other mine) (λ earlier. go earlier)
+    own : delay_at delays (process_at sorted place) ≡ Some mine
+    own = (h.each place lt).1
+
+    no_earlier : (q : ℕ) (other : Delay) → delay_at delays q ≡ Some other → is_before delay other ≡ true → is_before other mine ≡ false
+    no_earlier q other is after =
+        not-true (is_before other mine)
+        (λ earlier. go earlier (stands-behind comes_first (λ p d. not (is_before delay d)) sorted delays place h parts q other is (turned (is_before delay other) after)))
       where
-        same : (delayed_at sorted found.0).delay ≡ other
-        same = ap (λ v. v.delay) found.1.is
-
-        room : found.0 < length sorted
-        room = found.1.within
-
-        go : is_before other mine ≡ true → ⊥
-        go earlier = elim (cases_lt found.0 place) [
-          | inl less ↦
-              contrary ⊥ (is_before delay other) is
-              (turned-true (is_before delay other) (ap (λ v. not (is_before delay v)) (sym same) ∙ before found.0 nobody (omega arith) less))
-          | inr ge ↦ elim (cases_eq place found.0) [
-            | inl here ↦ not-itself ⊥ other mine (sym same ∙ ap (λ n. (delayed_at sorted n).delay) (sym here)) earlier
-            | inr apart ↦
-                not-itself ⊥ mine mine refl
-                (before-trans mine other mine (ap (λ v. is_before mine v) (sym same) ∙ h.rising place found.0 (omega (arith, ge, apart)) room) earlier)
-          ]
-        ]
+        go : is_before other mine ≡ true → (i : ℕ) × ((place ≤ i) × IsPlace sorted q i) → ⊥
+        go earlier found =
+            let ge : place ≤ found.0 = found.1.0 in
+            let theirs : delay_at delays (process_at sorted found.0) ≡ Some other = ap (λ n. delay_at delays n) found.1.1.is ∙ is in
+            elim (cases_eq place found.0) [
+              | inl same ↦
+                  let e : mine ≡ other = same-key (delay_at delays (process_at sorted found.0)) mine other (ap (λ n. delay_at delays (process_at sorted n)) (sym same) ∙ own) theirs in
+                  not-itself ⊥ other mine (sym e) earlier
+              | inr apart ↦
+                  not-itself ⊥ mine mine refl (before-trans mine other mine (h.rising place found.0 mine other (omega (arith, ge, apart)) found.1.1.within own theirs) earlier)
+            ]
 
 -- where those behind the delay would begin, nobody stands, or somebody at another object
-pub nobody-behind : (sorted : List Delayed) (delays : List (Option Delay)) (delay : Delay) (place : ℕ) → AreSorted sorted delays
-    → AllWithin (λ other. not (is_before delay other.delay) ≡ true) sorted 0 place
-    → AllWithin (λ other. not (is_before delay other.delay) ≡ false) sorted place (length sorted)
-    → (place < length sorted → (delayed_at sorted place).delay.object ≢ delay.object) → IsNobodyBehind delays delay
-nobody-behind sorted delays delay place h before behind none p other own at_it = go (h.every p other own)
+pub nobody-behind : (sorted : List ℕ) (delays : List (Option Delay)) (delay : Delay) (place : ℕ) → AreSorted comes_first sorted delays
+    → IsParted (passes (λ p other. not (is_before delay other)) delays) sorted place
+    → (place < length sorted → passes (λ p other. other.object == delay.object) delays (process_at sorted place) ≡ false) → IsNobodyBehind delays delay
+nobody-behind sorted delays delay place h parts none p other own at_it =
+    not-true (is_before delay other)
+    (λ after. go (stands-behind comes_first (λ q d. not (is_before delay d)) sorted delays place h parts p other own (turned (is_before delay other) after)))
   where
-    go : (i : ℕ) × IsPlace sorted p other i → is_before delay other ≡ false
+    go : (i : ℕ) × ((place ≤ i) × IsPlace sorted p i) → ⊥
     go found =
-        let room : found.0 < length sorted = found.1.within in
-        let same : (delayed_at sorted found.0).delay ≡ other = ap (λ v. v.delay) found.1.is in
-        let level : (delayed_at sorted found.0).delay.object ≡ other.object = ap (λ v. v.object) same in
-        elim (cases_lt found.0 place) [
-          | inl less ↦ turned-true (is_before delay other) (ap (λ v. not (is_before delay v)) (sym same) ∙ before found.0 nobody (omega arith) less)
-          | inr ge ↦ elim (cases_eq place found.0) [
-            | inl here ↦
-                let no : ⊥ = none (omega (arith, room, here)) (ap (λ n. (delayed_at sorted n).delay.object) here ∙ level ∙ at_it) in
-                absurd no
-            | inr apart ↦
-                let less : place < found.0 = omega (arith, ge, apart) in
-                let lt : place < length sorted = omega (arith, less, room) in
-                let differs : (delayed_at sorted place).delay.object ≢ delay.object = none lt in
-                let from : delay.object ≤ (delayed_at sorted place).delay.object =
-                before-low delay (delayed_at sorted place).delay (turned-false (is_before delay (delayed_at sorted place).delay) (behind place nobody (omega arith) lt)) in
-                let low : (delayed_at sorted place).delay.object ≤ (delayed_at sorted found.0).delay.object =
-                before-low (delayed_at sorted place).delay (delayed_at sorted found.0).delay (h.rising place found.0 less room) in
-                absurd (omega (arith, differs, from, low, level, at_it))
-          ]
+        let ge : place ≤ found.0 = found.1.0 in
+        let room : found.0 < length sorted = found.1.1.within in
+        let lt : place < length sorted = omega (arith, ge, room) in
+        let mine : delay_at delays (process_at sorted place) ≡ Some (h.each place lt).0 = (h.each place lt).1 in
+        let theirs : delay_at delays (process_at sorted found.0) ≡ Some other = ap (λ n. delay_at delays n) found.1.1.is ∙ own in
+        let away : (h.each place lt).0.object ≢ delay.object =
+        other-object (h.each place lt).0.object delay.object (passes-at (λ q d. d.object == delay.object) sorted delays place (h.each place lt).0 false mine (none lt)) in
+        elim (cases_eq place found.0) [
+          | inl here ↦
+              away
+              (ap (λ d. d.object)
+              (same-key (delay_at delays (process_at sorted found.0)) (h.each place lt).0 other (ap (λ n. delay_at delays (process_at sorted n)) (sym here) ∙ mine) theirs)
+              ∙ at_it)
+          | inr apart ↦
+              let from : delay.object ≤ (h.each place lt).0.object =
+              before-low delay (h.each place lt).0
+              (turned-false (is_before delay (h.each place lt).0)
+              (passes-at (λ q d. not (is_before delay d)) sorted delays place (h.each place lt).0 false mine (parts.behind place 0 (omega arith) lt))) in
+              let low : (h.each place lt).0.object ≤ other.object =
+              before-low (h.each place lt).0 other (h.rising place found.0 (h.each place lt).0 other (omega (arith, ge, apart)) room mine theirs) in
+              omega (arith, away, from, low, at_it)
         ]

@@ -1,105 +1,97 @@
 -- The first at an object in the sorted list.
-use Rattle.std.proofs.Common.{◌≡◌, ◌≢◌, ℕ, ◌<◌, ◌≤◌, ℤ, ◌≤ℤ◌, true, false, ◌⊎◌, inl, inr, nat_lt, Option, Some, List, length, get_or, arith, sym, ap, ◌∙◌}
-use Rattle.std.specs.List.{AllWithin}
-use Rattle.std.specs.List.Sorted.{IsPartitionedBy}
-use Rattle.std.proofs.lemmas.Bool.{cases_eq, cases_lt}
+use Rattle.std.proofs.Common.{◌≡◌, ◌≢◌, ℕ, ◌<◌, ◌≤◌, ◌==◌, ℤ, ◌≤ℤ◌, true, false, inl, inr, nat_lt, Option, Some, List, length, arith, sym, ap, ◌∙◌}
+use Rattle.std.proofs.lemmas.Bool.{cases_eq}
 use Rattle.std.proofs.lemmas.Bool.Decides.{nat_tests}
 use Rattle.std.proofs.lemmas.Int.{ints}
+use Rattle.pfc_sorted.specs.Sorted.{process_at, passes, IsParted, IsPlace, AreSorted}
+use Rattle.pfc_sorted.proofs.Puts.{same-key}
+use Rattle.pfc_sorted.proofs.Searches.{stands-behind, passes-at}
 use Rattle.pfc_ranks.specs.declared.ranks.Delay.{Delay}
-use Rattle.pfc_ranks.specs.declared.ranks.Delayed.{Delayed}
 use Rattle.pfc_ranks.specs.Delays.{delay_at, is_before, IsFirst, IsNobody}
-use Rattle.pfc_ranks.specs.Sorted.{nobody, delayed_at, IsPlace, AreSorted}
+use Rattle.pfc_ranks.specs.Sorted.{comes_first}
 use Rattle.pfc_ranks.proofs.Order.{before-low, before-rank, before-ticket}
 
--- those at lesser objects come before all others
-pub parted-by-object : (sorted : List Delayed) (object : ℕ)
-    → ((x : Delayed) (i j : ℕ) → i < j → j < length sorted → is_before (get_or sorted i x).delay (get_or sorted j x).delay ≡ true)
-    → IsPartitionedBy (λ other. nat_lt other.delay.object object) sorted
-parted-by-object sorted object h i j d le lt is =
-    elim (cases_eq i j) [
-      | inl same ↦ ap (λ n. nat_lt (get_or sorted n d).delay.object object) same ∙ is
-      | inr apart ↦
-          let low : (get_or sorted i d).delay.object ≤ (get_or sorted j d).delay.object = before-low (get_or sorted i d).delay (get_or sorted j d).delay (h d i j (omega (arith, le, apart)) lt) in
-          lower (get_or sorted i d).delay.object (get_or sorted j d).delay.object low is
-    ]
-  where
-    lower : (a b : ℕ) → a ≤ b → nat_lt b object ≡ true → nat_lt a object ≡ true
-    lower a b low less = grind (arith, nat_tests)
+pub same-object : (a c : ℕ) → (a == c) ≡ true → a ≡ c
+same-object a c h = grind (arith, nat_tests)
 
-below-is : (a c : ℕ) → nat_lt a c ≡ true → a < c
-below-is a c h = grind (arith, nat_tests)
+pub other-object : (a c : ℕ) → (a == c) ≡ false → a ≢ c
+other-object a c h = grind (arith, nat_tests)
+
+not-lower : (a c : ℕ) → a ≡ c → nat_lt a c ≡ false
+not-lower a c e = grind (arith, nat_tests)
 
 above-is : (a c : ℕ) → nat_lt a c ≡ false → c ≤ a
 above-is a c h = grind (arith, nat_tests)
 
-before-start : (sorted : List Delayed) (object place i : ℕ) → AllWithin (λ other. nat_lt other.delay.object object ≡ true) sorted 0 place → i < place
-    → (delayed_at sorted i).delay.object < object
-before-start sorted object place i h lt = below-is (delayed_at sorted i).delay.object object (h i nobody (omega arith) lt)
-
 -- who stands where those of the object begin, and is delayed there, is the first
-pub first-at : (sorted : List Delayed) (delays : List (Option Delay)) (object place : ℕ) → AreSorted sorted delays
-    → AllWithin (λ other. nat_lt other.delay.object object ≡ true) sorted 0 place → place < length sorted → (delayed_at sorted place).delay.object ≡ object
-    → IsFirst delays object (delayed_at sorted place).process
-first-at sorted delays object place h before lt there = record {
-  delay = (delayed_at sorted place).delay;
-  own = h.each place lt;
+pub first-at : (sorted : List ℕ) (delays : List (Option Delay)) (object place : ℕ) → AreSorted comes_first sorted delays
+    → IsParted (passes (λ p other. nat_lt other.object object) delays) sorted place → place < length sorted
+    → passes (λ p other. other.object == object) delays (process_at sorted place) ≡ true → IsFirst delays object (process_at sorted place)
+first-at sorted delays object place h parts lt here = record {
+  delay = mine;
+  own = own;
   there = there;
-  least = λ q other own at_it. (first q other own at_it).0;
-  earliest = λ q other own at_it. (first q other own at_it).1;
+  least = λ q other is level. (first q other is level).0;
+  earliest = λ q other is level. (first q other is level).1;
 }
   where
     mine : Delay
-    mine = (delayed_at sorted place).delay
+    mine = (h.each place lt).0
 
-    no_later : (other : Delay) (i : ℕ) → i < length sorted → (delayed_at sorted i).delay ≡ other → other.object ≡ object → (i < place) ⊎ (place ≤ i)
+    own : delay_at delays (process_at sorted place) ≡ Some mine
+    own = (h.each place lt).1
+
+    there : mine.object ≡ object
+    there = same-object mine.object object (passes-at (λ p other. other.object == object) sorted delays place mine true own here)
+
+    level_rank : (r s : ℤ) → r ≡ s → r ≤ℤ s
+    level_rank r s e = grind (arith, ints)
+
+    no_later : (other : Delay) (i : ℕ) → place ≤ i → i < length sorted → delay_at delays (process_at sorted i) ≡ Some other → other.object ≡ object
         → (mine.rank ≤ℤ other.rank) × (other.rank ≡ mine.rank → mine.ticket ≤ other.ticket)
-    no_later other i room is at_it (inl less) =
-        let low : (delayed_at sorted i).delay.object < object = before-start sorted object place i before less in
-        let same : (delayed_at sorted i).delay.object ≡ other.object = ap (λ v. v.object) is in
-        absurd (omega (arith, low, same, at_it))
-    no_later other i room is at_it (inr ge) = elim (cases_eq place i) [
+    no_later other i ge room is at_it = elim (cases_eq place i) [
       | inl same ↦
-          let e : mine ≡ other = ap (λ n. (delayed_at sorted n).delay) same ∙ is in
-          (level mine.rank other.rank (ap (λ v. v.rank) e), λ k. let t : mine.ticket ≡ other.ticket = ap (λ v. v.ticket) e in omega (arith, t))
+          let e : mine ≡ other = same-key (delay_at delays (process_at sorted i)) mine other (ap (λ n. delay_at delays (process_at sorted n)) (sym same) ∙ own) is in
+          (level_rank mine.rank other.rank (ap (λ v. v.rank) e), λ k. let t : mine.ticket ≡ other.ticket = ap (λ v. v.ticket) e in omega (arith, t))
       | inr apart ↦
-          let rises : is_before mine other ≡ true = ap (λ v. is_before mine v) (sym is) ∙ h.rising place i (omega (arith, ge, apart)) room in
+          let rises : is_before mine other ≡ true = h.rising place i mine other (omega (arith, ge, apart)) room own is in
           (before-rank mine other rises (at_it ∙ sym there), λ k. before-ticket mine other rises (at_it ∙ sym there) k)
     ]
-      where
-        level : (r s : ℤ) → r ≡ s → r ≤ℤ s
-        level r s e = grind (arith, ints)
 
     first : (q : ℕ) (other : Delay) → delay_at delays q ≡ Some other → other.object ≡ object
         → (mine.rank ≤ℤ other.rank) × (other.rank ≡ mine.rank → mine.ticket ≤ other.ticket)
-    first q other own at_it = go (h.every q other own)
+    first q other is at_it =
+        go (stands-behind comes_first (λ p d. nat_lt d.object object) sorted delays place h parts q other is (not-lower other.object object at_it))
       where
-        go : (i : ℕ) × IsPlace sorted q other i → (mine.rank ≤ℤ other.rank) × (other.rank ≡ mine.rank → mine.ticket ≤ other.ticket)
-        go found = no_later other found.0 found.1.within (ap (λ v. v.delay) found.1.is) at_it (cases_lt found.0 place)
+        go : (i : ℕ) × ((place ≤ i) × IsPlace sorted q i) → (mine.rank ≤ℤ other.rank) × (other.rank ≡ mine.rank → mine.ticket ≤ other.ticket)
+        go found = no_later other found.0 found.1.0 found.1.1.within (ap (λ n. delay_at delays n) found.1.1.is ∙ is) at_it
 
 -- where those of the object would begin, nobody or somebody else stands
-pub nobody-at : (sorted : List Delayed) (delays : List (Option Delay)) (object place : ℕ) → AreSorted sorted delays
-    → AllWithin (λ other. nat_lt other.delay.object object ≡ true) sorted 0 place
-    → AllWithin (λ other. nat_lt other.delay.object object ≡ false) sorted place (length sorted)
-    → (place < length sorted → (delayed_at sorted place).delay.object ≢ object) → IsNobody delays object
-nobody-at sorted delays object place h before behind none p delay own at_it = go (h.every p delay own)
+pub nobody-at : (sorted : List ℕ) (delays : List (Option Delay)) (object place : ℕ) → AreSorted comes_first sorted delays
+    → IsParted (passes (λ p other. nat_lt other.object object) delays) sorted place
+    → (place < length sorted → passes (λ p other. other.object == object) delays (process_at sorted place) ≡ false) → IsNobody delays object
+nobody-at sorted delays object place h parts none p delay own at_it =
+    go (stands-behind comes_first (λ q d. nat_lt d.object object) sorted delays place h parts p delay own (not-lower delay.object object at_it))
   where
-    go : (i : ℕ) × IsPlace sorted p delay i → ⊥
+    go : (i : ℕ) × ((place ≤ i) × IsPlace sorted p i) → ⊥
     go found =
-        let room : found.0 < length sorted = found.1.within in
-        let same : (delayed_at sorted found.0).delay.object ≡ delay.object = ap (λ v. v.delay.object) found.1.is in
-        elim (cases_lt found.0 place) [
-          | inl less ↦
-              let low : (delayed_at sorted found.0).delay.object < object = before-start sorted object place found.0 before less in
-              omega (arith, low, same, at_it)
-          | inr ge ↦ elim (cases_eq place found.0) [
-            | inl here ↦ none (omega (arith, room, here)) (ap (λ n. (delayed_at sorted n).delay.object) here ∙ same ∙ at_it)
-            | inr apart ↦
-                let less : place < found.0 = omega (arith, ge, apart) in
-                let lt : place < length sorted = omega (arith, less, room) in
-                let other : (delayed_at sorted place).delay.object ≢ object = none lt in
-                let above : object ≤ (delayed_at sorted place).delay.object = above-is (delayed_at sorted place).delay.object object (behind place nobody (omega arith) lt) in
-                let low : (delayed_at sorted place).delay.object ≤ (delayed_at sorted found.0).delay.object =
-                before-low (delayed_at sorted place).delay (delayed_at sorted found.0).delay (h.rising place found.0 less room) in
-                omega (arith, other, above, low, same, at_it)
-          ]
+        let ge : place ≤ found.0 = found.1.0 in
+        let room : found.0 < length sorted = found.1.1.within in
+        let lt : place < length sorted = omega (arith, ge, room) in
+        let mine : delay_at delays (process_at sorted place) ≡ Some (h.each place lt).0 = (h.each place lt).1 in
+        let theirs : delay_at delays (process_at sorted found.0) ≡ Some delay = ap (λ n. delay_at delays n) found.1.1.is ∙ own in
+        let away : (h.each place lt).0.object ≢ object =
+        other-object (h.each place lt).0.object object (passes-at (λ q d. d.object == object) sorted delays place (h.each place lt).0 false mine (none lt)) in
+        elim (cases_eq place found.0) [
+          | inl here ↦
+              away
+              (ap (λ d. d.object)
+              (same-key (delay_at delays (process_at sorted found.0)) (h.each place lt).0 delay (ap (λ n. delay_at delays (process_at sorted n)) (sym here) ∙ mine) theirs)
+              ∙ at_it)
+          | inr apart ↦
+              let above : object ≤ (h.each place lt).0.object =
+              above-is (h.each place lt).0.object object (passes-at (λ q d. nat_lt d.object object) sorted delays place (h.each place lt).0 false mine (parts.behind place 0 (omega arith) lt)) in
+              let low : (h.each place lt).0.object ≤ delay.object =
+              before-low (h.each place lt).0 delay (h.rising place found.0 (h.each place lt).0 delay (omega (arith, ge, apart)) room mine theirs) in
+              omega (arith, away, above, low, at_it)
         ]

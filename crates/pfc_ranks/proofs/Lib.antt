@@ -1,5 +1,4 @@
-pub mod Behind
-pub mod Counts
-pub mod First
 pub mod Order
-pub mod Sorting
+pub mod Parts
+pub mod First
+pub mod Behind

@@ -7,4 +7,4 @@
 
 mod ranks;
 
-pub use ranks::{Delay, Delayed, Ranks};
+pub use ranks::{Delay, Ranks};

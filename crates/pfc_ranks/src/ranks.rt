@@ -1,12 +1,14 @@
-//! Delays of processes, in a sorted list.
-ghost use Rattle.std.specs.Prelude.{◌≡◌, ◌≢◌, ◌<◌, ◌≤◌, ℕ, Bool, true, false, None, Some, length, nat_lt, not, set, replicate, slice_index_or, is_some, IfOk, MatchOption};
-ghost use Rattle.std.specs.List.{AllWithin};
+//! Delays of processes, and who is delayed in the order of the delays.
+ghost use Rattle.std.specs.Prelude.{◌≡◌, ◌≢◌, ◌==◌, ◌<◌, ◌≤◌, ℕ, Bool, true, false, None, Some, length, nat_lt, not, set, replicate, slice_index_or, is_some, IfOk, MatchOption};
+ghost use Rattle.pfc_sorted.specs.Sorted.{passes, IsParted, IsPlace, AreSorted};
 ghost use Rattle.pfc_ranks.specs.declared.ranks.Delay.{Delay};
-ghost use Rattle.pfc_ranks.specs.declared.ranks.Delayed.{Delayed};
 ghost use Rattle.pfc_ranks.specs.Delays.{delay_at, is_before, IsFirst, IsFirstBehind, IsNobody, IsNobodyBehind};
+ghost use Rattle.pfc_ranks.specs.Sorted.{comes_first};
 
 use pfc_base::Memory;
+use pfc_sorted::{count_passing, put_in, take_out};
 use std::alloc::Global;
+use std::collections::VecDeque;
 use std::marker::Model;
 
 /// A wait at an object, by its number from 0, with a rank and a ticket.
@@ -23,40 +25,38 @@ impl Delay {
     pub fn is_before(self, other: Delay) -> bool
         ensures { result ≡ is_before self other }
     {
-        self.object < other.object
-            || (self.object == other.object
-                && (self.rank < other.rank
-                    || (self.rank == other.rank && self.ticket < other.ticket)))
+        if self.object != other.object {
+            return self.object < other.object;
+        }
+        if self.rank != other.rank {
+            return self.rank < other.rank;
+        }
+        self.ticket < other.ticket
     }
-}
-
-/// A process that is delayed.
-#[derive(Clone, Copy, Debug, PartialEq, Eq)]
-pub struct Delayed {
-    pub delay: Delay,
-    pub process: u32,
 }
 
 /// The delays of processes. A contract sees of each process, from 0 on, its delay, if it has one.
 #[derive(Drop)]
 pub struct Ranks {
     /// who is delayed, by objects, ranks and tickets
-    sorted: Vec<Delayed>,
+    sorted: VecDeque<u16>,
     /// the delay of each process
     delays: Vec<Option<Delay>>,
 }
 
 impl Model for Ranks {
     ghost use Rattle.std.specs.Prelude.{Option, List};
-    ghost use Rattle.std.specs.Prelude.{◌≤◌, length, vec_capacity};
+    ghost use Rattle.std.specs.Prelude.{◌≤◌, length};
+    ghost use Rattle.std.specs.VecDeque.{deque_capacity};
+    ghost use Rattle.pfc_sorted.specs.Sorted.{AreSorted};
     ghost use Rattle.pfc_ranks.specs.declared.ranks.Delay.{Delay};
-    ghost use Rattle.pfc_ranks.specs.Sorted.{AreSorted};
+    ghost use Rattle.pfc_ranks.specs.Sorted.{comes_first};
 
     ghost Value = { List (Option Delay) };
 
     ghost view = { λ r. r.delays.items };
 
-    ghost invariant = { λ r. AreSorted r.sorted.items r.delays.items × (length r.delays.items ≤ vec_capacity r.sorted) × (length r.delays.items ≤ 1024) };
+    ghost invariant = { λ r. AreSorted comes_first r.sorted.items r.delays.items × (length r.delays.items ≤ deque_capacity r.sorted) × (length r.delays.items ≤ 1024) };
 }
 
 impl Ranks {
@@ -66,7 +66,7 @@ impl Ranks {
         requires { processes ≤ 1024 }
         ensures { IfOk result (λ r. r ≡ replicate processes None) }
     {
-        let sorted = Vec::with_capacity(alloc, processes as usize)?;
+        let sorted = VecDeque::with_capacity(alloc, processes as usize)?;
         let mut delays = Vec::with_capacity(alloc, processes as usize)?;
         for _p in 0..processes {
             delays.push(None)?;
@@ -78,9 +78,10 @@ impl Ranks {
     pub fn first(&self, object: u32) -> Option<u32>
         ensures { MatchOption result (IsNobody self.now object) (IsFirst self.now object) }
     {
-        let place = start_of(&self.sorted, object);
+        let delays = self.delays.as_slice();
+        let place = start_of(&self.sorted, delays, object);
         match self.sorted.get(place) {
-            Some(first) if first.delay.object == object => Some(first.process),
+            Some(first) if is_at(delays, *first, object) => Some(u32::from(*first)),
             _ => None,
         }
     }
@@ -89,9 +90,10 @@ impl Ranks {
     pub fn first_behind(&self, delay: Delay) -> Option<u32>
         ensures { MatchOption result (IsNobodyBehind self.now delay) (IsFirstBehind self.now delay) }
     {
-        let place = place_behind(&self.sorted, delay);
+        let delays = self.delays.as_slice();
+        let place = place_behind(&self.sorted, delays, delay);
         match self.sorted.get(place) {
-            Some(first) if first.delay.object == delay.object => Some(first.process),
+            Some(first) if is_at(delays, *first, delay.object) => Some(u32::from(*first)),
             _ => None,
         }
     }
@@ -103,10 +105,8 @@ impl Ranks {
         requires apart { (q : ℕ) (other : Delay) → delay_at self.old q ≡ Some other → other.ticket ≢ delay.ticket }
         ensures { self.new ≡ set self.old process (Some delay) }
     {
-        let place = place_of(&self.sorted, delay);
-        self.sorted
-            .insert(place, Delayed { delay, process })
-            .unwrap();
+        let place = place_of(&self.sorted, &self.delays, delay);
+        put_in(&mut self.sorted, place, process as u16);
         self.delays[process as usize] = Some(delay);
     }
 
@@ -116,39 +116,109 @@ impl Ranks {
         ensures { self.new ≡ set self.old process None }
     {
         if let Some(delay) = self.delays[process as usize] {
-            let place = place_of(&self.sorted, delay);
-            self.sorted.remove(place);
+            let place = place_of_process(&self.sorted, &self.delays, process, delay);
+            take_out(&mut self.sorted, place);
             self.delays[process as usize] = None;
         }
     }
 }
 
+/// Whether a process is delayed at this object.
+fn is_at(delays: &[Option<Delay>], process: u16, object: u32) -> bool
+    ensures { result ≡ passes (λ p other. other.object == object) delays.now process }
+{
+    match delays.get(process as usize) {
+        Some(Some(other)) => other.object == object,
+        _ => false,
+    }
+}
+
+/// Whether a process is delayed at a lesser object.
+fn is_lower(delays: &[Option<Delay>], process: u16, object: u32) -> bool
+    ensures { result ≡ passes (λ p other. nat_lt other.object object) delays.now process }
+{
+    match delays.get(process as usize) {
+        Some(Some(other)) => other.object < object,
+        _ => false,
+    }
+}
+
+/// Whether the delay of a process comes before this one.
+fn comes_before(delays: &[Option<Delay>], process: u16, delay: Delay) -> bool
+    ensures { result ≡ passes (λ p other. is_before other delay) delays.now process }
+{
+    match delays.get(process as usize) {
+        Some(Some(other)) => other.is_before(delay),
+        _ => false,
+    }
+}
+
+/// Whether a process has this delay or one that comes before it.
+fn is_within(delays: &[Option<Delay>], process: u16, delay: Delay) -> bool
+    ensures { result ≡ passes (λ p other. not (is_before delay other)) delays.now process }
+{
+    match delays.get(process as usize) {
+        Some(Some(other)) => !delay.is_before(*other),
+        _ => false,
+    }
+}
+
+/// Where the process stands, which has this delay.
+fn place_of_process(
+    sorted: &VecDeque<u16>,
+    delays: &[Option<Delay>],
+    process: u32,
+    delay: Delay,
+) -> usize
+    requires sorted { AreSorted comes_first sorted.now.items delays.now }
+    requires own { delay_at delays.now process ≡ Some delay }
+    ensures { IsPlace sorted.now.items process result }
+{
+    // Whoever is let on is mostly the first.
+    match sorted.front() {
+        Some(first) if u32::from(*first) == process => 0,
+        _ => count_before(sorted, delays, delay),
+    }
+}
+
+/// Where a new delay belongs: how many come before it.
+fn place_of(sorted: &VecDeque<u16>, delays: &[Option<Delay>], delay: Delay) -> usize
+    requires { AreSorted comes_first sorted.now.items delays.now }
+    ensures { IsParted (passes (λ p other. is_before other delay) delays.now) sorted.now.items result }
+{
+    // Where ranks are equal, tickets rise, and whoever begins to wait is the last.
+    match sorted.back() {
+        Some(last) if !comes_before(delays, *last, delay) => count_before(sorted, delays, delay),
+        _ => sorted.len(),
+    }
+}
+
 /// How many come before this delay.
-fn place_of(sorted: &[Delayed], delay: Delay) -> usize
-    requires { (x : Delayed) (i j : ℕ) → i < j → j < length sorted.now → is_before (slice_index_or sorted.now i x).delay (slice_index_or sorted.now j x).delay ≡ true }
-    ensures within { result ≤ length sorted.now }
-    ensures before { AllWithin (λ other. is_before other.delay delay ≡ true) sorted.now 0 result }
-    ensures behind { AllWithin (λ other. is_before other.delay delay ≡ false) sorted.now result (length sorted.now) }
+fn count_before(sorted: &VecDeque<u16>, delays: &[Option<Delay>], delay: Delay) -> usize
+    requires { AreSorted comes_first sorted.now.items delays.now }
+    ensures { IsParted (passes (λ p other. is_before other delay) delays.now) sorted.now.items result }
 {
-    sorted.partition_point(|other| other.delay.is_before(delay))
+    count_passing(sorted, |p| comes_before(delays, *p, delay))
 }
 
-/// How many come before this delay, or have it.
-fn place_behind(sorted: &[Delayed], delay: Delay) -> usize
-    requires { (x : Delayed) (i j : ℕ) → i < j → j < length sorted.now → is_before (slice_index_or sorted.now i x).delay (slice_index_or sorted.now j x).delay ≡ true }
-    ensures within { result ≤ length sorted.now }
-    ensures before { AllWithin (λ other. not (is_before delay other.delay) ≡ true) sorted.now 0 result }
-    ensures behind { AllWithin (λ other. not (is_before delay other.delay) ≡ false) sorted.now result (length sorted.now) }
+/// Where those behind this delay begin: how many come before it, or have it.
+fn place_behind(sorted: &VecDeque<u16>, delays: &[Option<Delay>], delay: Delay) -> usize
+    requires { AreSorted comes_first sorted.now.items delays.now }
+    ensures { IsParted (passes (λ p other. not (is_before delay other)) delays.now) sorted.now.items result }
 {
-    sorted.partition_point(|other| !delay.is_before(other.delay))
+    count_passing(sorted, |p| is_within(delays, *p, delay))
 }
 
-/// How many are delayed at lesser objects.
-fn start_of(sorted: &[Delayed], object: u32) -> usize
-    requires { (x : Delayed) (i j : ℕ) → i < j → j < length sorted.now → is_before (slice_index_or sorted.now i x).delay (slice_index_or sorted.now j x).delay ≡ true }
-    ensures within { result ≤ length sorted.now }
-    ensures before { AllWithin (λ other. nat_lt other.delay.object object ≡ true) sorted.now 0 result }
-    ensures behind { AllWithin (λ other. nat_lt other.delay.object object ≡ false) sorted.now result (length sorted.now) }
+/// Where those at an object begin: how many are delayed at lesser objects.
+fn start_of(sorted: &VecDeque<u16>, delays: &[Option<Delay>], object: u32) -> usize
+    requires { AreSorted comes_first sorted.now.items delays.now }
+    ensures { IsParted (passes (λ p other. nat_lt other.object object) delays.now) sorted.now.items result }
 {
-    sorted.partition_point(|other| other.delay.object < object)
+    // Where all wait at one object, or at greater ones, none stands before its first.
+    match sorted.front() {
+        Some(first) if is_lower(delays, *first, object) => {
+            count_passing(sorted, |p| is_lower(delays, *p, object))
+        }
+        _ => 0,
+    }
 }

@@ -1,14 +1,22 @@
-use Rattle.std.proofs.Common.{◌≡◌, true, false, length, get_or, rules}
-use Rattle.std.specs.List.Sorted.{IsPartitionPoint, IsPartitionedBy}
-use Rattle.std.proofs.lemmas.List.Sorted.{IsPartitionPoint-from_clause}
+use Rattle.std.proofs.Common.{◌≡◌, ◌-◌, ◌≤◌, length, get_or, arith, sym, ap, ◌∙◌, subst}
+use Rattle.pfc_sorted.specs.Sorted.{passes, IsParted}
+use Rattle.pfc_sorted.proofs.Searches.{all-pass, nobody-parted}
 use Rattle.pfc_moments.specs.Moments.{is_sooner}
-use Rattle.pfc_moments.proofs.Sorting.{parted}
+use Rattle.pfc_moments.specs.Sorted.{due}
+use Rattle.pfc_moments.proofs.First.{parted-before}
+use Rattle.pfc_moments.proofs.moments.place_of.Goals.{in_default-via-in-Some+else-not-comes_before, in_default-via-in_default}
 use Rattle.pfc_moments.proofs.moments.place_of.Goals as goal
 
-pub returns-clause-before : goal.returns-clause-before
-returns-clause-before c =
-    (IsPartitionPoint-from_clause (λ other. is_sooner other c.args.due) _ _ c.partition_point.ensures.partitioned (parted c.args.sorted.now c.args.due c.requires) (λ a r q k. search rules)).0
-
-pub returns-clause-behind : goal.returns-clause-behind
-returns-clause-behind c =
-    (IsPartitionPoint-from_clause (λ other. is_sooner other c.args.due) _ _ c.partition_point.ensures.partitioned (parted c.args.sorted.now c.args.due c.requires) (λ a r q k. search rules)).1
+pub returns-in_default : goal.returns-in_default
+returns-in_default c =
+    let long : c.args.sorted.now.len ≡ length c.args.sorted.now.items = c.args.sorted.now.ok.0 in
+    subst (λ n. IsParted (passes (λ p moment. is_sooner (due moment p) c.args.other) c.args.moments.now) c.args.sorted.now.items n) (sym (c.len.ensures ∙ long))
+    (elim c.in_default.branch [
+      | in_default-via-in-Some+else-not-comes_before w ↦
+          all-pass (passes (λ p moment. is_sooner (due moment p) c.args.other) c.args.moments.now) c.args.sorted.now.items w.in-Some.last.now (parted-before c.args.sorted.now.items c.args.moments.now c.args.other c.requires)
+          (ap (λ n. passes (λ p moment. is_sooner (due moment p) c.args.other) c.args.moments.now (get_or c.args.sorted.now.items (n - 1) w.in-Some.last.now)) (sym long)
+          ∙ ap (passes (λ p moment. is_sooner (due moment p) c.args.other) c.args.moments.now) (sym w.in-Some.ensures.lookup) ∙ sym w.comes_before.ensures ∙ w.if-not-comes_before.false)
+      | in_default-via-in_default w ↦
+          let none : length c.args.sorted.now.items ≤ 0 = w.in_default.ensures.item.3 in
+          nobody-parted (passes (λ p moment. is_sooner (due moment p) c.args.other) c.args.moments.now) c.args.sorted.now.items (length c.args.sorted.now.items) none (omega arith)
+    ])

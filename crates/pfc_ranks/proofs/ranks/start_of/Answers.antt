@@ -1,14 +1,16 @@
-use Rattle.std.proofs.Common.{nat_lt, rules}
-use Rattle.std.proofs.lemmas.List.Sorted.{IsPartitionPoint-from_clause}
-use Rattle.pfc_ranks.proofs.First.{parted-by-object}
+use Rattle.std.proofs.Common.{nat_lt, rules, sym, ap, ◌∙◌}
+use Rattle.pfc_sorted.specs.Sorted.{passes}
+use Rattle.pfc_sorted.proofs.Calls.{parted-from_clause}
+use Rattle.pfc_sorted.proofs.Searches.{none-pass}
+use Rattle.pfc_ranks.proofs.Parts.{parted-by-object}
 use Rattle.pfc_ranks.proofs.ranks.start_of.Goals as goal
 
-pub returns-clause-before : goal.returns-clause-before
-returns-clause-before c =
-    (IsPartitionPoint-from_clause (λ other. nat_lt other.delay.object c.args.object) _ _ c.partition_point.ensures.partitioned
-    (parted-by-object c.args.sorted.now c.args.object c.requires) (λ a r q k. search rules)).0
+pub returns-in-Some : goal.returns-in-Some
+returns-in-Some c =
+    parted-from_clause (passes (λ p other. nat_lt other.object c.args.object) c.args.delays.now) _ _ c.count_passing.ensures
+    (parted-by-object c.args.sorted.now.items c.args.delays.now c.args.object c.requires) (λ a r q k. search rules)
 
-pub returns-clause-behind : goal.returns-clause-behind
-returns-clause-behind c =
-    (IsPartitionPoint-from_clause (λ other. nat_lt other.delay.object c.args.object) _ _ c.partition_point.ensures.partitioned
-    (parted-by-object c.args.sorted.now c.args.object c.requires) (λ a r q k. search rules)).1
+pub returns-in_default : goal.returns-in_default
+returns-in_default c =
+    none-pass (passes (λ p other. nat_lt other.object c.args.object) c.args.delays.now) c.args.sorted.now.items c.in-Some.first.now (parted-by-object c.args.sorted.now.items c.args.delays.now c.args.object c.requires)
+    (ap (passes (λ p other. nat_lt other.object c.args.object) c.args.delays.now) (sym c.in-Some.ensures.lookup) ∙ sym c.is_lower.ensures ∙ c.if-is_lower.false)

@@ -1,35 +1,21 @@
-use Rattle.std.proofs.Common.{◌≡◌, ◌<◌, ◌≤◌, true, false, None, Some, length, set, arith, sym, ap, ◌∙◌, subst}
-use Rattle.std.specs.Prelude.{vec_capacity}
-use Rattle.std.specs.List.{AllWithin, remove}
-use Rattle.std.proofs.lemmas.List.{length-set}
-use Rattle.pfc_moments.specs.Moments.{moment_at, is_sooner}
-use Rattle.pfc_moments.specs.Sorted.{AreSorted, IsPlace}
-use Rattle.pfc_moments.proofs.Sorting.{due, own-read, place-is, out-sorted}
+use Rattle.std.proofs.Common.{◌≡◌, ◌<◌, None, Some, length, set, arith, sym, ◌∙◌, subst}
+use Rattle.std.proofs.lemmas.List.{length-set, get_or_read}
+use Rattle.pfc_sorted.specs.Sorted.{AreSorted}
+use Rattle.pfc_sorted.proofs.Takes.{out-sorted}
+use Rattle.pfc_moments.specs.Moments.{moment_at}
+use Rattle.pfc_moments.specs.Sorted.{comes_first}
+use Rattle.pfc_moments.proofs.First.{never-first}
 use Rattle.pfc_moments.proofs.moments.Moments.remove.Goals as goal
-
-pub remove-requires : goal.remove-requires
-remove-requires c =
-    let lt : c.args.process < length c.self.inside.moments.items = subst (λ v. c.args.process < length v) (sym c.self.view_is) c.requires in
-    let own : moment_at c.self.inside.moments.items c.args.process ≡ Some c.in-Some.moment =
-    own-read c.self.inside.moments.items c.args.process c.in-Some.moment c.index.result.now lt c.index.ensures c.in-Some.is in
-    let place : IsPlace c.self.inside.sorted.items c.args.process c.in-Some.moment c.place_of-place.result =
-    place-is c.self.inside.sorted.items c.self.inside.moments.items c.args.process c.in-Some.moment c.place_of-place.result c.self.invariant.0 own
-    (subst (λ v. AllWithin (λ other. is_sooner other (due c.in-Some.moment c.args.process) ≡ true) v 0 c.place_of-place.result) c.deref.ensures.value c.place_of-place.ensures.before)
-    (subst (λ v. AllWithin (λ other. is_sooner other (due c.in-Some.moment c.args.process) ≡ false) v c.place_of-place.result (length v)) c.deref.ensures.value c.place_of-place.ensures.behind) in
-    omega (arith, place.within)
 
 pub invariant_of-self : goal.invariant_of-self
 invariant_of-self c =
     let lt : c.args.process < length c.self.inside.moments.items = subst (λ v. c.args.process < length v) (sym c.self.view_is) c.requires in
     let own : moment_at c.self.inside.moments.items c.args.process ≡ Some c.in-Some.moment =
-    own-read c.self.inside.moments.items c.args.process c.in-Some.moment c.index.result.now lt c.index.ensures c.in-Some.is in
-    let place : IsPlace c.self.inside.sorted.items c.args.process c.in-Some.moment c.place_of-place.result =
-    place-is c.self.inside.sorted.items c.self.inside.moments.items c.args.process c.in-Some.moment c.place_of-place.result c.self.invariant.0 own
-    (subst (λ v. AllWithin (λ other. is_sooner other (due c.in-Some.moment c.args.process) ≡ true) v 0 c.place_of-place.result) c.deref.ensures.value c.place_of-place.ensures.before)
-    (subst (λ v. AllWithin (λ other. is_sooner other (due c.in-Some.moment c.args.process) ≡ false) v c.place_of-place.result (length v)) c.deref.ensures.value c.place_of-place.ensures.behind) in
+    sym (get_or_read c.self.inside.moments.items c.args.process c.index.result.now lt c.index.ensures None) ∙ c.in-Some.is in
     let long : length (set c.self.inside.moments.items c.args.process None) ≡ length c.self.inside.moments.items = length-set c.self.inside.moments.items c.args.process None in (
-      subst (λ v. AreSorted v (set c.self.inside.moments.items c.args.process None)) (sym c.remove.ensures.items)
-          (out-sorted c.self.inside.sorted.items c.self.inside.moments.items c.args.process c.in-Some.moment c.place_of-place.result own c.self.invariant.0 place),
-      omega (arith, long, c.self.invariant.1, c.remove.ensures.capacity),
+      subst (λ v. AreSorted comes_first v (set c.self.inside.moments.items c.args.process None)) (sym c.take_out.ensures.items)
+          (out-sorted comes_first never-first c.self.inside.sorted.items c.self.inside.moments.items c.args.process c.in-Some.moment c.place_of_process-place.result own c.self.invariant.0
+          c.place_of_process-place.ensures),
+      omega (arith, long, c.self.invariant.1, c.take_out.ensures.capacity),
       omega (arith, long, c.self.invariant.2),
     )

@@ -27,13 +27,16 @@ use std::process::ExitCode;
 
 const EVENTS: u32 = 2000;
 
-/// What an event touches: a variable and a semaphore, each where it is below 10,000, and whom it wakes.
+/// What an event touches: a variable and a semaphore, each where it is below 10,000, whom it wakes, in how many more variables the
+/// same part and in one more a part of its own, and how many semaphores.
 #[derive(Clone, Copy)]
 struct Touched {
     write: bool,
     variable: u32,
     thing: u32,
     wakes: u32,
+    more: u32,
+    things: u32,
 }
 
 const NONE: u32 = 10000;
@@ -67,7 +70,45 @@ fn push_steps(steps: &mut Vec<i32>, shape: usize, at: u32) -> Result<(), Memory>
                 steps.push(at as i32)?;
             }
         }
+        18 | 19 => push_turn(steps, at, at / 2 % 2 == 0)?,
+        20 => push_turn(steps, at, at % 2 == 0)?,
+        21 => {
+            if at % 3 > 0 {
+                push_turn(steps, at, at % 3 == 1)?;
+            }
+        }
+        24 => {
+            if at % 2 == 0 {
+                steps.push(at as i32)?;
+            }
+        }
+        25 => push_deep(steps, at, 20)?,
+        26 => push_deep(steps, at, at % 20)?,
         _ => {}
+    }
+    Ok(())
+}
+
+/// One element of an array, or an element of that.
+fn push_turn(steps: &mut Vec<i32>, at: u32, short: bool) -> Result<(), Memory>
+    requires { at < 2000 }
+{
+    steps.push(1)?;
+    if !short {
+        steps.push(at as i32)?;
+    }
+    Ok(())
+}
+
+/// A part of an array of so many dimensions, every second time half as deep.
+fn push_deep(steps: &mut Vec<i32>, at: u32, depth: u32) -> Result<(), Memory>
+    requires { at < 2000 }
+{
+    for _step in 0..if at % 2 == 0 { depth / 2 } else { depth } {
+        steps.push(1)?;
+    }
+    if at % 2 == 1 && depth == 20 {
+        steps.push(at as i32)?;
     }
     Ok(())
 }
@@ -82,6 +123,8 @@ fn share_of(shape: usize, at: u32) -> Touched
         variable: NONE,
         thing: NONE,
         wakes: NONE,
+        more: 0,
+        things: 1,
     };
     match shape {
         1 => Touched { variable: process, ..nothing },
@@ -101,7 +144,12 @@ fn share_of(shape: usize, at: u32) -> Touched
         10 => Touched { variable: at, ..nothing },
         11 | 12 | 14 | 16 | 17 => Touched { variable: 0, ..nothing },
         13 => Touched { variable: at / 8, ..nothing },
-        15 => Touched { variable: 0, write: at % 3 == 0, ..nothing },
+        15 | 20 => Touched { variable: 0, write: at % 3 == 0, ..nothing },
+        18 | 19 => Touched { variable: at % 2, write: shape == 18 || at % 3 == 0, ..nothing },
+        21 | 25 | 26 => Touched { variable: 0, ..nothing },
+        22 | 23 | 24 => Touched { variable: 0, more: shape as u32 - 21, ..nothing },
+        27 => Touched { variable: 0, thing: at, ..nothing },
+        28 => Touched { variable: 0, thing: process * 8, things: 8, ..nothing },
         _ => {
             if at % 5 == 0 {
                 Touched { thing: at * 7 % 16, ..nothing }
@@ -110,6 +158,25 @@ fn share_of(shape: usize, at: u32) -> Touched
             }
         }
     }
+}
+
+fn access_of(
+    alloc: Global,
+    shape: usize,
+    at: u32,
+    variable: u32,
+    write: bool,
+) -> Result<Access, Memory>
+    requires { at < 2000 }
+{
+    let mut steps = Vec::new(alloc);
+    push_steps(&mut steps, shape, at)?;
+    let spot = Spot {
+        activation: 0,
+        variable,
+        path: Path::from_vec(steps),
+    };
+    Ok(Access { spot, write })
 }
 
 fn event_of(alloc: Global, shape: usize, at: u32) -> Result<Event, Memory>
@@ -123,17 +190,18 @@ fn event_of(alloc: Global, shape: usize, at: u32) -> Result<Event, Memory>
         wakes.push(touched.wakes)?;
     }
     if touched.thing < NONE {
-        things.push(Thing::Semaphore(touched.thing))?;
+        for thing in 0..touched.things.min(8) {
+            things.push(Thing::Semaphore(touched.thing + thing))?;
+        }
     }
     if touched.variable < NONE {
-        let mut steps = Vec::new(alloc);
-        push_steps(&mut steps, shape, at)?;
-        let spot = Spot {
-            activation: 0,
-            variable: touched.variable,
-            path: Path::from_vec(steps),
-        };
-        accesses.push(Access { spot, write: touched.write })?;
+        accesses.push(access_of(alloc, shape, at, touched.variable, touched.write)?)?;
+        for variable in 0..touched.more.min(8) {
+            accesses.push(access_of(alloc, shape, at, variable + 1, touched.write)?)?;
+        }
+        if touched.more == 1 {
+            accesses.push(access_of(alloc, shape, at, at + 10, touched.write)?)?;
+        }
     }
     Ok(Event {
         process: at % 64,
@@ -217,4 +285,15 @@ each event writes the same field of another element of an array
 reads and writes of the elements of one array, 1,000 in turn
 turns of a write of one element of an array and of a write of another of that element's elements
 turns of a write of one element of an element and of a write of another part of the element beside it
+the turns of a write of one element of an array and of a write of another of that element's elements in each of two arrays
+the same of reads and writes
+reads and writes of one element of an array and of another of that element's elements
+turns of a write of an array, of one of its elements and of another of that element's elements
+each event writes two variables and another one of its own
+each event writes three variables
+each event writes four arrays, or another element of each
+turns of a write of a part at 10 steps and of another part of that at 21 steps
+writes of parts at up to 20 steps that hold one another
+all write one variable and wait at 2,000 semaphores of their own
+all write one variable and wait at eight semaphores of their process
 SHAPES

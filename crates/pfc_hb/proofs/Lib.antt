@@ -1,7 +1,9 @@
-pub mod KeyLaws
 pub mod ListAny
 pub mod BeforeLaws
 pub mod ClockLaws
 pub mod PathLaws
 pub mod RaceLaws
+pub mod PartLaws
+pub mod UserLaws
 pub mod RowLaws
+pub mod LastLaws

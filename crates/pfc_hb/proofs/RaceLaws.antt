@@ -1,9 +1,9 @@
 -- The computed races are the races: exactly these, in order.
-use Rattle.std.proofs.Common.{get_or, ◌≡◌, ℕ, zero, suc, ◌+◌, ◌-◌, ◌<◌, ◌≤◌, inl, inr, Bool, true, false, not, ◌&&◌, ltb, cond, List, [], ◌∷◌, ◌++◌, length, arith, add-one, refl, sym, subst, ◌∙◌}
+use Rattle.std.proofs.Common.{get_or, ◌≡◌, ℕ, zero, suc, ◌+◌, ◌-◌, ◌<◌, ◌≤◌, inl, inr, Bool, true, false, not, ◌&&◌, ltb, cond, List, [], ◌∷◌, ◌++◌, length, set, take, arith, add-one, refl, sym, ap, subst, ◌∙◌}
 use Rattle.pfc_hb.specs.Lines.{IsPair}
 use Rattle.std.specs.List.{All, Contains, AllPairs}
 use Rattle.std.proofs.lemmas.Bool.{and_from, and_parts, and_left, and_right, cases_eq, cases_lt, false≢true, ltb-true, lt-ltb, le-ltb, not-true, not_from_false, false_from_ne_true}
-use Rattle.std.proofs.lemmas.List.{append_assoc, length-append, get_or_append_left, get_or-append_right}
+use Rattle.std.proofs.lemmas.List.{append_assoc, append-nil, length-append, get_or_append_left, get_or-append_right, take-set, take_more_set}
 use Rattle.std.proofs.lemmas.List.Elements.{Contains-get_or, Contains-append_left, Contains-append_right, Contains-append_cases, Contains-push, Contains-push_cases}
 use Rattle.pfc_hb.specs.declared.events.Event.{Event}
 use Rattle.pfc_hb.specs.declared.events.Race.{Race}
@@ -202,3 +202,15 @@ races-pairs events races are = λ k d lt.
       second_from = omega (arith, is.counted, is.ordered);
       second_to = is.happened;
     }
+
+-- a race is written behind those before it, and stays where its event is marked
+pub note-step : (races : List Race) (place : ℕ) (race : Race) (marked : Bool) (n : ℕ) → place < length races → n ≡ cond marked 1 0
+    → take (place + n) (set races place race) ≡ take place races ++ cond marked (race ∷ []) []
+note-step races place race true n lt is = rw is (take_more_set races place race lt)
+note-step races place race false n lt is =
+    let none : place + n ≡ place = omega (arith, is) in
+    ap (λ k. take k (set races place race)) none ∙ take-set races place race ∙ sym (append-nil (take place races))
+
+pub one-at-most : (marked : Bool) (n : ℕ) → n ≡ cond marked 1 0 → n ≤ 1
+one-at-most true n is = omega (arith, is)
+one-at-most false n is = omega (arith, is)

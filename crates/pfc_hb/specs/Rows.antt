@@ -1,46 +1,46 @@
--- Rows of what clashes, each for an event and all later events with the same accesses.
-use Rattle.std.specs.Prelude.{◌≡◌, ℕ, ◌<◌, ◌≤◌, Bool, false, ◌&&◌, ◌||◌, All, List, [], length, slice_index_or}
-use Rattle.std.specs.Ordering.{int_eq}
-use Rattle.std.specs.Bool.{beq}
-use Rattle.std.specs.Cmp.Lexicographic.{pointwise}
+-- Rows: with which events the accesses of one event clash.
+use Rattle.std.specs.Prelude.{◌≡◌, ℕ, ◌<◌, ◌≤◌, Bool, false, ◌||◌, List, length, slice_index_or}
+use Rattle.std.specs.List.{list_any}
 use Rattle.pfc_hb.specs.declared.accesses.Access.{Access}
 use Rattle.pfc_hb.specs.declared.events.Event.{Event}
-use Rattle.pfc_hb.specs.declared.rows.Row.{Row}
 use Rattle.pfc_hb.specs.declared.rows.Rows.{Rows}
+use Rattle.pfc_hb.specs.declared.users.Users.{Users}
 use Rattle.pfc_hb.specs.Order.{event_at}
-use Rattle.pfc_hb.specs.Keys.{AreKeys}
-use Rattle.pfc_hb.specs.Conflicts.{has_same_variable, clashes_with, have_clash}
-
--- both read or both write what lies at one spot
-abbrev pub is_same_access : Access → Access → Bool
-is_same_access a b = has_same_variable a.spot b.spot && beq a.write b.write && pointwise int_eq a.spot.path b.spot.path
+use Rattle.pfc_hb.specs.Conflicts.{clashes_with, have_clash, is_race}
+use Rattle.pfc_hb.specs.Parts.{KnowsAll, is_same_spot, lies_in}
+use Rattle.pfc_hb.specs.Users.{TellUsers, is_user, users_at}
 
 -- of each event behind the one at i, whether the accesses of both clash
-pub record TellsClashes (events : List Event) (i : ℕ) (clashes : List Bool) : Type 0 where
-  pub wide : length clashes ≡ length events
-  pub told : (j : ℕ) → i < j → j < length events → slice_index_or clashes j false ≡ have_clash (event_at events i) (event_at events j)
+pub record TellsClashes (events : List Event) (i : ℕ) (row : List Bool) : Type 0 where
+  pub wide : length row ≡ length events
+  pub told : (j : ℕ) → i < j → j < length events → slice_index_or row j false ≡ have_clash (event_at events i) (event_at events j)
 
--- beside what was marked before, with which events behind the one at i an access clashes
-abbrev pub Marks : List Event → ℕ → Access → List Bool → List Bool → Type 0
-Marks events i access before after = (j : ℕ) → i < j → j < length events
+-- of each event behind the one at i, whether the two are a race
+pub record TellsRaces (events : List Event) (i : ℕ) (row : List Bool) : Type 0 where
+  pub wide : length row ≡ length events
+  pub told : (j : ℕ) → i < j → j < length events → slice_index_or row j false ≡ is_race events i j
+
+-- beside what was marked before, the events from a place on with which an access clashes
+abbrev pub AddsClashes : List Event → ℕ → Access → List Bool → List Bool → Type 0
+AddsClashes events from access before after = (j : ℕ) → from ≤ j → j < length events
     → slice_index_or after j false ≡ (slice_index_or before j false || clashes_with (event_at events j) access)
 
--- the row of an event that happened
-pub record IsRow (events : List Event) (row : Row) : Type 0 where
-  pub happened : row.first < length events
-  pub tells : TellsClashes events row.first row.clashes
+-- beside what was marked before, the users of a part from a place on
+abbrev pub AddsUsers : Users → Bool → ℕ → List Bool → List Bool → Type 0
+AddsUsers users write from before after = (j : ℕ) → from ≤ j
+    → slice_index_or after j false ≡ (slice_index_or before j false || is_user users write j)
 
--- stands for the row at a place where there is none
-abbrev pub no_row : Row
-no_row = record { first = 0; clashes = [] }
+-- the event is a user of a part of one of these numbers
+abbrev pub is_some_user : List Users → List ℕ → Bool → ℕ → Bool
+is_some_user users numbers write j = list_any (λ n. is_user (users_at users n) write j) numbers
 
--- the row is of no later event than the one at i, and both have the same accesses
-pub record Serves (events : List Event) (i : ℕ) (row : Row) : Type 0 where
-  pub earlier : row.first ≤ i
-  pub same : (event_at events row.first).accesses ≡ (event_at events i).accesses
+-- beside what was marked before, the users of the parts of these numbers from a place on
+abbrev pub AddsOthers : List Users → List ℕ → Bool → ℕ → List Bool → List Bool → Type 0
+AddsOthers users numbers write from before after = (j : ℕ) → from ≤ j
+    → slice_index_or after j false ≡ (slice_index_or before j false || is_some_user users numbers write j)
 
--- all rows and keys are right; at a place any number may stand
-pub record AreRows (events : List Event) (rows : Rows) : Type 0 where
-  pub each : All (IsRow events) rows.rows.items
-  pub placed : length rows.places.items ≡ 4096
-  pub keyed : AreKeys events rows.keys.items
+-- all parts are known, with their users
+pub record AreRows (rows : Rows) : Type 0 where
+  pub known : KnowsAll rows.events.now rows.parts.keys
+  pub at : TellUsers rows.events.now rows.parts.keys is_same_spot rows.uses.at.items
+  pub within : TellUsers rows.events.now rows.parts.keys lies_in rows.uses.within.items

@@ -51,7 +51,7 @@ fn column_of(alloc: Global, clocks: &[Clock], slot: usize) -> Result<Column, Mem
     requires { All (λ clock. slot < length clock) clocks.now }
     ensures { IfOk result (λ column. column ≡ map (λ clock. slice_index clock slot) clocks.now) }
 {
-    let mut counts = Vec::new(alloc);
+    let mut counts = Vec::with_capacity(alloc, clocks.len())?;
     for clock in clocks {
         counts.push(clock.count(slot))?;
     }

@@ -2,70 +2,16 @@
 ghost use Rattle.std.specs.Prelude.{◌≡◌, ◌≤◌, ◌||◌, ◌&&◌, length};
 ghost use Rattle.std.specs.List.{list_any, starts_with};
 ghost use Rattle.std.specs.Ordering.{int_eq};
-ghost use Rattle.std.specs.Bool.{Decides};
-ghost use Rattle.pfc_hb.specs.Clocks.{has_thing, reaches};
+ghost use Rattle.pfc_hb.specs.Clocks.{reaches};
 ghost use Rattle.pfc_hb.specs.Conflicts.{clashes, clashes_with, overlaps, writes_against};
-ghost use Rattle.pfc_hb.specs.Order.{is_same_thing};
-ghost use Rattle.pfc_hb.specs.Rows.{is_same_access};
 
-use crate::{Access, Event, Thing};
+use crate::{Access, Event};
 
 /// Whether the first event, the earlier one, is of the process of the second, or wakes it.
 pub(crate) fn reaches_process(first: &Event, second: &Event) -> bool
     ensures { result ≡ reaches first.now second.now }
 {
     first.process == second.process || first.wakes.as_slice().contains(&second.process)
-}
-
-/// Whether an event has this object.
-pub(crate) fn has_object(thing: Thing, event: &Event) -> bool
-    ensures { result ≡ has_thing thing event.now }
-{
-    event
-        .things
-        .as_slice()
-        .iter()
-        .any(|other| are_same(thing, *other))
-}
-
-fn are_same(first: Thing, second: Thing) -> bool
-    ensures { result ≡ is_same_thing first second }
-{
-    first == second
-}
-
-/// Whether an access clashes with some access of an event.
-pub(crate) fn clashes_with_event(access: &Access, event: &Event) -> bool
-    ensures { result ≡ clashes_with event.now access.now }
-{
-    let others = event.accesses.as_slice();
-    if others.len() == 1 {
-        // nearly all events that have accesses have one
-        return do_clash(access, &others[0]);
-    }
-    clashes_with_some(access, others)
-}
-
-/// Whether the accesses of two events are the same, one by one.
-pub(crate) fn have_same_accesses(first: &Event, second: &Event) -> bool
-    ensures { Decides result (first.now.accesses ≡ second.now.accesses) }
-{
-    let accesses = first.accesses.as_slice();
-    let others = second.accesses.as_slice();
-    accesses.len() == others.len()
-        && accesses
-            .iter()
-            .zip(others)
-            .all(|(access, other)| is_same(access, other))
-}
-
-fn is_same(first: &Access, second: &Access) -> bool
-    ensures { result ≡ is_same_access first.now second.now }
-{
-    first.spot.variable == second.spot.variable
-        && first.spot.activation == second.spot.activation
-        && first.write == second.write
-        && first.spot.path.steps() == second.spot.path.steps()
 }
 
 /// Whether a write of the first event takes part in its conflict with the second.

@@ -10,13 +10,16 @@ mod clocks;
 mod columns;
 mod comparing;
 mod events;
-mod keys;
+mod lasts;
 mod lines;
+mod marks;
 mod objects;
 mod order;
 mod pairs;
+mod parts;
 mod rows;
 mod slots;
+mod users;
 
 pub use accesses::{Access, Accesses, Path, Spot};
 pub use events::{Event, Race};

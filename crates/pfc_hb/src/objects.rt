@@ -5,7 +5,7 @@ use std::marker::Model;
 
 /// An object of a synchronisation, by its number. For calls of entries, for accepts and for their ends it is the
 /// process that owns the entry.
-#[derive(Clone, Copy, Debug, PartialEq, Eq)]
+#[derive(Clone, Copy, Debug, PartialEq, Eq, Hash)]
 pub enum Thing {
     Semaphore(u32),
     Channel(u32),

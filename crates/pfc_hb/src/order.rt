@@ -1,11 +1,13 @@
 //! The order of the events of a run, kept as their clocks.
-ghost use Rattle.std.specs.Prelude.{◌≡◌, ◌<◌, ◌≤◌, ℕ, true, [], IfOk, MatchOption, length, slice_index_or, slice_index};
-ghost use Rattle.pfc_hb.specs.Clocks.{AreClocks, AreSlots, Gathers, Has, HasAll, IsClock, IsLastWith, Keeps, NoneWith, TellOrder, has_thing, leads, reaches};
+ghost use Rattle.std.specs.Prelude.{◌≡◌, ◌<◌, ◌≤◌, ℕ, true, [], IfOk, length, slice_index_or, slice_index};
+ghost use Rattle.pfc_hb.specs.Clocks.{AreClocks, AreSlots, Gathers, Has, HasAll, IsClock, Keeps, TellOrder, has_thing, leads, reaches};
+ghost use Rattle.pfc_hb.specs.Lasts.{TellLasts};
 ghost use Rattle.pfc_hb.specs.Order.{Before, event_at, shares_thing};
 
 use crate::clocks::Clock;
 use crate::columns::{Column, columns_of};
-use crate::comparing::{has_object, reaches_process};
+use crate::comparing::reaches_process;
+use crate::lasts::Lasts;
 use crate::slots::{Slots, slots_of};
 use crate::{Event, Thing};
 use pfc_base::Memory;
@@ -54,9 +56,11 @@ fn clocks_of(alloc: Global, events: &[Event], slots: &Slots) -> Result<Vec<Clock
     ensures clocks { IfOk result (λ clocks. AreClocks events.now slots.now.of_events.items slots.now.width (length events.now) clocks.items) }
 {
     let mut clocks = Vec::new(alloc);
-    for place in 0..events.len() {
-        let clock = clock_of(alloc, events, slots, &clocks, place)?;
+    let mut lasts = Lasts::new(alloc);
+    for (place, event) in events.iter().enumerate() {
+        let clock = clock_of(alloc, events, slots, &clocks, &lasts, place)?;
         clocks.push(clock)?;
+        lasts.put(event.things.as_slice(), place)?;
     }
     Ok(clocks)
 }
@@ -67,6 +71,7 @@ fn clock_of(
     events: &[Event],
     slots: &Slots,
     clocks: &[Clock],
+    lasts: &Lasts,
     place: usize,
 ) -> Result<Clock, Memory>
     requires few { length events.now ≤ 2000 }
@@ -74,26 +79,35 @@ fn clock_of(
     requires place { place < length events.now }
     requires each { length clocks.now ≡ place }
     requires clocks { AreClocks events.now slots.now.of_events.items slots.now.width place clocks.now }
+    requires lasts { TellLasts events.now place lasts.now.places.entries }
     ensures { IfOk result (λ clock. IsClock events.now slots.now.of_events.items slots.now.width place clock) }
 {
     let mut clock = Clock::new(alloc, slots.width)?;
-    gather(&mut clock, events, slots, clocks, place);
+    gather(&mut clock, events, slots, clocks, lasts, place);
     clock.set_count(slots.of_events[place], place as u32 + 1);
     Ok(clock)
 }
 
 /// Has a clock that counts nothing yet count what is before the event at a place.
-fn gather(clock: &mut Clock, events: &[Event], slots: &Slots, clocks: &[Clock], place: usize)
+fn gather(
+    clock: &mut Clock,
+    events: &[Event],
+    slots: &Slots,
+    clocks: &[Clock],
+    lasts: &Lasts,
+    place: usize,
+)
     requires slots { AreSlots events.now slots.now.of_events.items slots.now.width }
     requires place { place < length events.now }
     requires each { length clocks.now ≡ place }
     requires clocks { AreClocks events.now slots.now.of_events.items slots.now.width place clocks.now }
+    requires lasts { TellLasts events.now place lasts.now.places.entries }
     requires behind { Gathers events.now slots.now.of_events.items slots.now.width place clock.old }
     ensures gathered { Gathers events.now slots.now.of_events.items slots.now.width place clock.new }
     ensures all { HasAll events.now slots.now.of_events.items leads place clock.new }
 {
     count_own_past(clock, events, slots, clocks, place);
-    count_objects(clock, events, slots, clocks, place);
+    count_objects(clock, events, slots, clocks, lasts, place);
     if events[place].joins {
         count_all(clock, events, slots, clocks, place);
     }
@@ -150,18 +164,26 @@ fn count_if_reaching(
 
 /// Has the clock of the event at a place count the events that have an object with it. The last event with an object has
 /// all that is further back.
-fn count_objects(clock: &mut Clock, events: &[Event], slots: &Slots, clocks: &[Clock], place: usize)
+fn count_objects(
+    clock: &mut Clock,
+    events: &[Event],
+    slots: &Slots,
+    clocks: &[Clock],
+    lasts: &Lasts,
+    place: usize,
+)
     requires slots { AreSlots events.now slots.now.of_events.items slots.now.width }
     requires place { place < length events.now }
     requires each { length clocks.now ≡ place }
     requires clocks { AreClocks events.now slots.now.of_events.items slots.now.width place clocks.now }
+    requires lasts { TellLasts events.now place lasts.now.places.entries }
     requires behind { Gathers events.now slots.now.of_events.items slots.now.width place clock.old }
     ensures gathered { Gathers events.now slots.now.of_events.items slots.now.width place clock.new }
     ensures kept { Keeps slots.now.of_events.items clock.old clock.new }
     ensures all { HasAll events.now slots.now.of_events.items shares_thing place clock.new }
 {
     for thing in events[place].things.as_slice() {
-        count_object(clock, events, slots, clocks, *thing, place);
+        count_object(clock, events, slots, clocks, lasts, *thing, place);
     }
 }
 
@@ -170,6 +192,7 @@ fn count_object(
     events: &[Event],
     slots: &Slots,
     clocks: &[Clock],
+    lasts: &Lasts,
     thing: Thing,
     place: usize,
 )
@@ -177,28 +200,16 @@ fn count_object(
     requires place { place < length events.now }
     requires each { length clocks.now ≡ place }
     requires clocks { AreClocks events.now slots.now.of_events.items slots.now.width place clocks.now }
+    requires lasts { TellLasts events.now place lasts.now.places.entries }
     requires behind { Gathers events.now slots.now.of_events.items slots.now.width place clock.old }
     requires had { has_thing thing (event_at events.now place) ≡ true }
     ensures gathered { Gathers events.now slots.now.of_events.items slots.now.width place clock.new }
     ensures kept { Keeps slots.now.of_events.items clock.old clock.new }
     ensures counted { (k : ℕ) → k < place → has_thing thing (event_at events.now k) ≡ true → Has slots.now.of_events.items clock.new k }
 {
-    if let Some(earlier) = last_with(events, place, thing) {
+    if let Some(earlier) = lasts.of(thing) {
         count_cause(clock, events, slots, clocks, earlier, place);
     }
-}
-
-/// The place of the last event below a bound that has an object.
-fn last_with(events: &[Event], bound: usize, thing: Thing) -> Option<usize>
-    requires { bound ≤ length events.now }
-    ensures { MatchOption result (NoneWith events.now thing 0 bound) (IsLastWith events.now thing bound) }
-{
-    for place in (0..bound).rev() {
-        if has_object(thing, &events[place]) {
-            return Some(place);
-        }
-    }
-    None
 }
 
 /// Has the clock of the event at a place, which joins, count all events before it.

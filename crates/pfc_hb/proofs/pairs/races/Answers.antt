@@ -7,7 +7,7 @@ pub returns-clause-exact : goal.returns-clause-exact
 returns-clause-exact c =
     let events = c.args.events.now in
     let last : c.loop-first.first ≡ length events = omega arith in
-    let all : c.loop-first.races.items ≡ races_of events = c.loop-first.invariant.races ∙ ap (races_below events) last in
+    let all : c.loop-first.races.items ≡ races_of events = c.loop-first.invariant ∙ ap (races_below events) last in
     subst (AreRaces events) (sym all) (are_races events)
 
 pub returns-clause-pairs : goal.returns-clause-pairs

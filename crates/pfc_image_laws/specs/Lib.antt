@@ -1,0 +1,5 @@
+pub mod Operands
+pub mod Instructions
+pub mod Layouts
+pub mod Levels
+pub mod Modules

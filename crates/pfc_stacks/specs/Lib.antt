@@ -1,0 +1,9 @@
+pub mod Activations
+pub mod Answers
+pub mod Conditions
+pub mod Effects
+pub mod Marks
+pub mod Operands
+pub mod Refs
+pub mod Stacks
+pub mod Starts

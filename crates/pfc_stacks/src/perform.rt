@@ -1,0 +1,190 @@
+//! The instructions that need no more than the address and the operands of their process.
+ghost use Rattle.std.specs.Prelude.{◌≡◌, ◌≤◌, ◌<◌, ◌+◌, ◌-◌, ◌^◌, true, length};
+ghost use Rattle.pfc_stacks.specs.Answers.{own_effect_by, Changes};
+ghost use Rattle.pfc_stacks.specs.Conditions.{needs, adds, Reckons};
+ghost use Rattle.pfc_stacks.specs.Refs.{IsAddress};
+ghost use Rattle.pfc_stacks.specs.Effects.{own_effect, jumping, of_one, of_two, is_within, element_word, element_at};
+
+use crate::instructed::Performed;
+use crate::stack::ProcessStack;
+use pfc_base::RunFault;
+use pfc_code::Instr;
+use pfc_values::{
+    Simple, both, char_at, difference, either, inverse, is_true, magnitude, negative, next_value,
+    odd, product, quotient, remainder, square, sum, truth, value_before,
+};
+
+impl ProcessStack {
+    /// Operators of two operands, the right one on top.
+    fn of_two(&mut self, i: Instr) -> Performed
+        requires held { needs i ≤ length self.old.operands }
+        requires next { self.old.at + 1 < 2 ^ 32 }
+        ensures effect { of_two i self.old.at self.old.operands ≡ own_effect_by result self.new.at self.new.operands }
+        ensures changes { Changes result self.old self.new }
+    {
+        let a = self.operand(1);
+        let b = self.operand(0);
+        match i {
+            Instr::ADD => self.pass_outcome(2, sum(a, b)),
+            Instr::SUB => self.pass_outcome(2, difference(a, b)),
+            Instr::MUL => self.pass_outcome(2, product(a, b)),
+            Instr::DIV => self.pass_outcome(2, quotient(a, b)),
+            Instr::MOD => self.pass_outcome(2, remainder(a, b)),
+            Instr::AND => self.pass_outcome(2, Ok(both(a, b))),
+            Instr::OR => self.pass_outcome(2, Ok(either(a, b))),
+            Instr::EQ => self.pass_outcome(2, Ok(truth(a == b))),
+            Instr::NE => self.pass_outcome(2, Ok(truth(a != b))),
+            Instr::LT => self.pass_outcome(2, Ok(truth(a < b))),
+            Instr::LE => self.pass_outcome(2, Ok(truth(a <= b))),
+            Instr::GT => self.pass_outcome(2, Ok(truth(a > b))),
+            Instr::GE => self.pass_outcome(2, Ok(truth(a >= b))),
+            _ => Performed::Nothing,
+        }
+    }
+
+    /// Operators and functions of one operand.
+    fn of_one(&mut self, i: Instr) -> Performed
+        requires held { needs i ≤ length self.old.operands }
+        requires next { self.old.at + 1 < 2 ^ 32 }
+        ensures effect { of_one i self.old.at self.old.operands ≡ own_effect_by result self.new.at self.new.operands }
+        ensures changes { Changes result self.old self.new }
+    {
+        let a = self.operand(0);
+        match i {
+            Instr::NEG => self.pass_outcome(1, negative(a)),
+            Instr::ABS => self.pass_outcome(1, magnitude(a)),
+            Instr::SQR => self.pass_outcome(1, square(a)),
+            Instr::ODD => self.pass_outcome(1, Ok(odd(a))),
+            Instr::CHR => self.pass_outcome(1, char_at(a)),
+            Instr::SUCC(k) => self.pass_outcome(1, next_value(Simple::of(k), a)),
+            Instr::PRED(k) => self.pass_outcome(1, value_before(Simple::of(k), a)),
+            Instr::NOT => self.pass_outcome(1, Ok(inverse(a))),
+            _ => self.of_two(i),
+        }
+    }
+
+    /// Jumps and loops.
+    fn jumping(&mut self, i: Instr) -> Performed
+        requires held { needs i ≤ length self.old.operands }
+        requires next { self.old.at + 1 < 2 ^ 32 }
+        ensures effect { jumping i self.old.at self.old.operands ≡ own_effect_by result self.new.at self.new.operands }
+        ensures changes { Changes result self.old self.new }
+    {
+        match i {
+            Instr::JMP(a) => {
+                self.go(a);
+                Performed::Passed
+            }
+            Instr::JF(a) => {
+                let to = if is_true(self.operand(0)) {
+                    self.at() + 1
+                } else {
+                    a
+                };
+                self.leave(1, to);
+                Performed::Passed
+            }
+            Instr::TURN(a) => self.turn(a),
+            Instr::FORB(d, a) => self.begin_for(d, a),
+            Instr::FORT(d, a) => self.turn_for(d, a),
+            Instr::CEQ(n, a) => {
+                if self.operand(0) == i64::from(n) {
+                    self.leave(1, a);
+                } else {
+                    self.pass();
+                }
+                Performed::Passed
+            }
+            Instr::CERR => Performed::Faulted(RunFault::Case),
+            _ => self.of_one(i),
+        }
+    }
+
+    /// The instructions that need no more than the address and the operands of their process: numbers, the address of an
+    /// element or of a field, and all of the above. Any other is left undone.
+    pub(crate) fn perform_own(&mut self, i: Instr) -> Performed
+        requires held { needs i ≤ length self.old.operands }
+        requires room { adds i ≤ self.old.room - length self.old.operands }
+        requires reckons { Reckons i self.old.operands }
+        requires next { self.old.at + 1 < 2 ^ 32 }
+        ensures effect { own_effect i self.old.at self.old.operands ≡ own_effect_by result self.new.at self.new.operands }
+        ensures changes { Changes result self.old self.new }
+    {
+        match i {
+            Instr::LIT(n) => {
+                self.push(i64::from(n));
+                self.pass();
+                Performed::Passed
+            }
+            Instr::IDX(low, high, z) => {
+                let i = self.operand(0);
+                let array = self.operand(1);
+                self.pass_outcome(2, element(low, high, z, i, array))
+            }
+            Instr::FLD(k) => {
+                let a = self.operand(0) + i64::from(k);
+                self.pass_with(1, a);
+                Performed::Passed
+            }
+            _ => self.jumping(i),
+        }
+    }
+
+    /// Back to an address, as an action.
+    fn turn(&mut self, a: u32) -> Performed
+        ensures effect { jumping (Instr.TURN a) self.old.at self.old.operands ≡ own_effect_by result self.new.at self.new.operands }
+        ensures changes { Changes result self.old self.new }
+    {
+        self.go(a);
+        Performed::Action
+    }
+
+    /// A `for` begins: it ends at once where the first value is past the last.
+    fn begin_for(&mut self, d: u32, a: u32) -> Performed
+        requires { self.old.at + 1 < 2 ^ 32 }
+        ensures effect { jumping (Instr.FORB d a) self.old.at self.old.operands ≡ own_effect_by result self.new.at self.new.operands }
+        ensures changes { Changes result self.old self.new }
+    {
+        let from = self.operand(1);
+        let last = self.operand(0);
+        let is_past = if d == 0 { last < from } else { from < last };
+        if is_past {
+            self.leave(3, a);
+        } else {
+            self.pass();
+        }
+        Performed::Passed
+    }
+
+    /// A `for` turns back with its next value, or ends quietly where the value that it keeps is not before the last.
+    fn turn_for(&mut self, d: u32, a: u32) -> Performed
+        requires { self.old.at + 1 < 2 ^ 32 }
+        ensures effect { jumping (Instr.FORT d a) self.old.at self.old.operands ≡ own_effect_by result self.new.at self.new.operands }
+        ensures changes { Changes result self.old self.new }
+    {
+        let kept = self.operand(1);
+        let last = self.operand(0);
+        if d == 0 && kept < last {
+            self.set_operand(1, kept + 1);
+            self.turn(a)
+        } else if d != 0 && last < kept {
+            self.set_operand(1, kept - 1);
+            self.turn(a)
+        } else {
+            self.leave(3, self.at() + 1);
+            Performed::Passed
+        }
+    }
+}
+
+/// The address of an element of an array, whose index must lie within the bounds; an element has z cells.
+fn element(low: i32, high: i32, z: u32, i: i64, array: i64) -> Result<i64, RunFault>
+    requires array { IsAddress array }
+    requires element { is_within low high i ≡ true → IsAddress (element_word low z i array) }
+    ensures { result ≡ element_at low high z i array }
+{
+    if i < i64::from(low) || i > i64::from(high) {
+        return Err(RunFault::Index);
+    }
+    Ok(array + (i - i64::from(low)) * i64::from(z))
+}

@@ -1,0 +1,13 @@
+pub mod Lists
+pub mod Numbers
+pub mod Words
+pub mod Paths
+pub mod Stores
+pub mod Variables
+pub mod Blocks
+pub mod Reading
+pub mod Apart
+pub mod Kept
+pub mod Activations
+pub mod Machine
+pub mod Values

@@ -1,0 +1,169 @@
+-- Code that follows the next action of a process: quiet instructions, each of which leads on, and then the action.
+use Rattle.std.specs.Prelude.{ℕ, suc, ◌+◌, ◌<◌, ◌≤◌, ◌≡◌, ℤ, true, List, [], ◌∷◌, ◌++◌, length, reverse, Option, Some, None, Ok, Err}
+use Rattle.std.specs.List.{slice_get}
+use Rattle.pfc_base.specs.declared.faults.RunFault.{RunFault}
+use Rattle.pfc_code.specs.declared.instructions.Instr.{Instr}
+use Rattle.pfc_code.specs.declared.instructions.Instr.TheVariants.{LOAD, STORE, TURN, FORW, FORT, GRD, COEND, SINI, SWAIT, SSIG, SEND, RECV, ACC, EACC, DELAY, RESUME, EMPTY, SLEEP, CLOCK, RAND, WRS, WRNL, RDNL, EOF, EOLN}
+use Rattle.pfc_types.specs.Types.{semaphore, condition}
+use Rattle.pfc_types.specs.rules.Expressions.{Env}
+use Rattle.pfc_types.specs.declared.types.TypeId.{TypeId}
+use Rattle.pfc_types.specs.declared.heads.Formal.{Formal}
+use Rattle.pfc_values.specs.declared.simple.Simple.{Simple}
+use Rattle.pfc_values.specs.Pieces.{shown, padded}
+use Rattle.pfc_machine.specs.Rows.{is_before, value_behind}
+use Rattle.pfc_semantics.specs.Values.{Value, ordinal}
+use Rattle.pfc_semantics.specs.Displays.{Spot}
+use Rattle.pfc_semantics.specs.Operators.{simple_of}
+use Rattle.pfc_semantics.specs.Programs.{Block}
+use Rattle.pfc_semantics.specs.Remainders.{Context, Offer, Open, Remainder, Action, to_send, to_receive, to_accept, to_wait, to_end, reads, writes, turns, calls, finishes, prints, inputs, skips, asks_eof, asks_eoln, asks_clock, asks_empty, draws, joins, initials, waits, signals, delays, resumes, sleeps, meets, decides, parts, scans, bars, passes, faults}
+use Rattle.pfc_semantics.specs.Rewriting.{Doing, going, holding}
+use Rattle.pfc_translation.specs.Sites.{forms_of}
+use Rattle.pfc_translation.specs.Calls.{write_instr, read_instr}
+use Rattle.pfc_translation.specs.Selects.{accept_cell, accept_cells}
+use Rattle.pfc_standing_code.specs.Shapes.{Shape, a_number, shape_of, shape_cells, IsOf, IsShaped, words_of}
+use Rattle.pfc_standing_code.specs.Settings.{View, Setting, of_own, of_another, site_of, IsAt}
+use Rattle.pfc_standing_code.specs.Effects.{Arm, onward, refuses, effect_of, CanPerform}
+use Rattle.pfc_standing_code.specs.Words.{IsWord, IsSimpleWord, IsObject, IsChecked, AreHeld}
+use Rattle.pfc_standing_code.specs.Performs.{MetAt, DecidesAt, IsSent, IsReceived, AreOpen, WayAt, own_again, Clear, Performs}
+use Rattle.pfc_standing_code.specs.Awaits.{TurnAt, PerformsAnywhere, TakesValue, CallsAt}
+
+-- a number or a string that is printed, with or without a width
+pub data IsPiece (g : Setting) (line at : ℕ) (ops below : List ℤ) (bytes : List ℕ) : Type 0 where
+  number : (t : Simple) (n : ℤ) → ops ≡ n ∷ below → bytes ≡ shown t n → IsAt g at (write_instr t 0) line → IsPiece g line at ops below bytes
+  wide_number : (t : Simple) (n w : ℤ) → ops ≡ w ∷ n ∷ below → padded w (shown t n) ≡ Ok bytes → IsAt g at (write_instr t 1) line → IsPiece g line at ops below bytes
+  string : (s : ℕ) → ops ≡ below → slice_get g.texts s ≡ Some bytes → IsAt g at (WRS s 0) line → IsPiece g line at ops below bytes
+  wide_string : (s : ℕ) (w : ℤ) (text : List ℕ) → ops ≡ w ∷ below → slice_get g.texts s ≡ Some text → padded w text ≡ Ok bytes → IsAt g at (WRS s 1) line → IsPiece g line at ops below bytes
+  newline : ops ≡ below → bytes ≡ 10 ∷ [] → IsAt g at WRNL line → IsPiece g line at ops below bytes
+
+-- an instruction that ends in a fault
+pub data IsFault (g : Setting) (line at : ℕ) (ops : List ℤ) (arms : List Arm) (f : RunFault) : Type 0 where
+  of_operands : (i : Instr) → IsAt g at i line → CanPerform g i ops → effect_of g i at ops arms ≡ refuses f → IsFault g line at ops arms f
+  of_number_width : (t : Simple) (n w : ℤ) (below : List ℤ) → ops ≡ w ∷ n ∷ below → padded w (shown t n) ≡ Err f → IsAt g at (write_instr t 1) line → IsFault g line at ops arms f
+  of_string_width : (s : ℕ) (w : ℤ) (text : List ℕ) (below : List ℤ) → ops ≡ w ∷ below → slice_get g.texts s ≡ Some text → padded w text ≡ Err f → IsAt g at (WRS s 1) line → IsFault g line at ops arms f
+
+-- a write of a value from the operands, or of the value that a `for` keeps
+pub data IsWrite (g : Setting) (b : Block) (x : Context) (at : ℕ) (ops : List ℤ) (arms : List Arm) (v : Spot) (new : Value) (k : Remainder) : Type 0 where
+  of_value : (t : TypeId) (w : ℤ) (below : List ℤ) → ops ≡ reverse (words_of new) ++ w ∷ below → IsOf (forms_of (site_of g b x)) t new → IsWord g.view (site_of g b x) v (Some t) w → IsAt g at (STORE (shape_cells (forms_of (site_of g b x)) (shape_of t))) x.line → Performs g b x.env (at + 1) below arms k → IsWrite g b x at ops arms v new k
+  of_kept : (last kept w : ℤ) (below : List ℤ) → arms ≡ [] → ops ≡ last ∷ kept ∷ w ∷ below → new ≡ ordinal kept → IsSimpleWord g.view (site_of g b x) v w → IsAt g at FORW x.line → Performs g b x.env (at + 1) ops [] k → IsWrite g b x at ops arms v new k
+
+-- the way back of a loop, or to the next value of a `for`
+pub data IsTurn (g : Setting) (b : Block) (x : Context) (at : ℕ) (ops : List ℤ) (k : Remainder) : Type 0 where
+  of_loop : (a : ℕ) → IsAt g at (TURN a) x.line → Performs g b x.env a ops [] k → IsTurn g b x at ops k
+  of_count : (d a : ℕ) (last kept w : ℤ) (below : List ℤ) → ops ≡ last ∷ kept ∷ w ∷ below → is_before d kept last ≡ true → IsAt g at (FORT d a) x.line → Performs g b x.env a (last ∷ value_behind d kept ∷ w ∷ below) [] k → IsTurn g b x at ops k
+
+-- A plain communication: its operands, its instruction, and what is left; behind an accept its statement and its end come first.
+abbrev pub MeetsBy : Setting → Block → Context → ℕ → List ℤ → Open → Offer → Remainder → Type 0
+MeetsBy g b x at ops o (to_send channel v) k =
+    (z : ℕ) × (sent : List ℤ) × (below : List ℤ) × (ops ≡ sent ++ below) × IsSent g (site_of g b x) channel v z sent
+    × IsAt g at (SEND z) x.line × Performs g b x.env (at + 1) below [] k
+MeetsBy g b x at ops o (to_receive channel target) k =
+    (z : ℕ) × (held : List ℤ) × (below : List ℤ) × (ops ≡ held ++ below) × IsReceived g (site_of g b x) channel z held target
+    × IsAt g at (RECV z) x.line × Performs g b x.env (at + 1) below [] k
+MeetsBy g b x at ops o (to_accept a) k =
+    let s = site_of g b x in
+    IsAt g at (ACC a.entry (accept_cell s a.scope) (accept_cells s a.scope)) x.line
+    × MetAt g s (at + 1) (length ops) (Some a) o.next o.stmts (λ end. Performs g b x.env end ops [] k)
+MeetsBy g b x at ops o (to_wait n) k = ⊥
+MeetsBy g b x at ops o to_end k = ⊥
+
+-- an action of an object whose number is on top
+abbrev pub ObjectAt : Setting → Block → Context → ℕ → List ℤ → Spot → TypeId → Instr → Remainder → Type 0
+ObjectAt g b x at ops v t i k =
+    (n : ℤ) × (below : List ℤ) × (ops ≡ n ∷ below) × IsObject g (site_of g b x) v (Some t) n × IsAt g at i x.line × Performs g b x.env (at + 1) below [] k
+
+-- The code is at the action, and performs behind it what is left then. The names that are in view there are those of the action.
+abbrev pub ArrivedBy : Setting → Block → ℕ → List ℤ → List Arm → Action → Type 0
+ArrivedBy g b at ops arms (reads x v u) =
+    (t : TypeId) × (w : ℤ) × (below : List ℤ) × (ops ≡ w ∷ below) × IsWord g.view (site_of g b x) v (Some t) w
+    × IsAt g at (LOAD (shape_cells g.program.state.forms (shape_of t))) x.line × (length below + shape_cells g.program.state.forms (shape_of t) ≤ g.room)
+    × TakesValue g b x (at + 1) below arms (shape_of t) u
+ArrivedBy g b at ops arms (writes x v new k) = IsWrite g b x at ops arms v new k
+ArrivedBy g b at ops arms (turns x k) = Clear arms (IsTurn g b x at ops k)
+ArrivedBy g b at ops arms (calls x call given) =
+    (formals : List Formal) × (below : List ℤ) × AreHeld g.view (site_of g b x) formals given ops below × CallsAt g b x at below arms formals call
+ArrivedBy g b at ops arms (finishes line) = Clear arms ((ops ≡ g.under) × IsAt g at g.last line)
+ArrivedBy g b at ops arms (prints x bytes k) = Clear arms ((below : List ℤ) × IsPiece g x.line at ops below bytes × Performs g b x.env (at + 1) below [] k)
+ArrivedBy g b at ops arms (inputs x t v k) =
+    Clear arms ((w : ℤ) × (below : List ℤ) × (ops ≡ w ∷ below) × IsSimpleWord g.view (site_of g b x) v w × IsAt g at (read_instr (simple_of t)) x.line
+    × Performs g b x.env (at + 1) below [] k)
+ArrivedBy g b at ops arms (skips x k) = Clear arms (IsAt g at RDNL x.line × Performs g b x.env (at + 1) ops [] k)
+ArrivedBy g b at ops arms (asks_eof x u) = IsAt g at EOF x.line × (suc (length ops) ≤ g.room) × TakesValue g b x (at + 1) ops arms a_number u
+ArrivedBy g b at ops arms (asks_eoln x u) = IsAt g at EOLN x.line × (suc (length ops) ≤ g.room) × TakesValue g b x (at + 1) ops arms a_number u
+ArrivedBy g b at ops arms (asks_clock x u) = IsAt g at CLOCK x.line × (suc (length ops) ≤ g.room) × TakesValue g b x (at + 1) ops arms a_number u
+ArrivedBy g b at ops arms (asks_empty x v u) =
+    (n : ℤ) × (below : List ℤ) × (ops ≡ n ∷ below) × IsObject g (site_of g b x) v (Some condition) n × IsAt g at EMPTY x.line
+    × TakesValue g b x (at + 1) below arms a_number u
+ArrivedBy g b at ops arms (draws x n u) = (below : List ℤ) × (ops ≡ n ∷ below) × IsAt g at RAND x.line × TakesValue g b x (at + 1) below arms a_number u
+ArrivedBy g b at ops arms (joins x k) = Clear arms (IsAt g at COEND x.line × Performs g b x.env (at + 1) ops [] k)
+ArrivedBy g b at ops arms (initials x v n k) =
+    Clear arms ((rest : List ℤ) × (ops ≡ n ∷ rest) × ObjectAt g b x at rest v semaphore SINI k)
+ArrivedBy g b at ops arms (waits x v k) = Clear arms (ObjectAt g b x at ops v semaphore SWAIT k)
+ArrivedBy g b at ops arms (signals x v k) = Clear arms (ObjectAt g b x at ops v semaphore SSIG k)
+ArrivedBy g b at ops arms (delays x v n k) =
+    Clear arms ((rest : List ℤ) × (ops ≡ n ∷ rest) × ObjectAt g b x at rest v condition DELAY k)
+ArrivedBy g b at ops arms (resumes x v k) = Clear arms (ObjectAt g b x at ops v condition RESUME k)
+ArrivedBy g b at ops arms (sleeps x n k) = Clear arms ((below : List ℤ) × (ops ≡ n ∷ below) × IsAt g at SLEEP x.line × Performs g b x.env (at + 1) below [] k)
+ArrivedBy g b at ops arms (meets x o k) = Clear arms (MeetsBy g b x at ops o o.offer k)
+ArrivedBy g b at ops arms (decides x sel k) =
+    let s = site_of g b x in
+    let behind = λ (end : ℕ). Performs g b x.env end ops [] k in
+    DecidesAt g s at (length ops) sel.pri sel.otherwise behind × AreOpen g s (length ops) sel.offered arms behind
+ArrivedBy g b at ops arms (parts x caller k) = Clear arms (IsAt g at EACC x.line × Performs g b x.env (at + 1) ops [] k)
+-- a turn of the process itself, or behind the false guard of a barred process
+ArrivedBy g b at ops arms (scans x scan k) =
+    Clear arms ((view : View) × TurnAt g at scan × WayAt (own_again g view) b scan.way g.behind_scan (length ops) (λ end. PerformsAnywhere (own_again g view) b end ops k))
+ArrivedBy g b at ops arms (bars x bar k) =
+    Clear arms ((v : ℤ) × (below : List ℤ) × (ops ≡ v ∷ below) × (g.trial ≡ of_own) × IsAt g at (GRD bar.resource) x.line × PerformsAnywhere g b (at + 1) below k)
+ArrivedBy g b at ops arms (passes x w scan k) =
+    Clear arms ((v : ℤ) × (below : List ℤ) × (turn : ℕ) × (view : View) × (ops ≡ v ∷ below) × (g.trial ≡ of_another turn) × IsAt g at (GRD scan.resource) x.line
+    × WayAt (own_again g view) b scan.way g.behind_scan (length below) (λ end. PerformsAnywhere (own_again g view) b end below k))
+ArrivedBy g b at ops arms (faults x f) = IsFault g x.line at ops arms f
+
+-- the names in view at an action; an end and a fault need none
+abbrev pub names_of : Action → Option Env
+names_of (reads x v u) = Some x.env
+names_of (writes x v new k) = Some x.env
+names_of (turns x k) = Some x.env
+names_of (calls x call given) = Some x.env
+names_of (finishes line) = None
+names_of (prints x bytes k) = Some x.env
+names_of (inputs x t v k) = Some x.env
+names_of (skips x k) = Some x.env
+names_of (asks_eof x u) = Some x.env
+names_of (asks_eoln x u) = Some x.env
+names_of (asks_clock x u) = Some x.env
+names_of (asks_empty x v u) = Some x.env
+names_of (draws x n u) = Some x.env
+names_of (joins x k) = Some x.env
+names_of (initials x v n k) = Some x.env
+names_of (waits x v k) = Some x.env
+names_of (signals x v k) = Some x.env
+names_of (delays x v n k) = Some x.env
+names_of (resumes x v k) = Some x.env
+names_of (sleeps x n k) = Some x.env
+names_of (meets x o k) = Some x.env
+names_of (decides x sel k) = Some x.env
+names_of (parts x caller k) = Some x.env
+names_of (scans x scan k) = None
+names_of (bars x bar k) = None
+names_of (passes x w scan k) = None
+names_of (faults x f) = None
+
+abbrev pub AreChecked : Setting → Block → Option Env → Type 0
+AreChecked g b None = Unit {0}
+AreChecked g b (Some env) = IsChecked g b env
+
+abbrev pub Arrived : Setting → ℕ → List ℤ → List Arm → Action → Type 0
+Arrived g at ops arms n = (b : Block) × AreChecked g b (names_of n) × ArrivedBy g b at ops arms n
+
+-- Quiet instructions, each of which leads up, and then the action.
+pub data Follows (g : Setting) (n : Action) : ℕ → List ℤ → List Arm → Type 0 where
+  arrives : (at : ℕ) (ops : List ℤ) (arms : List Arm) → Arrived g at ops arms n → Follows g n at ops arms
+  moves : (at : ℕ) (ops : List ℤ) (arms : List Arm) (i : Instr) (line to : ℕ) (left : List ℤ) (more : List Arm) → IsAt g at i line → CanPerform g i ops → effect_of g i at ops arms ≡ onward to left more → at < to → length left ≤ g.room → length more ≤ g.arms → Follows g n to left more → Follows g n at ops arms
+
+-- a process is at this address, with these operands and alternatives, where this is still to do
+abbrev pub DoesAt : Setting → ℕ → List ℤ → List Arm → Doing → Type 0
+DoesAt g at ops arms (going env k) = (b : Block) × IsChecked g b env × Performs g b env at ops arms k
+DoesAt g at ops arms (holding x v u) =
+    (b : Block) × (h : Shape) × (below : List ℤ) × IsChecked g b x.env × IsShaped (forms_of (site_of g b x)) h v × (ops ≡ reverse (words_of v) ++ below)
+    × TakesValue g b x at below arms h u

@@ -1,0 +1,10 @@
+pub mod Awaits
+pub mod Effects
+pub mod Following
+pub mod Performs
+pub mod Settings
+pub mod Sizes
+pub mod Shapes
+pub mod Typed
+pub mod TypedStatements
+pub mod Words

@@ -1,0 +1,204 @@
+-- Expressions, variables and arguments whose parts have the shapes that their code needs: those of checked programs.
+--
+-- It is said of the parts themselves, so that no type is asked for again.
+use Rattle.std.specs.Prelude.{ℕ, ◌==◌, ◌≡◌, ℤ, Bool, true, false, ◌||◌, List, [], ◌∷◌, Option, Some, None}
+use Rattle.std.specs.List.{slice_get, list_any}
+use Rattle.pfc_tree.specs.Symbols.{Text}
+use Rattle.pfc_tree.specs.trees.Exprs.{ExprTree, SimpleTree, SummandTrees, TermTree, MultiplierTrees, FactorTree, DesigTree, SelectorTrees, ExprTrees, ActualTree, ActualTrees, plain, related, sum, no_summands, more_summands, product, no_multipliers, more_multipliers, number, literal, negation, paren, applied as used, desig, index, field, no_selectors, more_selectors, no_exprs, more_exprs, actual, actual_width, no_actuals, more_actuals}
+use Rattle.pfc_types.specs.Types.{Forms, condition, form_of}
+use Rattle.pfc_types.specs.Fields.{FieldList, type_named, position_of}
+use Rattle.pfc_types.specs.Scopes.{Level, meaning_of}
+use Rattle.pfc_types.specs.Blocks.{sub_at}
+use Rattle.pfc_types.specs.rules.Expressions.{find, selected, field_type}
+use Rattle.pfc_types.specs.declared.types.TypeId.{TypeId}
+use Rattle.pfc_types.specs.declared.types.TypeForm.TheVariants.{Array, Record}
+use Rattle.pfc_types.specs.declared.scope.Meaning.{Meaning}
+use Rattle.pfc_types.specs.declared.scope.Meaning.TheVariants.{Constant, Variable, Sub, Predeclared}
+use Rattle.pfc_types.specs.declared.heads.Formal.{Formal}
+use Rattle.pfc_types.specs.declared.heads.SubHead.{SubHead}
+use Rattle.pfc_semantics.specs.Layouts.{is_laid}
+use Rattle.pfc_semantics.specs.Displays.{Spot, TypedSpot}
+use Rattle.pfc_semantics.specs.Predeclared.{Function, eof, eoln, empty, clock, no_function, function_of}
+use Rattle.pfc_semantics.specs.Programs.{block_number}
+use Rattle.pfc_semantics.specs.Expressions.{spot_of}
+use Rattle.pfc_translation.specs.Sites.{Site, at_line, forms_of, blocks_of, is_mains, layout_with, place_of}
+use Rattle.pfc_translation.specs.Addresses.{element_in, type_behind}
+use Rattle.pfc_translation.specs.Calls.{formals_cells}
+use Rattle.pfc_translation.specs.Operands.{arguments, results}
+use Rattle.pfc_standing_code.specs.Shapes.{Shape, a_number, shape_of}
+
+-- ## Variables
+
+-- the scope is one in view, or its variables are main's
+abbrev pub is_seen : Site → ℕ → Bool
+is_seen s i = is_mains (blocks_of s) i || list_any (λ (level : Level). level.scope == i) s.env.view
+
+-- the type of what is laid out; a single process has none
+abbrev pub laid_type : Meaning → Option TypeId
+laid_type (Variable t reference) = Some t
+laid_type m = None
+
+-- the line of a place does not matter to its variables
+abbrev pub unlined : Site → Site
+unlined s = at_line s 0
+
+-- a whole variable in view, with its type
+pub record IsDeclaredAt (s : Site) (v : Spot) (t : Option TypeId) : Type 0 where
+  pub seen : is_seen s v.scope ≡ true
+  pub meaning : Meaning
+  pub laid : slice_get (layout_with s v.scope) (place_of s v) ≡ Some meaning
+  pub variable : is_laid meaning ≡ true
+  pub typed : t ≡ laid_type meaning
+  pub whole : v.selectors ≡ []
+
+abbrev pub IsDeclared : Site → Spot → Option TypeId → Type 0
+IsDeclared s v t = IsDeclaredAt (unlined s) v t
+
+-- ## What selectors lead into
+
+pub record IsArray (forms : Forms) (t : Option TypeId) : Type 0 where
+  pub whole : TypeId
+  pub over : TypeId
+  pub element : TypeId
+  pub low : ℤ
+  pub high : ℤ
+  pub typed : t ≡ Some whole
+  pub form : form_of forms whole ≡ Some (Array over low high element)
+
+-- a record with a field of this name
+pub record IsField (forms : Forms) (t : Option TypeId) (x : Text) : Type 0 where
+  pub whole : TypeId
+  pub fields : FieldList
+  pub place : ℕ
+  pub name : Text
+  pub part : TypeId
+  pub typed : t ≡ Some whole
+  pub form : form_of forms whole ≡ Some (Record fields)
+  pub position : position_of fields x ≡ Some place
+  pub held : slice_get fields place ≡ Some (name, part)
+  pub named : type_named fields x ≡ Some part
+
+-- ## What is called
+
+-- the parameters of the block with this scope take the cells of the arguments
+abbrev pub TakesCells : Site → ℕ → List Formal → Type 0
+TakesCells s scope formals = arguments s.program (block_number s.program scope) ≡ formals_cells (forms_of s) formals
+
+-- so many operands are left behind the call
+abbrev pub LeavesCells : Site → ℕ → ℕ → Type 0
+LeavesCells s scope left = results s.program (block_number s.program scope) ≡ left
+
+-- a sub that is called where it stands in view, and leaves so many operands
+pub record IsSub (s : Site) (head : SubHead) (left : ℕ) : Type 0 where
+  pub taken : TakesCells s head.scope head.formals
+  pub leaves : LeavesCells s head.scope left
+
+-- an argument for a reference is a variable of the parameter's type; else it is a value of that type
+abbrev pub Either : Bool → Type 0 → Type 0 → Type 0
+Either true lent given = lent
+Either false lent given = given
+
+abbrev pub IsPassed : Formal → Type 0 → (Shape → Type 0) → Type 0
+IsPassed f lent given = Either f.reference lent ((t : TypeId) × (f.t ≡ Some t) × given (shape_of t))
+
+-- ## Names
+
+-- a predeclared function, whose argument is a number, or for `empty` a condition
+abbrev pub IsFunction : Function → Shape → Type 0 → Type 0 → Type 0
+IsFunction eof h argument lent = h ≡ a_number
+IsFunction eoln h argument lent = h ≡ a_number
+IsFunction clock h argument lent = h ≡ a_number
+IsFunction empty h argument lent = (h ≡ a_number) × lent
+IsFunction no_function h argument lent = ⊥
+IsFunction f h argument lent = (h ≡ a_number) × argument
+
+-- A name with its selectors or arguments: a constant, a variable whose selectors lead to a part, a function of the program with its
+-- arguments, or a predeclared function.
+abbrev pub IsUse : Site → Option Meaning → Shape → Type 0 → (Option TypeId → Type 0) → SelectorTrees → (List Formal → Type 0) → (Function → Type 0) → Type 0
+IsUse s (Some (Constant t n)) h declared leads ss args function = h ≡ a_number
+IsUse s (Some (Variable t reference)) h declared leads ss args function =
+    (u : TypeId) × declared × leads (Some u) × (selected s.env (Some t) ss ≡ Some u) × (h ≡ shape_of u)
+IsUse s (Some (Sub n)) h declared leads ss args function =
+    (h ≡ a_number) × IsSub s (sub_at (blocks_of s) n) 1 × args (sub_at (blocks_of s) n).formals
+IsUse s (Some (Predeclared k)) h declared leads ss args function = function (function_of k)
+IsUse s m h declared leads ss args function = ⊥
+
+-- ## Expressions
+
+abbrev mutual
+  pub HasShape : Site → ExprTree → Shape → Type 0
+  HasShape s (plain a p) h = HasShapeSimple s a h
+  HasShape s (related a r b p) h = (h ≡ a_number) × HasShapeSimple s a a_number × HasShapeSimple s b a_number
+
+  pub HasShapeSimple : Site → SimpleTree → Shape → Type 0
+  HasShapeSimple s (sum None first no_summands) h = HasShapeTerm s first h
+  HasShapeSimple s (sum sign first rest) h = (h ≡ a_number) × HasShapeTerm s first a_number × AreSummands s rest
+
+  pub AreSummands : Site → SummandTrees → Type 0
+  AreSummands s no_summands = Unit {0}
+  AreSummands s (more_summands op t rest) = HasShapeTerm s t a_number × AreSummands s rest
+
+  pub HasShapeTerm : Site → TermTree → Shape → Type 0
+  HasShapeTerm s (product f no_multipliers) h = HasShapeFactor s f h
+  HasShapeTerm s (product f rest) h = (h ≡ a_number) × HasShapeFactor s f a_number × AreMultipliers s rest
+
+  pub AreMultipliers : Site → MultiplierTrees → Type 0
+  AreMultipliers s no_multipliers = Unit {0}
+  AreMultipliers s (more_multipliers op f rest) = HasShapeFactor s f a_number × AreMultipliers s rest
+
+  pub HasShapeFactor : Site → FactorTree → Shape → Type 0
+  HasShapeFactor s (number n p) h = h ≡ a_number
+  HasShapeFactor s (literal x p) h = h ≡ a_number
+  HasShapeFactor s (negation f p) h = (h ≡ a_number) × HasShapeFactor s f a_number
+  HasShapeFactor s (paren e p) h = HasShape s e h
+  HasShapeFactor s (used (desig x ss q) args p) h =
+      let v = spot_of s.env (find s.env x) in
+      IsUse s (meaning_of (find s.env x)) h (IsDeclared s v.spot v.t) (λ u. AreSelectors s v.t ss u) ss
+      (λ formals. AreArguments s formals args)
+      (λ f. IsFunction f h (IsGivenFirst s args) (IsLentFirst s args (Some condition)))
+
+  -- the first argument, as a number and as a variable
+  pub IsGivenFirst : Site → ActualTrees → Type 0
+  IsGivenFirst s no_actuals = ⊥
+  IsGivenFirst s (more_actuals a rest) = IsGiven s a a_number
+
+  pub IsLentFirst : Site → ActualTrees → Option TypeId → Type 0
+  IsLentFirst s no_actuals t = ⊥
+  IsLentFirst s (more_actuals a rest) t = IsLent s a t
+
+  pub IsGiven : Site → ActualTree → Shape → Type 0
+  IsGiven s (actual e) h = HasShape s e h
+  IsGiven s (actual_width e w) h = HasShape s e h
+
+  pub IsLent : Site → ActualTree → Option TypeId → Type 0
+  IsLent s (actual e) t = IsVariable s e t
+  IsLent s (actual_width e w) t = IsVariable s e t
+
+  pub IsVariable : Site → ExprTree → Option TypeId → Type 0
+  IsVariable s (plain (sum None (product (used (desig x ss q) no_actuals p) no_multipliers) no_summands) r) t =
+      let v = spot_of s.env (find s.env x) in IsDeclared s v.spot v.t × AreSelectors s v.t ss t
+  IsVariable s e t = ⊥
+
+  -- each argument fits its parameter, and there are as many
+  pub AreArguments : Site → List Formal → ActualTrees → Type 0
+  AreArguments s [] no_actuals = Unit {0}
+  AreArguments s (f ∷ formals) no_actuals = ⊥
+  AreArguments s [] (more_actuals a rest) = ⊥
+  AreArguments s (f ∷ formals) (more_actuals a rest) = IsPassed f (IsLent s a f.t) (λ h. IsGiven s a h) × AreArguments s formals rest
+
+  -- selectors that lead from something of one type to a part of another
+  pub AreSelectors : Site → Option TypeId → SelectorTrees → Option TypeId → Type 0
+  AreSelectors s t no_selectors u = t ≡ u
+  AreSelectors s t (more_selectors (index es p) ss) u = AreIndices s t es × AreSelectors s (type_behind (forms_of s) t es) ss u
+  AreSelectors s t (more_selectors (field x p) ss) u = IsField (forms_of s) t x × AreSelectors s (field_type (forms_of s) t x) ss u
+
+  pub AreIndices : Site → Option TypeId → ExprTrees → Type 0
+  AreIndices s t no_exprs = Unit {0}
+  AreIndices s t (more_exprs e es) = IsArray (forms_of s) t × HasShape s e a_number × AreIndices s (element_in (forms_of s) t) es
+
+-- a variable with its selectors, which lead to a part of this type
+abbrev pub IsPartOf : Site → TypedSpot → SelectorTrees → Option TypeId → Type 0
+IsPartOf s v ss t = IsDeclared s v.spot v.t × AreSelectors s v.t ss t
+
+abbrev pub IsDesig : Site → DesigTree → Option TypeId → Type 0
+IsDesig s (desig x ss p) t = IsPartOf s (spot_of s.env (find s.env x)) ss t

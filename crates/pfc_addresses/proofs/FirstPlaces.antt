@@ -7,7 +7,7 @@ use Rattle.pfc_semantics.specs.Programs as programs
 use Rattle.pfc_program.specs.Views.{block_view, blocks_view}
 use Rattle.pfc_program.specs.declared.tables.Tables.{Tables}
 use Rattle.pfc_program.specs.declared.blocks.Block.{Block}
-use Rattle.pfc_addresses.specs.Holding.{HoldFirsts}
+use Rattle.pfc_program.specs.Firsts.{HoldFirsts}
 
 -- ## Of the scopes of blocks and of modules
 

@@ -1,4 +1,3 @@
-pub mod FirstPlaces
 pub mod Holding
 pub mod Instructions
 pub mod Rows

@@ -2,13 +2,13 @@
 ghost use Rattle.std.specs.Prelude.{◌≡◌, ◌<◌, ◌^◌, length, map, IfOk};
 ghost use Rattle.pfc_types.specs.declared.heads.ModuleHead.{ModuleHead};
 ghost use Rattle.pfc_program.specs.declared.blocks.Block.{Block};
-ghost use Rattle.pfc_addresses.specs.Holding.{HoldFirsts, HoldCells};
+ghost use Rattle.pfc_program.specs.Firsts.{HoldFirsts};
+ghost use Rattle.pfc_addresses.specs.Holding.{HoldCells};
 ghost use Rattle.pfc_addresses.specs.Rows.{cells_from};
 
-use crate::index::Index;
 use crate::rows::{Row, cells};
 use pfc_base::Memory;
-use pfc_program::{Block, Program};
+use pfc_program::{Block, Index, Program};
 use pfc_types::{Meaning, Scopes, TypeTable};
 use std::alloc::Global;
 

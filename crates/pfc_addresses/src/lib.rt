@@ -7,7 +7,6 @@
 
 mod addresses;
 mod bodies;
-mod index;
 mod rows;
 mod sites;
 

@@ -14,7 +14,7 @@ ghost use Rattle.pfc_blocks.specs.Making.{IsOf, params_in, results_in};
 use pfc_base::Memory;
 use pfc_code::Instr;
 use pfc_operands::{Callees, most_operands};
-use pfc_program::{Block, Program, sub_with};
+use pfc_program::{Block, Lookups, Program};
 use pfc_tree::Tree;
 use pfc_types::{Meaning, Scopes, SubSort, TypeTable, cells_of};
 use std::alloc::Global;
@@ -32,10 +32,11 @@ fn process_with(scopes: &Scopes, i: u32) -> Option<u32>
 }
 
 /// How many parameters the block with the scope i has.
-fn formals_of(scopes: &Scopes, i: u32) -> usize
-    ensures { result ≡ operands.formals_of scopes.now i (layouts.sub_with scopes.now.subs i) }
+fn formals_of(lookups: &Lookups, i: u32) -> usize
+    ensures { result ≡ operands.formals_of lookups.now.scopes.now i (layouts.sub_with lookups.now.scopes.now.subs i) }
 {
-    match sub_with(scopes, i) {
+    let scopes = lookups.scopes;
+    match lookups.sub_with(i) {
         Some(n) => scopes.sub_formals(n).len(),
         None => process_formals(scopes, i),
     }
@@ -77,23 +78,23 @@ fn first_cells(types: &TypeTable, layout: &[Meaning], count: usize) -> Result<u3
 }
 
 /// How many cells the parameters of a block take.
-fn params(program: &Program, block: &Block) -> Result<u32, Memory>
+fn params(program: &Program, lookups: &Lookups, block: &Block) -> Result<u32, Memory>
+    requires { lookups.now.scopes.now ≡ program.now.tables.scopes.now }
     ensures { IfOk result (λ n. n ≡ operands.params_of (whole_view program.now) (block_view program.now.tables block.now)) }
 {
-    let tables = program.tables;
     first_cells(
-        tables.types,
+        program.tables.types,
         &block.layout,
-        formals_of(tables.scopes, block.scope),
+        formals_of(lookups, block.scope),
     )
 }
 
 /// How many cells the result of a block takes: 1 for a function, else 0.
-fn result_cells(scopes: &Scopes, i: u32) -> u32
-    ensures { result ≡ operands.result_of (layouts.sub_with scopes.now.subs i) }
+fn result_cells(lookups: &Lookups, i: u32) -> u32
+    ensures { result ≡ operands.result_of (layouts.sub_with lookups.now.scopes.now.subs i) }
 {
-    match sub_with(scopes, i) {
-        Some(n) => sort_cells(scopes.sub_sort(n)),
+    match lookups.sub_with(i) {
+        Some(n) => sort_cells(lookups.scopes.sub_sort(n)),
         None => 0,
     }
 }
@@ -109,23 +110,25 @@ fn sort_cells(sort: SubSort) -> u32
 }
 
 /// How many cells the parameters of each block take.
-fn all_params(alloc: Global, program: &Program) -> Result<Vec<u32>, Memory>
+fn all_params(alloc: Global, program: &Program, lookups: &Lookups) -> Result<Vec<u32>, Memory>
+    requires { lookups.now.scopes.now ≡ program.now.tables.scopes.now }
     ensures { IfOk result (λ ns. ns.items ≡ params_in program.now program.now.blocks.items) }
 {
     let mut all = Vec::new(alloc);
     for b in &program.blocks {
-        all.push(params(program, b)?)?;
+        all.push(params(program, lookups, b)?)?;
     }
     Ok(all)
 }
 
 /// How many cells the result of each block takes.
-fn all_results(alloc: Global, program: &Program) -> Result<Vec<u32>, Memory>
+fn all_results(alloc: Global, program: &Program, lookups: &Lookups) -> Result<Vec<u32>, Memory>
+    requires { lookups.now.scopes.now ≡ program.now.tables.scopes.now }
     ensures { IfOk result (λ ns. ns.items ≡ results_in program.now program.now.blocks.items) }
 {
     let mut all = Vec::new(alloc);
     for b in &program.blocks {
-        all.push(result_cells(program.tables.scopes, b.scope))?;
+        all.push(result_cells(lookups, b.scope))?;
     }
     Ok(all)
 }
@@ -135,8 +138,10 @@ fn all_results(alloc: Global, program: &Program) -> Result<Vec<u32>, Memory>
 pub struct Called<'t, 'p> {
     pub program: &'p Program<'t>,
     pub tree: &'p Tree,
+    lookups: Lookups<'t>,
     params: Vec<u32>,
     results: Vec<u32>,
+    ghost looked_up: { lookups.scopes.now ≡ program.now.tables.scopes.now },
     ghost fits: { AreCallees (program_in tree.now program.now.tables.types.now program.now.tables.scopes.now) params.items results.items },
 }
 
@@ -158,15 +163,17 @@ impl<'t, 'p> Called<'t, 'p> {
         ensures program { IfOk result (λ c. c.program.now ≡ program.now) }
         ensures tree { IfOk result (λ c. c.tree.now ≡ tree.now) }
     {
+        let lookups = Lookups::new(alloc, program.tables.scopes)?;
         let main = &program.main;
-        if params(program, main)? != 0 || result_cells(program.tables.scopes, main.scope) != 0 {
+        if params(program, &lookups, main)? != 0 || result_cells(&lookups, main.scope) != 0 {
             return Err(Memory);
         }
-        let params = all_params(alloc, program)?;
-        let results = all_results(alloc, program)?;
+        let params = all_params(alloc, program, &lookups)?;
+        let results = all_results(alloc, program, &lookups)?;
         Ok(Called {
             program,
             tree,
+            lookups,
             params,
             results,
         })
@@ -176,7 +183,7 @@ impl<'t, 'p> Called<'t, 'p> {
     pub(crate) fn params(&self, block: &Block) -> Result<u32, Memory>
         ensures { IfOk result (λ n. n ≡ operands.params_of (whole_view self.now.program.now) (block_view self.now.program.now.tables block.now)) }
     {
-        params(self.program, block)
+        params(self.program, &self.lookups, block)
     }
 
     /// The most operands that code may hold. Its only refusal is a number of more than 32 bits.

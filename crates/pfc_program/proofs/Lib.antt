@@ -1,3 +1,4 @@
+pub mod Firsts
 pub mod Held
 pub mod Laid
 pub mod Rows

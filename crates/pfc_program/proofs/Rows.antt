@@ -1,7 +1,9 @@
 -- The place of a name among those of its scope.
 use borrow.Author.Count.{below_more}
-use Rattle.std.proofs.Common.{◌≡◌, ℕ, ◌+◌, ◌<◌, ◌==◌, zero, suc, Bool, true, false, cond, Some, List, [], ◌∷◌, ◌++◌, length, get_or, take, drop, position, Option, sym, ap, subst, ◌∙◌, zero-add, arith}
+use Rattle.std.proofs.Common.{◌≡◌, ℕ, ◌+◌, ◌<◌, ◌==◌, zero, suc, Bool, true, false, cond, None, Some, List, [], ◌∷◌, ◌++◌, length, get_or, take, drop, position, Option, refl, sym, ap, subst, ◌∙◌, zero-add, arith}
+use Rattle.std.specs.Prelude.{unwrap_or, if◌then◌else◌}
 use Rattle.std.specs.List.{position_from}
+use Rattle.std.specs.Option.{option_or}
 use Rattle.std.proofs.lemmas.List.{length-append, drop_more, get_or_push, get_or_append_left}
 use Rattle.pfc_tree.specs.Symbols.{Text}
 use Rattle.pfc_types.specs.Scopes.{Names, scope_at}
@@ -10,6 +12,7 @@ use Rattle.pfc_types.specs.declared.scope.Meaning.{Meaning}
 use Rattle.pfc_types.specs.declared.scope.Meaning.TheVariants.{Faulty}
 use Rattle.pfc_types.specs.declared.heads.SubHead.{SubHead}
 use Rattle.pfc_semantics.specs.Layouts.{main_layout, laid_as, laid_names, behind_result, sub_with, before_scope, before_module, is_module, variable_place}
+use Rattle.pfc_program.specs.Firsts.{noted_module}
 use Rattle.pfc_program.specs.Laid.{one_laid}
 use Rattle.pfc_program.specs.Places.{main_places, block_places}
 use Rattle.pfc_program.proofs.Laid.{laid_front}
@@ -116,3 +119,26 @@ before_more b n names k m is within other =
     ap (before_module b n) (drop_more names k none within)
     ∙ ap (λ x. cond (is_module n x) 0 (length (laid_as b x) + before_module b n (drop (k + 1) names))) (sym (is none))
     ∙ ap (λ t. cond t 0 (length (laid_as b m) + before_module b n (drop (k + 1) names))) other
+
+-- what is noted first stays
+kept : (old : Option ℕ) (count other : ℕ) → unwrap_or (option_or old (Some count)) other ≡ unwrap_or old count
+kept None count other = refl
+kept (Some c) count other = refl
+
+-- the counts behind a name, before which `count` variables stand
+pub count_noted :
+    (b : Blocks) (n : ℕ) (names : Names) (k : ℕ) (m : Meaning) (count all whole : ℕ) (old : Option ℕ)
+    → ((d : Text × Meaning) → m ≡ (get_or names k d).1) → k < length names → all ≡ count + length (laid_as b m)
+    → unwrap_or old (count + before_module b n (drop k names)) ≡ whole
+    → unwrap_or (noted_module m count n old) (all + before_module b n (drop (k + 1) names)) ≡ whole
+count_noted b n names k m count all whole old is within sum before = by (is_module n m) refl
+  where
+    by : (t : Bool) → is_module n m ≡ t → unwrap_or (if t then option_or old (Some count) else old) (all + before_module b n (drop (k + 1) names)) ≡ whole
+    by true here =
+        let none = before_here b n names k m is within here in
+        let same : count ≡ count + before_module b n (drop k names) = omega (arith, none) in
+        kept old count (all + before_module b n (drop (k + 1) names)) ∙ ap (λ (c : ℕ). unwrap_or old c) same ∙ before
+    by false other =
+        let more = before_more b n names k m is within other in
+        let same : all + before_module b n (drop (k + 1) names) ≡ count + before_module b n (drop k names) = omega (arith, more, sum) in
+        ap (λ (c : ℕ). unwrap_or old c) same ∙ before

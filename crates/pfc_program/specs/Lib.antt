@@ -1,3 +1,5 @@
+pub mod Firsts
+pub mod FirstPlaces
 pub mod Held
 pub mod InView
 pub mod Laid

@@ -6,8 +6,10 @@
 
 mod blocks;
 mod counts;
+mod index;
 mod inits;
 mod layouts;
+mod lookups;
 mod modules;
 mod names;
 mod phrases;
@@ -22,7 +24,9 @@ pub use counts::{
     behind_accept, behind_alt, behind_alts, behind_arms, behind_body, behind_comm, behind_stmt,
     behind_stmts,
 };
+pub use index::Index;
 pub use layouts::sub_with;
+pub use lookups::Lookups;
 pub use modules::module_number;
 pub use names::{Level, Names, find};
 pub use phrases::{are_labels, constant_value, is_label, names_any};

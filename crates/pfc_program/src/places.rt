@@ -6,7 +6,8 @@ ghost use Rattle.pfc_semantics.specs.Layouts as layouts;
 ghost use Rattle.pfc_program.specs.Laid.{one_laid};
 ghost use Rattle.pfc_program.specs.Places.{main_places, block_places, HoldPlaces, HoldResults};
 
-use crate::layouts::{is_laid, sub_with};
+use crate::layouts::is_laid;
+use crate::lookups::Lookups;
 use pfc_base::Memory;
 use pfc_rules::passing::names_in;
 use pfc_types::{Meaning, Scopes, SubSort};
@@ -48,12 +49,12 @@ pub(crate) struct Places {
 
 impl Places {
     /// The places in the layouts of a program.
-    pub fn new(alloc: Global, scopes: &Scopes) -> Result<Places, Memory>
-        ensures rows { IfOk result (λ p. HoldPlaces scopes.now p.rows.items) }
-        ensures results { IfOk result (λ p. HoldResults scopes.now p.results.items) }
+    pub fn new(alloc: Global, lookups: &Lookups) -> Result<Places, Memory>
+        ensures rows { IfOk result (λ p. HoldPlaces lookups.now.scopes.now p.rows.items) }
+        ensures results { IfOk result (λ p. HoldResults lookups.now.scopes.now p.results.items) }
     {
-        let rows = rows(alloc, scopes)?;
-        let results = results(alloc, scopes)?;
+        let rows = rows(alloc, lookups)?;
+        let results = results(alloc, lookups.scopes)?;
         Ok(Places { rows, results })
     }
 
@@ -79,25 +80,25 @@ impl Places {
 }
 
 /// The rows of all scopes.
-fn rows(alloc: Global, scopes: &Scopes) -> Result<Vec<Row>, Memory>
-    ensures { IfOk result (λ rows. HoldPlaces scopes.now rows.items) }
+fn rows(alloc: Global, lookups: &Lookups) -> Result<Vec<Row>, Memory>
+    ensures { IfOk result (λ rows. HoldPlaces lookups.now.scopes.now rows.items) }
 {
     let mut rows = Vec::new(alloc);
-    for i in 0..scopes.len() {
-        rows.push(scope_row(alloc, scopes, i)?)?;
+    for i in 0..lookups.scopes.len() {
+        rows.push(scope_row(alloc, lookups, i)?)?;
     }
     Ok(rows)
 }
 
 /// The row of the scope i.
-fn scope_row(alloc: Global, scopes: &Scopes, i: u32) -> Result<Row, Memory>
-    ensures { IfOk result (λ row. (k : ℕ) → k < length (scope_at scopes.now.scopes i) → get_or row k 0 ≡ layouts.variable_place scopes.now i k) }
+fn scope_row(alloc: Global, lookups: &Lookups, i: u32) -> Result<Row, Memory>
+    ensures { IfOk result (λ row. (k : ℕ) → k < length (scope_at lookups.now.scopes.now.scopes i) → get_or row k 0 ≡ layouts.variable_place lookups.now.scopes.now i k) }
 {
     if i == 0 {
-        let places = main_row(alloc, scopes)?;
+        let places = main_row(alloc, lookups.scopes)?;
         return Ok(Row { places });
     }
-    let places = block_row(alloc, scopes, i)?;
+    let places = block_row(alloc, lookups, i)?;
     Ok(Row { places })
 }
 
@@ -116,7 +117,7 @@ fn results(alloc: Global, scopes: &Scopes) -> Result<Vec<u32>, Memory>
 }
 
 /// The sum of two numbers. Its only refusal is a number of more than 32 bits.
-fn added(a: u32, b: u32) -> Result<u32, Memory>
+pub(crate) fn added(a: u32, b: u32) -> Result<u32, Memory>
     ensures { IfOk result (λ n. n ≡ a + b) }
 {
     match a.checked_add(b) {
@@ -144,7 +145,7 @@ fn scope_size(scopes: &Scopes, i: u32) -> Result<u32, Memory>
 }
 
 /// How many variables a name of the program's scope brings into main's block: itself, or those of a module.
-fn main_size(scopes: &Scopes, m: Meaning) -> Result<u32, Memory>
+pub(crate) fn main_size(scopes: &Scopes, m: Meaning) -> Result<u32, Memory>
     ensures { IfOk result (λ n. n ≡ length (layouts.laid_as scopes.now m)) }
 {
     match m {
@@ -164,53 +165,6 @@ fn main_row(alloc: Global, scopes: &Scopes) -> Result<Vec<u32>, Memory>
         n = added(n, main_size(scopes, scopes.at(0).meaning_at(k))?)?;
     }
     Ok(row)
-}
-
-/// The number of the module whose scope is i.
-fn module_with(scopes: &Scopes, i: u32) -> Option<u32>
-    ensures { result ≡ position (λ m. m.scope == i) scopes.now.modules }
-{
-    for n in 0..scopes.modules() {
-        if scopes.module(n).scope == i {
-            return Some(n);
-        }
-    }
-    None
-}
-
-/// How many variables of main's block stand before the n-th module.
-fn before_module(scopes: &Scopes, n: u32) -> Result<u32, Memory>
-    ensures { IfOk result (λ count. count ≡ layouts.before_module scopes.now n (scope_at scopes.now.scopes 0)) }
-{
-    let mut count = 0;
-    for k in 0..names_in(scopes, 0) {
-        let m = scopes.at(0).meaning_at(k);
-        if is_module(n, m) {
-            return Ok(count);
-        }
-        count = added(count, main_size(scopes, m)?)?;
-    }
-    Ok(count)
-}
-
-/// Whether a name stands for the n-th module.
-fn is_module(n: u32, m: Meaning) -> bool
-    ensures { result ≡ layouts.is_module n m }
-{
-    match m {
-        Meaning::Module(k) => k == n,
-        _ => false,
-    }
-}
-
-/// How many variables of its block stand before the first of the scope i, which is not the program's.
-fn before_scope(scopes: &Scopes, i: u32) -> Result<u32, Memory>
-    ensures { IfOk result (λ count. count ≡ layouts.before_scope scopes.now (position (λ m. m.scope == i) scopes.now.modules)) }
-{
-    match module_with(scopes, i) {
-        Some(n) => before_module(scopes, n),
-        None => Ok(0),
-    }
 }
 
 /// How many variables a function's result is.
@@ -236,12 +190,14 @@ fn behind_result(scopes: &Scopes, sub: Option<u32>, k: u32) -> u32
 }
 
 /// The places of the names of the scope i, which is not the program's.
-fn block_row(alloc: Global, scopes: &Scopes, i: u32) -> Result<Vec<u32>, Memory>
-    ensures { IfOk result (λ row. row.items ≡ block_places (layouts.sub_with scopes.now.subs i) (layouts.before_scope scopes.now (position (λ m. m.scope == i) scopes.now.modules)) 0 (scope_at scopes.now.scopes i)) }
+fn block_row(alloc: Global, lookups: &Lookups, i: u32) -> Result<Vec<u32>, Memory>
+    ensures { IfOk result (λ row. row.items ≡ block_places (layouts.sub_with lookups.now.scopes.now.subs i)
+        (layouts.before_scope lookups.now.scopes.now (position (λ m. m.scope == i) lookups.now.scopes.now.modules)) 0 (scope_at lookups.now.scopes.now.scopes i)) }
 {
+    let scopes = lookups.scopes;
     let mut row = Vec::new(alloc);
-    let mut n = before_scope(scopes, i)?;
-    let sub = sub_with(scopes, i);
+    let mut n = lookups.before_scope(i);
+    let sub = lookups.sub_with(i);
     for k in 0..names_in(scopes, i) {
         row.push(added(n, behind_result(scopes, sub, k))?)?;
         n = added(n, size(scopes.at(i).meaning_at(k)))?;

@@ -3,6 +3,7 @@ ghost use Rattle.pfc_program.specs.Places.{HoldPlaces, HoldResults};
 
 use crate::counts::behind_parts;
 use crate::inits::{ends_of_resources, inits, main_block};
+use crate::lookups::Lookups;
 use crate::places::Places;
 use crate::walk::{Home, parts};
 use crate::{Block, Tables};
@@ -60,7 +61,7 @@ impl<'a> Program<'a> {
         let modules = inits(alloc, all, tables)?;
         let main = main_block(&tree.body, behind_parts(all, 1)?, home)?;
         let resource_ends = ends_of_resources(alloc, all)?;
-        let places = Places::new(alloc, tables.scopes)?;
+        let places = Places::new(alloc, &Lookups::new(alloc, tables.scopes)?)?;
         Ok(Program {
             tables,
             blocks,

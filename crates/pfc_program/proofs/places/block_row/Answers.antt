@@ -11,7 +11,7 @@ use Rattle.pfc_program.proofs.places.block_row.Goals as goal
 
 pub loop-k-preserved : goal.loop-k-preserved
 loop-k-preserved c =
-    let b = c.args.scopes.now in
+    let b = c.args.lookups.now.scopes.now in
     let sub = sub_with b.subs c.args.i in
     let names = scope_at b.scopes c.args.i in
     let k = c.loop-k.k in
@@ -19,10 +19,10 @@ loop-k-preserved c =
     let m = c.meaning_at.result in
     let place = c.in_ok-added.field-0 in
     let before = c.loop-k.row.items in
-    let rest = block_places sub c.in_ok-n-2.n (k + 1) (drop (k + 1) names) in
+    let rest = block_places sub c.in_ok-n.n (k + 1) (drop (k + 1) names) in
     let is : (d : Text × Meaning) → m ≡ (get_or names k d).1 = λ d. c.meaning_at.ensures d ∙ ap (λ l. (get_or l k d).1) c.at.ensures in
     let here : n + behind_result sub k ≡ place = sym (c.in_ok-added.ensures ∙ ap (λ j. n + j) (c.behind_result.ensures ∙ ap (λ o. behind_result o k) c.sub_with-sub.ensures)) in
-    let next : n + length (one_laid m) ≡ c.in_ok-n-2.n = ap (λ j. n + j) (sym c.size.ensures) ∙ sym c.in_ok-n-2.ensures in
+    let next : n + length (one_laid m) ≡ c.in_ok-n.n = ap (λ j. n + j) (sym c.size.ensures) ∙ sym c.in_ok-n.ensures in
     let step =
     block_places_next sub n k names k m is (omega arith)
     ∙ ap (λ j. j ∷ block_places sub (n + length (one_laid m)) (k + 1) (drop (k + 1) names)) here

@@ -1,20 +1,20 @@
 //! Where a number stands first in a list.
 ghost use Rattle.std.specs.Prelude.{◌≡◌, ◌+◌, ◌<◌, ◌==◌, ℕ, None, length, get_or, IfOk, OnOk};
 ghost use Rattle.std.specs.List.{position_from};
-ghost use Rattle.pfc_addresses.specs.FirstPlaces.{noted};
+ghost use Rattle.pfc_program.specs.FirstPlaces.{noted};
 
 use pfc_base::Memory;
 use std::alloc::Global;
 
 /// The first place of each number in a list of numbers, by the number.
 #[derive(Drop)]
-pub(crate) struct Index {
+pub struct Index {
     firsts: Vec<Option<u32>>,
 }
 
 impl Index {
     /// The places in a list. More than 2^32 numbers are want of memory.
-    pub(crate) fn new(alloc: Global, keys: &[u32]) -> Result<Index, Memory>
+    pub fn new(alloc: Global, keys: &[u32]) -> Result<Index, Memory>
         ensures { IfOk result (λ x. (i : ℕ) → get_or x.firsts.items i None ≡ position_from (λ k. k == i) 0 keys.now) }
     {
         let mut firsts = Vec::new(alloc);
@@ -27,7 +27,7 @@ impl Index {
     }
 
     /// The first place of a number, None exactly where it does not stand in the list.
-    pub(crate) fn at(&self, i: u32) -> Option<u32>
+    pub fn at(&self, i: u32) -> Option<u32>
         ensures { result ≡ get_or self.now.firsts.items i None }
     {
         match self.firsts.get(i as usize) {
@@ -38,7 +38,7 @@ impl Index {
 }
 
 /// One more. Its only refusal is a number of more than 32 bits.
-pub(crate) fn further(n: u32) -> Result<u32, Memory>
+fn further(n: u32) -> Result<u32, Memory>
     ensures { IfOk result (λ m. m ≡ n + 1) }
 {
     match n.checked_add(1) {
@@ -59,7 +59,7 @@ fn reach(firsts: &mut Vec<Option<u32>>, key: u32) -> Result<(), Memory>
 }
 
 /// Notes that a number stands at the place n, behind all others.
-fn note(firsts: &mut Vec<Option<u32>>, key: u32, n: u32) -> Result<(), Memory>
+pub(crate) fn note(firsts: &mut Vec<Option<u32>>, key: u32, n: u32) -> Result<(), Memory>
     ensures { OnOk result ((i : ℕ) → get_or firsts.new.items i None ≡ noted key n i (get_or firsts.old.items i None)) }
 {
     reach(firsts, key)?;

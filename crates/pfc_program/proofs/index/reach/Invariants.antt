@@ -1,6 +1,6 @@
 -- What was known stays known, and there is room for what is passed.
 use Rattle.std.proofs.Common.{◌≡◌, ℕ, length, get_or, None}
-use Rattle.pfc_addresses.proofs.index.reach.Given as goal
+use Rattle.pfc_program.proofs.index.reach.Given as goal
 
 abbrev pub invariant-loop-k : goal.invariant-loop-k
 invariant-loop-k l =

@@ -10,9 +10,9 @@ invariant_of-result c =
     let no_params : c.in_ok-params.field-0 ≡ 0 = omega (arith, c.if-branch-ne0.false) in
     let no_result : c.result_cells.result ≡ 0 = omega (arith, c.if-result_cells-ne0.false) in
     let main_result =
-        sym (ap (λ (b : Blocks). result_of (sub_with b.subs c.args.program.now.main.scope)) c.in_ok-lookups.ensures)
-        ∙ sym c.result_cells.ensures
-        ∙ no_result
+    sym (ap (λ (b : Blocks). result_of (sub_with b.subs c.args.program.now.main.scope)) c.in_ok-lookups.ensures)
+    ∙ sym c.result_cells.ensures
+    ∙ no_result
     in
     record {
       looked_up = c.in_ok-lookups.ensures;

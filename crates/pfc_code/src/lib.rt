@@ -4,11 +4,13 @@
 //! program, its name and its arguments. It runs nothing, and knows no tree and no process.
 #![tactic(auto)]
 
+mod counts;
 mod images;
 mod instructions;
 mod pages;
 mod printing;
 
+pub use counts::{Count, Operands};
 pub use images::{Block, Image, Object, ProcessInfo};
 pub use instructions::Instr;
 pub use pages::Page;

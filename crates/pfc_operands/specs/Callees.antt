@@ -1,5 +1,5 @@
 -- What is known of the blocks that are called.
-use Rattle.std.specs.Prelude.{◌≡◌, ◌≤◌, ℕ, List, get_or}
+use Rattle.std.specs.Prelude.{◌≡◌, ℕ, List, get_or}
 use Rattle.pfc_tree.specs.declared.tree.Tree.{Tree}
 use Rattle.pfc_tree.specs.views.Parts.{tree_view}
 use Rattle.pfc_types.specs.Blocks.{Blocks}

@@ -1,8 +1,11 @@
 -- An instruction that a table does not name has the effect of the next table.
-use Rattle.std.proofs.Common.{◌≡◌, ℕ, ℤ, List, refl}
+use Rattle.std.proofs.Common.{◌≡◌, ◌≤◌, ℕ, ℤ, List, refl, arith}
 use Rattle.pfc_code.specs.declared.images.Block.{Block}
 use Rattle.pfc_code.specs.declared.instructions.Instr.{Instr}
 use Rattle.pfc_code.specs.declared.instructions.Instr.TheVariants.{LIT, ADDR, REF, OBJ, IDX, FLD, LOAD, STORE, FORW, CALL, RET, RETF}
+use Rattle.pfc_code.specs.declared.counts.Count.{Count}
+use Rattle.pfc_code.specs.declared.counts.Count.TheVariants.{Exactly, OfParameters, OneAndParameters, OfResult}
+use Rattle.pfc_code.specs.Operands.{counted, told}
 use Rattle.pfc_stacks.specs.Effects.{own_effect, jumping, effect, within}
 use Rattle.pfc_stacks.specs.Stacks.{Stacks, stack_of, operands_of}
 
@@ -38,3 +41,10 @@ effect-default blocks (CALL k l) p stacks none = absurd (none.call k l refl)
 effect-default blocks RET p stacks none = absurd (none.ret refl)
 effect-default blocks RETF p stacks none = absurd (none.retf refl)
 effect-default blocks i p stacks none = refl
+
+-- what an instruction tells itself is the least that it may read
+pub told_least : (params : ℕ → ℕ) (c : Count) → told c ≤ counted params (λ k. 0) c
+told_least params (Exactly n) = omega arith
+told_least params (OfParameters b) = omega arith
+told_least params (OneAndParameters b) = omega arith
+told_least params (OfResult b) = omega arith

@@ -1,3 +1,4 @@
+pub mod Counted
 pub mod Defaults
 pub mod Kept
 pub mod Lists

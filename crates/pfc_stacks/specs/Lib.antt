@@ -1,6 +1,7 @@
 pub mod Activations
 pub mod Answers
 pub mod Conditions
+pub mod Counts
 pub mod Effects
 pub mod Marks
 pub mod Operands

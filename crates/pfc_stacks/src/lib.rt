@@ -20,7 +20,8 @@ mod stacks;
 
 pub use instructed::{CallFault, Instructed};
 pub use laws::{
-    a_call_marks_its_activation, a_replacement_keeps_its_own_cells, a_return_undoes_its_call,
+    a_call_marks_its_activation, a_function_leaves_its_result, a_replacement_keeps_its_own_cells,
+    a_return_undoes_its_call, an_instruction_takes_and_leaves_its_operands,
 };
 pub use marks::Mark;
 pub use refs::Ref;

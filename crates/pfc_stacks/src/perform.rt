@@ -1,7 +1,8 @@
 //! The instructions that need no more than the address and the operands of their process.
 ghost use Rattle.std.specs.Prelude.{◌≡◌, ◌≤◌, ◌<◌, ◌+◌, ◌-◌, ◌^◌, true, length};
+ghost use Rattle.pfc_code.specs.Operands as table;
 ghost use Rattle.pfc_stacks.specs.Answers.{own_effect_by, Changes};
-ghost use Rattle.pfc_stacks.specs.Conditions.{needs, adds, Reckons};
+ghost use Rattle.pfc_stacks.specs.Conditions.{adds, Reckons};
 ghost use Rattle.pfc_stacks.specs.Refs.{IsAddress};
 ghost use Rattle.pfc_stacks.specs.Effects.{own_effect, jumping, of_one, of_two, is_within, element_word, element_at};
 
@@ -17,7 +18,7 @@ use pfc_values::{
 impl ProcessStack {
     /// Operators of two operands, the right one on top.
     fn of_two(&mut self, i: Instr) -> Performed
-        requires held { needs i ≤ length self.old.operands }
+        requires held { table.told (table.operands_of i).reads ≤ length self.old.operands }
         requires next { self.old.at + 1 < 2 ^ 32 }
         ensures effect { of_two i self.old.at self.old.operands ≡ own_effect_by result self.new.at self.new.operands }
         ensures changes { Changes result self.old self.new }
@@ -44,7 +45,7 @@ impl ProcessStack {
 
     /// Operators and functions of one operand.
     fn of_one(&mut self, i: Instr) -> Performed
-        requires held { needs i ≤ length self.old.operands }
+        requires held { table.told (table.operands_of i).reads ≤ length self.old.operands }
         requires next { self.old.at + 1 < 2 ^ 32 }
         ensures effect { of_one i self.old.at self.old.operands ≡ own_effect_by result self.new.at self.new.operands }
         ensures changes { Changes result self.old self.new }
@@ -65,7 +66,7 @@ impl ProcessStack {
 
     /// Jumps and loops.
     fn jumping(&mut self, i: Instr) -> Performed
-        requires held { needs i ≤ length self.old.operands }
+        requires held { table.told (table.operands_of i).reads ≤ length self.old.operands }
         requires next { self.old.at + 1 < 2 ^ 32 }
         ensures effect { jumping i self.old.at self.old.operands ≡ own_effect_by result self.new.at self.new.operands }
         ensures changes { Changes result self.old self.new }
@@ -103,7 +104,7 @@ impl ProcessStack {
     /// The instructions that need no more than the address and the operands of their process: numbers, the address of an
     /// element or of a field, and all of the above. Any other is left undone.
     pub(crate) fn perform_own(&mut self, i: Instr) -> Performed
-        requires held { needs i ≤ length self.old.operands }
+        requires held { table.told (table.operands_of i).reads ≤ length self.old.operands }
         requires room { adds i ≤ self.old.room - length self.old.operands }
         requires reckons { Reckons i self.old.operands }
         requires next { self.old.at + 1 < 2 ^ 32 }

@@ -1,8 +1,9 @@
 //! The stacks of all processes.
 ghost use Rattle.std.specs.Prelude.{◌≡◌, ◌≤◌, ◌<◌, ◌+◌, ◌-◌, ◌^◌, ℕ, ℤ, pos, max, Some, ◌∷◌, ◌++◌, length, take, drop, set, get_or, reverse, IfOk, IfSome, Option};
 ghost use Rattle.pfc_code.specs.Images.{plain_image};
+ghost use Rattle.pfc_code.specs.Operands as table;
 ghost use Rattle.pfc_stacks.specs.Answers.{IsDone};
-ghost use Rattle.pfc_stacks.specs.Conditions.{needs, adds, Reckons, AreLive};
+ghost use Rattle.pfc_stacks.specs.Conditions.{adds, Reckons, AreLive};
 ghost use Rattle.pfc_stacks.specs.Effects.{own_effect, within, passed};
 ghost use Rattle.pfc_stacks.specs.Stacks.{Stack, stack_of, cells_of, operand, operands_of, written, first_in_view, own_number, block_place};
 ghost use Rattle.pfc_stacks.specs.Starts.{begun, guard_room, is_guarded, main_entered, start_stacks};
@@ -262,7 +263,7 @@ impl Stacks {
     /// An instruction that needs no more than the address and the operands of its process. Any other is left undone.
     pub(crate) fn perform_own(&mut self, p: u32, i: Instr) -> Performed
         requires process { p < length self.old }
-        requires held { needs i ≤ length (stack_of self.old p).operands }
+        requires held { table.told (table.operands_of i).reads ≤ length (stack_of self.old p).operands }
         requires room { adds i ≤ (stack_of self.old p).room - length (stack_of self.old p).operands }
         requires reckons { Reckons i (stack_of self.old p).operands }
         requires next { (stack_of self.old p).at + 1 < 2 ^ 32 }

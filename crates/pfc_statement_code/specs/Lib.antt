@@ -1,0 +1,4 @@
+pub mod Arms
+pub mod Branches
+pub mod Forms
+pub mod Leading

@@ -1,0 +1,6 @@
+pub mod Alternatives
+pub mod Keeping
+pub mod Kept
+pub mod KeptCalls
+pub mod Nodes
+pub mod Quiet

@@ -1,0 +1,195 @@
+-- Instructions that name no cell, no module and no entry.
+use Rattle.std.proofs.Common.{◌≡◌, ℕ, ◌<◌, nat_lt, Bool, true, false, arith}
+use Rattle.std.proofs.lemmas.Bool.Decides.{nat_tests}
+use Rattle.pfc_types.specs.Blocks.{State, Blocks}
+use Rattle.pfc_code.specs.declared.instructions.Instr.{Instr}
+use Rattle.pfc_code.specs.declared.instructions.Instr.TheVariants as instr
+use Rattle.pfc_code.specs.Images.{PlainImage}
+use Rattle.pfc_image_numbers.specs.Numbers.{AreThere, AcceptsWithin}
+
+-- Whether an instruction names no cell, no module and no entry, and has each of its marks as the machine knows it.
+abbrev pub is_plain : Instr → Bool
+is_plain (instr.ADDR l d) = false
+is_plain (instr.REF l d) = false
+is_plain (instr.SUCC k) = nat_lt k 3
+is_plain (instr.PRED k) = nat_lt k 3
+is_plain (instr.FORB d a) = nat_lt d 2
+is_plain (instr.FORT d a) = nat_lt d 2
+is_plain (instr.MCALL m b) = false
+is_plain (instr.RCALL g b) = false
+is_plain (instr.GRD g) = false
+is_plain (instr.SCAN g) = false
+is_plain (instr.REQ g b) = false
+is_plain (instr.ECALL e z) = false
+is_plain (instr.ACC e d z) = false
+is_plain (instr.ARMA e d z a) = false
+is_plain (instr.SEL p a) = nat_lt p 2
+is_plain (instr.WRI w) = nat_lt w 2
+is_plain (instr.WRB w) = nat_lt w 2
+is_plain (instr.WRC w) = nat_lt w 2
+is_plain (instr.WRS s w) = nat_lt w 2
+is_plain i = true
+
+below : (n k : ℕ) → nat_lt n k ≡ true → n < k
+below n k h = grind (arith, nat_tests)
+
+pub plain_there : (image : PlainImage) (s : State) (i : Instr) → is_plain i ≡ true → AreThere image s 0 i
+plain_there image s (instr.LIT x0) h = (tt, tt, tt)
+plain_there image s (instr.ADDR x0 x1) h = absurd (cc)
+plain_there image s (instr.REF x0 x1) h = absurd (cc)
+plain_there image s (instr.IDX x0 x1 x2) h = (tt, tt, tt)
+plain_there image s (instr.FLD x0) h = (tt, tt, tt)
+plain_there image s (instr.LOAD x0) h = (tt, tt, tt)
+plain_there image s (instr.STORE x0) h = (tt, tt, tt)
+plain_there image s instr.OBJ h = (tt, tt, tt)
+plain_there image s instr.NEG h = (tt, tt, tt)
+plain_there image s instr.ADD h = (tt, tt, tt)
+plain_there image s instr.SUB h = (tt, tt, tt)
+plain_there image s instr.MUL h = (tt, tt, tt)
+plain_there image s instr.DIV h = (tt, tt, tt)
+plain_there image s instr.MOD h = (tt, tt, tt)
+plain_there image s instr.ABS h = (tt, tt, tt)
+plain_there image s instr.SQR h = (tt, tt, tt)
+plain_there image s instr.ODD h = (tt, tt, tt)
+plain_there image s instr.CHR h = (tt, tt, tt)
+plain_there image s (instr.SUCC x0) h = (tt, tt, below x0 3 h)
+plain_there image s (instr.PRED x0) h = (tt, tt, below x0 3 h)
+plain_there image s instr.NOT h = (tt, tt, tt)
+plain_there image s instr.AND h = (tt, tt, tt)
+plain_there image s instr.OR h = (tt, tt, tt)
+plain_there image s instr.EQ h = (tt, tt, tt)
+plain_there image s instr.NE h = (tt, tt, tt)
+plain_there image s instr.LT h = (tt, tt, tt)
+plain_there image s instr.LE h = (tt, tt, tt)
+plain_there image s instr.GT h = (tt, tt, tt)
+plain_there image s instr.GE h = (tt, tt, tt)
+plain_there image s (instr.JMP x0) h = (tt, tt, tt)
+plain_there image s (instr.JF x0) h = (tt, tt, tt)
+plain_there image s (instr.TURN x0) h = (tt, tt, tt)
+plain_there image s (instr.FORB x0 x1) h = (tt, tt, below x0 2 h)
+plain_there image s instr.FORW h = (tt, tt, tt)
+plain_there image s (instr.FORT x0 x1) h = (tt, tt, below x0 2 h)
+plain_there image s (instr.CEQ x0 x1) h = (tt, tt, tt)
+plain_there image s instr.CERR h = (tt, tt, tt)
+plain_there image s (instr.CALL x0 x1) h = (tt, tt, tt)
+plain_there image s instr.RET h = (tt, tt, tt)
+plain_there image s instr.RETF h = (tt, tt, tt)
+plain_there image s (instr.MCALL x0 x1) h = absurd (cc)
+plain_there image s (instr.RCALL x0 x1) h = absurd (cc)
+plain_there image s (instr.GRD x0) h = absurd (cc)
+plain_there image s (instr.SCAN x0) h = absurd (cc)
+plain_there image s (instr.REQ x0 x1) h = absurd (cc)
+plain_there image s (instr.NEW x0) h = (tt, tt, tt)
+plain_there image s instr.COEND h = (tt, tt, tt)
+plain_there image s instr.END h = (tt, tt, tt)
+plain_there image s instr.SINI h = (tt, tt, tt)
+plain_there image s instr.SWAIT h = (tt, tt, tt)
+plain_there image s instr.SSIG h = (tt, tt, tt)
+plain_there image s (instr.SEND x0) h = (tt, tt, tt)
+plain_there image s (instr.RECV x0) h = (tt, tt, tt)
+plain_there image s (instr.ECALL x0 x1) h = absurd (cc)
+plain_there image s (instr.ACC x0 x1 x2) h = absurd (cc)
+plain_there image s instr.EACC h = (tt, tt, tt)
+plain_there image s (instr.ARMS x0 x1) h = (tt, tt, tt)
+plain_there image s (instr.ARMR x0 x1) h = (tt, tt, tt)
+plain_there image s (instr.ARMA x0 x1 x2 x3) h = absurd (cc)
+plain_there image s (instr.ARMT x0) h = (tt, tt, tt)
+plain_there image s instr.ARMX h = (tt, tt, tt)
+plain_there image s (instr.SEL x0 x1) h = (tt, tt, below x0 2 h)
+plain_there image s instr.DELAY h = (tt, tt, tt)
+plain_there image s instr.RESUME h = (tt, tt, tt)
+plain_there image s instr.EMPTY h = (tt, tt, tt)
+plain_there image s instr.SLEEP h = (tt, tt, tt)
+plain_there image s instr.CLOCK h = (tt, tt, tt)
+plain_there image s instr.RAND h = (tt, tt, tt)
+plain_there image s (instr.WRI x0) h = (tt, tt, below x0 2 h)
+plain_there image s (instr.WRB x0) h = (tt, tt, below x0 2 h)
+plain_there image s (instr.WRC x0) h = (tt, tt, below x0 2 h)
+plain_there image s (instr.WRS x0 x1) h = (tt, tt, below x1 2 h)
+plain_there image s instr.WRNL h = (tt, tt, tt)
+plain_there image s instr.RDI h = (tt, tt, tt)
+plain_there image s instr.RDC h = (tt, tt, tt)
+plain_there image s instr.RDNL h = (tt, tt, tt)
+plain_there image s instr.EOF h = (tt, tt, tt)
+plain_there image s instr.EOLN h = (tt, tt, tt)
+
+-- nor takes parameters
+pub plain_takes : (b : Blocks) (scope cells : ℕ) (i : Instr) → is_plain i ≡ true → AcceptsWithin b scope cells 0 i
+plain_takes b scope cells (instr.LIT x0) h = tt
+plain_takes b scope cells (instr.ADDR x0 x1) h = absurd (cc)
+plain_takes b scope cells (instr.REF x0 x1) h = absurd (cc)
+plain_takes b scope cells (instr.IDX x0 x1 x2) h = tt
+plain_takes b scope cells (instr.FLD x0) h = tt
+plain_takes b scope cells (instr.LOAD x0) h = tt
+plain_takes b scope cells (instr.STORE x0) h = tt
+plain_takes b scope cells instr.OBJ h = tt
+plain_takes b scope cells instr.NEG h = tt
+plain_takes b scope cells instr.ADD h = tt
+plain_takes b scope cells instr.SUB h = tt
+plain_takes b scope cells instr.MUL h = tt
+plain_takes b scope cells instr.DIV h = tt
+plain_takes b scope cells instr.MOD h = tt
+plain_takes b scope cells instr.ABS h = tt
+plain_takes b scope cells instr.SQR h = tt
+plain_takes b scope cells instr.ODD h = tt
+plain_takes b scope cells instr.CHR h = tt
+plain_takes b scope cells (instr.SUCC x0) h = tt
+plain_takes b scope cells (instr.PRED x0) h = tt
+plain_takes b scope cells instr.NOT h = tt
+plain_takes b scope cells instr.AND h = tt
+plain_takes b scope cells instr.OR h = tt
+plain_takes b scope cells instr.EQ h = tt
+plain_takes b scope cells instr.NE h = tt
+plain_takes b scope cells instr.LT h = tt
+plain_takes b scope cells instr.LE h = tt
+plain_takes b scope cells instr.GT h = tt
+plain_takes b scope cells instr.GE h = tt
+plain_takes b scope cells (instr.JMP x0) h = tt
+plain_takes b scope cells (instr.JF x0) h = tt
+plain_takes b scope cells (instr.TURN x0) h = tt
+plain_takes b scope cells (instr.FORB x0 x1) h = tt
+plain_takes b scope cells instr.FORW h = tt
+plain_takes b scope cells (instr.FORT x0 x1) h = tt
+plain_takes b scope cells (instr.CEQ x0 x1) h = tt
+plain_takes b scope cells instr.CERR h = tt
+plain_takes b scope cells (instr.CALL x0 x1) h = tt
+plain_takes b scope cells instr.RET h = tt
+plain_takes b scope cells instr.RETF h = tt
+plain_takes b scope cells (instr.MCALL x0 x1) h = absurd (cc)
+plain_takes b scope cells (instr.RCALL x0 x1) h = absurd (cc)
+plain_takes b scope cells (instr.GRD x0) h = absurd (cc)
+plain_takes b scope cells (instr.SCAN x0) h = absurd (cc)
+plain_takes b scope cells (instr.REQ x0 x1) h = absurd (cc)
+plain_takes b scope cells (instr.NEW x0) h = tt
+plain_takes b scope cells instr.COEND h = tt
+plain_takes b scope cells instr.END h = tt
+plain_takes b scope cells instr.SINI h = tt
+plain_takes b scope cells instr.SWAIT h = tt
+plain_takes b scope cells instr.SSIG h = tt
+plain_takes b scope cells (instr.SEND x0) h = tt
+plain_takes b scope cells (instr.RECV x0) h = tt
+plain_takes b scope cells (instr.ECALL x0 x1) h = absurd (cc)
+plain_takes b scope cells (instr.ACC x0 x1 x2) h = absurd (cc)
+plain_takes b scope cells instr.EACC h = tt
+plain_takes b scope cells (instr.ARMS x0 x1) h = tt
+plain_takes b scope cells (instr.ARMR x0 x1) h = tt
+plain_takes b scope cells (instr.ARMA x0 x1 x2 x3) h = absurd (cc)
+plain_takes b scope cells (instr.ARMT x0) h = tt
+plain_takes b scope cells instr.ARMX h = tt
+plain_takes b scope cells (instr.SEL x0 x1) h = tt
+plain_takes b scope cells instr.DELAY h = tt
+plain_takes b scope cells instr.RESUME h = tt
+plain_takes b scope cells instr.EMPTY h = tt
+plain_takes b scope cells instr.SLEEP h = tt
+plain_takes b scope cells instr.CLOCK h = tt
+plain_takes b scope cells instr.RAND h = tt
+plain_takes b scope cells (instr.WRI x0) h = tt
+plain_takes b scope cells (instr.WRB x0) h = tt
+plain_takes b scope cells (instr.WRC x0) h = tt
+plain_takes b scope cells (instr.WRS x0 x1) h = tt
+plain_takes b scope cells instr.WRNL h = tt
+plain_takes b scope cells instr.RDI h = tt
+plain_takes b scope cells instr.RDC h = tt
+plain_takes b scope cells instr.RDNL h = tt
+plain_takes b scope cells instr.EOF h = tt
+plain_takes b scope cells instr.EOLN h = tt

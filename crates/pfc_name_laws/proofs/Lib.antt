@@ -1,0 +1,5 @@
+pub mod Numbers
+pub mod Unused
+pub mod Steps
+pub mod Parts
+pub mod Processes

@@ -509,18 +509,18 @@ module _ (g : Setting) (b : Block) (names : List Level) (around : Around) (check
 
   -- ## Expressions
 
-  add_held : (op : AddOp) (held : ℕ) → held_behind g.program (suc (suc held)) (add_instr op) ≡ suc held
+  pub add_held : (op : AddOp) (held : ℕ) → held_behind g.program (suc (suc held)) (add_instr op) ≡ suc held
   add_held Add held = omega arith
   add_held Sub held = omega arith
   add_held Or held = omega arith
 
-  multiply_held : (op : MulOp) (held : ℕ) → held_behind g.program (suc (suc held)) (multiply_instr op) ≡ suc held
+  pub multiply_held : (op : MulOp) (held : ℕ) → held_behind g.program (suc (suc held)) (multiply_instr op) ≡ suc held
   multiply_held Mul held = omega arith
   multiply_held Div held = omega arith
   multiply_held Mod held = omega arith
   multiply_held And held = omega arith
 
-  index_held : (form : Option TypeForm) (held : ℕ) → held_behind g.program (suc (suc held)) (index_instr forms form) ≡ suc held
+  pub index_held : (form : Option TypeForm) (held : ℕ) → held_behind g.program (suc (suc held)) (index_instr forms form) ≡ suc held
   index_held None held = omega arith
   index_held (Some (Channel t)) held = omega arith
   index_held (Some (Array over low high element)) held = omega arith

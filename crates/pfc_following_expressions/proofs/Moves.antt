@@ -10,7 +10,7 @@ use Rattle.pfc_tree.specs.declared.tree.AddOp.TheVariants.{Add, Sub, Or}
 use Rattle.pfc_tree.specs.declared.tree.MulOp.{MulOp}
 use Rattle.pfc_tree.specs.declared.tree.MulOp.TheVariants.{Mul, Div, Mod, And}
 use Rattle.pfc_values.specs.Numbers.{Outcome, is_true}
-use Rattle.pfc_machine.specs.Fits.{needs, Reckons}
+use Rattle.pfc_machine.specs.Fits.{Reckons}
 use Rattle.pfc_machine.specs.Rows.{with_outcome}
 use Rattle.pfc_semantics.specs.Values.{Value, ordinal}
 use Rattle.pfc_semantics.specs.Operators.{added, multiplied, compared}
@@ -18,7 +18,7 @@ use Rattle.pfc_semantics.specs.Remainders.{Context, Action, faults}
 use Rattle.pfc_semantics.specs.Expressions.{with_number}
 use Rattle.pfc_semantics.specs.Programs.{Block}
 use Rattle.pfc_translation.specs.Expressions.{relation_instr, add_instr, multiply_instr}
-use Rattle.pfc_translation.specs.Operands.{takes}
+use Rattle.pfc_translation.specs.Operands.{reads}
 use Rattle.pfc_standing_code.specs.Settings.{Setting, IsAt, Leads, arrived, jump}
 use Rattle.pfc_standing_code.specs.Effects.{Arm, onward, refuses, of_alone, effect_of, InSight, CanPerform}
 use Rattle.pfc_standing_code.specs.Following.{of_operands, Follows, arrives, moves}
@@ -47,7 +47,7 @@ module _ (g : Setting) (arms : List Arm) where
 
   -- ## Operands that are there
 
-  pub fits : (i : Instr) (ops : List ℤ) → max (needs i) (takes g.program i) ≤ length ops → Reckons i ops → InSight g.view i → CanPerform g i ops
+  pub fits : (i : Instr) (ops : List ℤ) → reads g.program i ≤ length ops → Reckons i ops → InSight g.view i → CanPerform g i ops
   fits i ops held reckons sight = record { held = held; reckons = reckons; sight = sight }
 
   pub add_fit : (op : AddOp) (a b : ℤ) (ops : List ℤ) → CanPerform g (add_instr op) (b ∷ a ∷ ops)

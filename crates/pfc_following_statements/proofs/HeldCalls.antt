@@ -33,7 +33,8 @@ use Rattle.pfc_translation.specs.Codes.{Code, nothing, ◌⨾◌, instruction, o
 use Rattle.pfc_translation.specs.Addresses.{base_code}
 use Rattle.pfc_translation.specs.Expressions.{expr_code, args_code, address_code, desig_code, object_code, first_value, first_address, call_instr}
 use Rattle.pfc_translation.specs.Calls.{write_instr, plain_item, wide_item, item_code, writes_code, read_instr, input_code, reads_code, given_code, rank_code, first_object, procedure_code, enter_instr, exported_code, module_code, resource_of, requeue_code, activation_code, formals_cells, entry_code, process_code, field_code, called_variable, called_process, called_code, found_code, call_code}
-use Rattle.pfc_translation.specs.Operands.{takes, leaves, receiving, arguments}
+use Rattle.pfc_code.specs.Operands.{receiving}
+use Rattle.pfc_translation.specs.Operands.{takes, leaves, arguments}
 use Rattle.pfc_translation.specs.Selects.{message_code, message_cells, receiver_code, receiver_cells, entry_of, accept_cell, accept_cells, replica_code, comm_code, guarded_code, alternative_code, first_of, alternatives_code}
 use Rattle.pfc_translation.specs.Statements.{assign_code}
 use Rattle.pfc_standing_code.specs.Shapes.{a_number, shape_of, shape_cells, IsSound}

@@ -100,7 +100,7 @@ module _ (s : Site) where
       seq (base_code s r.at) (one s (LIT r.value) ⨾ one s (STORE 1)) 0 1 0 (base_changes s.program s r.at)
       (seq (one s (LIT r.value)) (one s (STORE 1)) 1 2 0 (changes_as s.program (one s (LIT r.value)) 0 1 1 1 2 (changes_one s.program s (LIT r.value) 0 1 refl refl) refl refl) (changes_one s.program s (STORE 1) 2 0 refl refl))
 
-  chosen_changes : (rs : List Replica) → Changes s.program (chosen_code s rs) 0 0
+  pub chosen_changes : (rs : List Replica) → Changes s.program (chosen_code s rs) 0 0
   chosen_changes [] = changes_nothing s.program 0
   chosen_changes (r ∷ rs) =
       let rest = chosen_code s rs in
@@ -226,7 +226,7 @@ mutual
   accepted_change (accept x gs p) s n sound is = changes_nothing s.program 0
   accepted_change (accept_do x gs t p) s n sound is = stmt_changes t (in_accept s n) (n + 1) sound is
 
-  met_change : (comm : CommTree) (s : Site) (n : ℕ) → IsSound (forms_of s) → IsMetTyped s n comm → Changes s.program (met_code s n comm) 0 0
+  pub met_change : (comm : CommTree) (s : Site) (n : ℕ) → IsSound (forms_of s) → IsMetTyped s n comm → Changes s.program (met_code s n comm) 0 0
   met_change (comm_accept a p) s n sound is = seq s (accepted_code s n a) (one (at_line s p.line) EACC) 0 0 0 (accepted_change a s n sound is) (changes_one s.program (at_line s p.line) EACC 0 0 refl refl)
   met_change (comm_send d e p) s n sound is = changes_nothing s.program 0
   met_change (comm_receive d v p) s n sound is = changes_nothing s.program 0

@@ -79,30 +79,36 @@ module _ (g : Setting) (b : Block) (names : List Level) (around : Around) (check
       (λ v simple. shows t k v mid ops is_it after)
   plain_follows (Some y) e k at n ops is st rest = arrives at ops [] (b, checked, (refl, (ops, piece_string n refl st.texts.0 st.has.0, rest)))
 
+  -- the width of a number that is known
+  pub width_follows :
+      (t : Option TypeId) (v : ℤ) (w : ExprTree) (k : Remainder) (at n : ℕ) (ops : List ℤ) → HasShape s w a_number
+      → Stands g at n (suc (length ops)) (expr_code s w ⨾ one s (write_instr (simple_of t) 1)) → Performs g b x.env (at + (expr_code s w ⨾ one s (write_instr (simple_of t) 1)).size) ops [] k
+      → Follows g (from_expr x w (pad (shown_as t (ordinal v)) k) (from_width x (shown_as t (ordinal v)) k)) at (v ∷ ops) []
+  width_follows t v w k at n ops num st rest =
+      let width = expr_code s w in
+      let i = write_instr (simple_of t) 1 in
+      let right = at + width.size in
+      let last = back g width (one s i) (suc (suc (length ops))) (sized_expr s w) (held_grown g.program width 1 (expr_changes s checked.sound w a_number num) at n (suc (length ops)) ∙ omega arith) st in
+      let after = moved (at + (width.size + 1)) (right + 1) ops k (omega arith) rest in
+      let awaited : PadAt g line right (v ∷ ops) (shown_as t (ordinal v)) (λ below. Performs g b x.env (right + 1) below [] k) = of_number (simple_of t) v ops refl refl (lone g s (λ at n. i) last) after in
+      expression_follows g b x checked [] few w a_number num (pad (shown_as t (ordinal v)) k) (from_width x (shown_as t (ordinal v)) k) at n (v ∷ ops) (front g width (one s i) st)
+      (refl, (refl, awaited))
+      (λ c simple. pad_follows (shown_as t (ordinal v)) k c right (v ∷ ops) awaited)
+
   wide_follows :
       (y : Option Text) (e w : ExprTree) (k : Remainder) (at n : ℕ) (ops : List ℤ)
       → IsItem s y e → HasShape s w a_number → Stands g at n (length ops) (wide_item s y e w) → Performs g b x.env (at + (wide_item s y e w).size) ops [] k → Follows g (from_wide_string x y e w k) at ops []
   wide_follows None e w k at n ops is num st rest =
       let t = expr_type s.env e in
       let code = expr_code s e in
-      let width = expr_code s w in
-      let i = write_instr (simple_of t) 1 in
-      let last = width ⨾ one s i in
+      let last = expr_code s w ⨾ one s (write_instr (simple_of t) 1) in
       let mid = at + code.size in
       let m = n + length code.texts in
-      let right = mid + width.size in
       let behind = back g code last (suc (length ops)) (sized_expr s e) (held_grown g.program code 1 (expr_changes s checked.sound e a_number is) at n (length ops) ∙ omega arith) st in
-      let writes = back g width (one s i) (suc (suc (length ops))) (sized_expr s w) (held_grown g.program width 1 (expr_changes s checked.sound w a_number num) mid m (suc (length ops)) ∙ omega arith) behind in
-      let is_it = lone g s (λ at n. i) writes in
       let after = moved (at + (code ⨾ last).size) (mid + last.size) ops k (omega arith) rest in
-      let after_last = moved (at + (code ⨾ last).size) (right + 1) ops k (omega arith) rest in
       expression_follows g b x checked [] few e a_number is (show_wide t w k) (λ v. from_expr x w (pad (shown_as t v) k) (from_width x (shown_as t v) k)) at n ops (front g code last st)
       (refl, (refl, num, m, behind, after))
-      (λ v simple.
-      let awaited : PadAt g line right (v ∷ ops) (shown_as t (ordinal v)) (λ below. Performs g b x.env (right + 1) below [] k) = of_number (simple_of t) v ops refl refl is_it after_last in
-      expression_follows g b x checked [] few w a_number num (pad (shown_as t (ordinal v)) k) (from_width x (shown_as t (ordinal v)) k) mid m (v ∷ ops) (front g width (one s i) behind)
-      (refl, (refl, awaited))
-      (λ c simple. pad_follows (shown_as t (ordinal v)) k c right (v ∷ ops) awaited))
+      (λ v simple. width_follows t v w k mid m ops num behind after)
   wide_follows (Some y) e w k at n ops is num st rest =
       let width = expr_code s w in
       let mid = at + width.size in

@@ -86,24 +86,31 @@ module _ (g : Setting) (b : Block) (names : List Level) (around : Around) (check
       object_then args condition (one s RESUME) (resume_at k) (λ v. resumes x v.spot k) k at n to ops refl lent st ends rest (λ at object. (refl, (refl, object)))
       (λ v at j i is st rest. arrives at (i ∷ ops) [] (b, checked, (refl, (i, ops, refl, is, lone g s (λ at n. RESUME) st, rest))))
 
+  -- the count of `initial`, behind its semaphore
+  pub count_follows :
+      (v : Spot) (e : ExprTree) (k : Remainder) (at j : ℕ) (i : ℤ) (ops : List ℤ)
+      → HasShape s e a_number → IsObject g s v (Some semaphore) i → Stands g at j (suc (length ops)) (expr_code s e ⨾ one s SINI) → left (at + (expr_code s e ⨾ one s SINI).size) ops k
+      → Follows g (from_expr x e (set_count v k) (λ c. initials x v (ordinal_of c) k)) at (i ∷ ops) []
+  count_follows v e k at j i ops num is st rest =
+      let code = expr_code s e in
+      let last = back g code (one s SINI) (suc (suc (length ops))) (sized_expr s e) (held_grown g.program code 1 (expr_changes s checked.sound e a_number num) at j (suc (length ops)) ∙ omega arith) st in
+      let sets = lone g s (λ at n. SINI) last in
+      let after = performs_moved g b names around checked few line (at + (code.size + 1)) (at + code.size + 1) ops k (omega arith) rest in
+      expression_follows g b x checked [] few e a_number num (set_count v k) (λ c. initials x v (ordinal_of c) k) at j (i ∷ ops) (front g code (one s SINI) st)
+      (refl, (refl, i, ops, refl, is, sets, after))
+      (λ c simple. arrives (at + code.size) (c ∷ i ∷ ops) [] (b, checked, (refl, (i ∷ ops, refl, (i, ops, refl, is, sets, after)))))
+
   pub initial_follows :
       (args : ActualTrees) (e : ExprTree) (k : Remainder) (at n to : ℕ) (ops : List ℤ)
       → IsLentFirst s args (Some semaphore) → HasShape s e a_number → Stands g at n (length ops) (first_object s args ⨾ expr_code s e ⨾ one s SINI) → at + (first_object s args ⨾ expr_code s e ⨾ one s SINI).size ≡ to → left to ops k
       → Follows g (from_reference x args (initial_to e k) (λ v. from_expr x e (set_count v.spot k) (λ c. initials x v.spot (ordinal_of c) k))) at ops []
   initial_follows args e k at n to ops lent num st ends rest =
-      let code = expr_code s e in
-      object_then args semaphore (code ⨾ one s SINI) (initial_to e k) (λ v. from_expr x e (set_count v.spot k) (λ c. initials x v.spot (ordinal_of c) k)) k at n to ops refl lent st ends rest
+      object_then args semaphore (expr_code s e ⨾ one s SINI) (initial_to e k) (λ v. from_expr x e (set_count v.spot k) (λ c. initials x v.spot (ordinal_of c) k)) k at n to ops refl lent st ends rest
       (λ at object. (refl, (refl, num, object)))
-      (λ v at j i is st rest.
-      let last = back g code (one s SINI) (suc (suc (length ops))) (sized_expr s e) (held_grown g.program code 1 (expr_changes s checked.sound e a_number num) at j (suc (length ops)) ∙ omega arith) st in
-      let sets = lone g s (λ at n. SINI) last in
-      let after = performs_moved g b names around checked few line (at + (code.size + 1)) (at + code.size + 1) ops k (omega arith) rest in
-      expression_follows g b x checked [] few e a_number num (set_count v.spot k) (λ c. initials x v.spot (ordinal_of c) k) at j (i ∷ ops) (front g code (one s SINI) st)
-      (refl, (refl, i, ops, refl, is, sets, after))
-      (λ c simple. arrives (at + code.size) (c ∷ i ∷ ops) [] (b, checked, (refl, (i ∷ ops, refl, (i, ops, refl, is, sets, after))))))
+      (λ v at j i is st rest. count_follows v.spot e k at j i ops num is st rest)
 
   -- the rank of a `delay`, which is 0 where none is given
-  rank_follows :
+  pub rank_follows :
       (v : Spot) (rank : Option ExprTree) (k : Remainder) (at j : ℕ) (i : ℤ) (ops : List ℤ)
       → IsRank s rank → IsObject g s v (Some condition) i → Stands g at j (suc (length ops)) (rank_code s rank ⨾ one s DELAY) → left (at + (rank_code s rank ⨾ one s DELAY).size) ops k
       → Follows g (from_delay x v rank k) at (i ∷ ops) []

@@ -5,12 +5,13 @@ use Rattle.pfc_semantics.specs.Programs.{Block}
 use Rattle.pfc_semantics.specs.Alternatives.{context}
 use Rattle.pfc_standing_code.specs.Settings.{Setting}
 use Rattle.pfc_following_expressions.proofs.Anywhere.{anywhere}
-use Rattle.pfc_following_structures.specs.Structured.{NothingFollows, BlockFollows, ListFollows, IfFollows, IfElseFollows, CaseFollows, ArmListFollows, WhileFollows, RepeatFollows, ForeverFollows, ForFollows, CobeginFollows, AcceptFollows, AssignFollows, SendsFollow, ReceivesFollow, CallsFollow, RequeuesFollow, EveryStatementFollows, EveryListFollows}
+use Rattle.pfc_following_structures.specs.Structured.{NothingFollows, BlockFollows, ListFollows, IfFollows, IfElseFollows, CaseFollows, ArmListFollows, WhileFollows, RepeatFollows, ForeverFollows, ForFollows, CobeginFollows, AcceptFollows, AssignFollows, SendsFollow, ReceivesFollow, CallsFollow, RequeuesFollow, SelectStatementsFollow, EveryStatementFollows, EveryListFollows}
 use Rattle.pfc_following_structures.specs.Left.{UntilFollows, PassFollows, PassEndFollows, ReplicaFollows}
 use Rattle.pfc_following_structures.proofs.Compound.{empty_follows, null_follows, block_follows, none_follow, more_follow, if_follows, if_else_follows, while_follows, repeat_follows, forever_follows, until_follows, cobegin_follows, accept_follows}
 use Rattle.pfc_following_structures.proofs.Cases.{case_follows, no_arms_follow, more_arms_follow}
 use Rattle.pfc_following_structures.proofs.Counting.{first_pass, behind_follows, for_follows}
 use Rattle.pfc_following_structures.proofs.Replicas.{replica_follows}
+use Rattle.pfc_following_structures.proofs.Selecting.{selected_follows, selected_else_follows}
 use Rattle.pfc_following_structures.proofs.Single.{assigned_follows, sent_follows, received_follows, called_follows, requeued_follows}
 use Rattle.pfc_following_structures.proofs.Every.{every_follows, all_follow}
 
@@ -89,13 +90,17 @@ pub requeue_statement_follows : (g : Setting) (b : Block) (env : Env) → Requeu
 requeue_statement_follows g b env checked =
     anywhere g b (context env 0) (λ y. RequeuesFollow g b y.env) checked (λ known. requeued_follows g b env.view env.around known (least g.arms)) checked
 
-pub every_statement_by_selects : (g : Setting) (b : Block) (env : Env) → EveryStatementFollows g b env
-every_statement_by_selects g b env checked =
-    anywhere g b (context env 0) (λ y. EveryStatementFollows g b y.env) checked (λ known selects. every_follows g b env.view env.around known (least g.arms) selects) checked
+pub select_statement_follows : (g : Setting) (b : Block) (env : Env) → SelectStatementsFollow g b env
+select_statement_follows g b env checked =
+    anywhere g b (context env 0) (λ y. SelectStatementsFollow g b y.env) checked (λ known. (selected_follows g b env.view env.around known, selected_else_follows g b env.view env.around known)) checked
 
-pub every_list_by_selects : (g : Setting) (b : Block) (env : Env) → EveryListFollows g b env
-every_list_by_selects g b env checked =
-    anywhere g b (context env 0) (λ y. EveryListFollows g b y.env) checked (λ known selects. all_follow g b env.view env.around known (least g.arms) selects) checked
+pub every_statement_anywhere : (g : Setting) (b : Block) (env : Env) → EveryStatementFollows g b env
+every_statement_anywhere g b env checked =
+    anywhere g b (context env 0) (λ y. EveryStatementFollows g b y.env) checked (λ known. every_follows g b env.view env.around known (least g.arms)) checked
+
+pub every_list_anywhere : (g : Setting) (b : Block) (env : Env) → EveryListFollows g b env
+every_list_anywhere g b env checked =
+    anywhere g b (context env 0) (λ y. EveryListFollows g b y.env) checked (λ known. all_follow g b env.view env.around known (least g.arms)) checked
 
 pub until_left_follows : (g : Setting) (b : Block) (env : Env) → UntilFollows g b env
 until_left_follows g b env checked =

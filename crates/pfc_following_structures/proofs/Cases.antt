@@ -39,7 +39,7 @@ use Rattle.pfc_following_statements.proofs.HeldStatements.{labels_change, stmt_c
 use Rattle.pfc_following_statements.proofs.Grouping.{last_joined, first_joined}
 use Rattle.pfc_following_structures.specs.Structured.{StatementFollows, ArmsFollow}
 use Rattle.pfc_following_structures.proofs.Ranges.{same_turned}
-use Rattle.pfc_following_structures.proofs.Compound.{performs_jumped}
+use Rattle.pfc_following_selects.proofs.Jumps.{performs_jumped}
 
 -- ## Lengths
 

@@ -1,8 +1,7 @@
 -- The code of statements that hold statements follows their next action, where that of the inner ones does.
-use Rattle.std.proofs.Common.{◌≡◌, ℕ, suc, ◌+◌, ◌-◌, ◌<◌, ◌≤◌, ℤ, Bool, true, false, not, if◌then◌else◌, List, [], ◌∷◌, length, refl, sym, ap, ◌∙◌, subst, arith, append-nil}
+use Rattle.std.proofs.Common.{◌≡◌, ℕ, suc, ◌+◌, ◌-◌, ◌<◌, ◌≤◌, ℤ, Bool, true, false, not, if◌then◌else◌, List, [], ◌∷◌, length, refl, sym, ap, ◌∙◌, subst, arith}
 use Rattle.pfc_base.specs.declared.places.Place.{Place}
 use Rattle.pfc_code.specs.declared.instructions.Instr.TheVariants.{NOT, JMP, JF, TURN, COEND, ACC, EACC}
-use Rattle.pfc_tree.specs.Symbols.{Text}
 use Rattle.pfc_tree.specs.trees.Exprs.{ExprTree}
 use Rattle.pfc_tree.specs.trees.Stmts.{StmtTree, StmtTrees, AcceptTree, cobegin, accepting, accept, accept_do, empty, null, block, if_then, if_then_else, while_do, repeat_until, repeat_forever, no_stmts, more_stmts, body}
 use Rattle.pfc_types.specs.Scopes.{Level}
@@ -12,20 +11,17 @@ use Rattle.pfc_types.specs.declared.view.Around.{Around}
 use Rattle.pfc_values.specs.Numbers.{truth, is_true, inverse_of}
 use Rattle.pfc_semantics.specs.Values.{ordinal, ordinal_of}
 use Rattle.pfc_semantics.specs.Programs.{Block}
-use Rattle.pfc_semantics.specs.Remainders.{Context, Remainder, Action, ends, perform, in_names, turn, until, behind_pass, next_pass, write_on, read_on, at_coend, part_from, write_again, go_through, try_guard, scan_on, try_other, choose, while_true, until_true, turns, joins}
+use Rattle.pfc_semantics.specs.Remainders.{Context, Remainder, Action, turn, until, at_coend, choose, while_true, until_true, turns, joins}
 use Rattle.pfc_semantics.specs.Alternatives.{context}
 use Rattle.pfc_semantics.specs.Expressions.{from_expr}
 use Rattle.pfc_semantics.specs.Statements.{behind, again, from_until, from_stmt, from_stmts}
 use Rattle.pfc_translation.specs.Sites.{Site, at_line, in_accept}
-use Rattle.pfc_translation.specs.Codes.{Code, Lined, nothing, ◌⨾◌, one, over, back as to_back}
+use Rattle.pfc_translation.specs.Codes.{nothing, ◌⨾◌, one, over, back as to_back}
 use Rattle.pfc_translation.specs.Expressions.{expr_code}
-use Rattle.pfc_translation.specs.Operands.{most_operands}
-use Rattle.pfc_translation.specs.Images.{instructions}
 use Rattle.pfc_translation.specs.Selects.{entry_of, accept_cell, accept_cells}
 use Rattle.pfc_translation.specs.Statements.{stmt_code, stmts_code}
 use Rattle.pfc_standing_code.specs.Shapes.{a_number}
-use Rattle.pfc_standing_code.specs.Settings.{Setting, site_of, IsAt, HasCode, HasTexts, Stands, arrived, jump}
-use Rattle.pfc_standing_code.specs.Effects.{Arm}
+use Rattle.pfc_standing_code.specs.Settings.{Setting, site_of, IsAt, Stands, arrived}
 use Rattle.pfc_standing_code.specs.Words.{IsChecked}
 use Rattle.pfc_standing_code.specs.Performs.{StmtAt, StmtsAt, Performs}
 use Rattle.pfc_standing_code.specs.Following.{of_loop, Follows, arrives}
@@ -36,39 +32,8 @@ use Rattle.pfc_following_expressions.proofs.Moves.{fits, next_move, test_move, j
 use Rattle.pfc_following_expressions.proofs.Expressions.{env_in}
 use Rattle.pfc_following_expressions.proofs.Anywhere.{expression_follows}
 use Rattle.pfc_following_statements.proofs.HeldStatements.{stmt_changes, stmts_change}
+use Rattle.pfc_following_selects.proofs.Jumps.{performs_jumped, stands_alone}
 use Rattle.pfc_following_structures.specs.Structured.{StatementFollows, StatementsFollow}
-
--- ## Jumps
-
--- what is left is performed from a jump on
-pub performs_jumped : (g : Setting) (b : Block) (env : Env) (k : Remainder) (at to : ℕ) (ops : List ℤ) (arms : List Arm) (line : ℕ) → IsAt g at (JMP to) line → at < to → Performs g b env to ops arms k → Performs g b env at ops arms k
-performs_jumped g b env (in_names inner k) at to ops arms line is up h = (h.0, h.1, performs_jumped g h.0 inner k at to ops arms line is up h.2)
-performs_jumped g b env (go_through l a rest sel k) at to ops arms line is up h = (h.0, jump at to h.0 line is up h.1, h.2)
-performs_jumped g b env (ends l) at to ops arms line is up h = (h.0, (h.1.0, jump at to h.1.0 line is up h.1.1, h.1.2))
-performs_jumped g b env (perform m ts k) at to ops arms line is up h = (h.0, (h.1.0, jump at to h.1.0 line is up h.1.1, h.1.2))
-performs_jumped g b env (turn m t k) at to ops arms line is up h = (h.0, (h.1.0, jump at to h.1.0 line is up h.1.1, h.1.2))
-performs_jumped g b env (until m ts e p k) at to ops arms line is up h = (h.0, (h.1.0, jump at to h.1.0 line is up h.1.1, h.1.2))
-performs_jumped g b env (behind_pass f k) at to ops arms line is up h = (h.0, (h.1.0, jump at to h.1.0 line is up h.1.1, h.1.2))
-performs_jumped g b env (next_pass f k) at to ops arms line is up h = (h.0, (h.1.0, jump at to h.1.0 line is up h.1.1, h.1.2))
-performs_jumped g b env (write_on l args newline k) at to ops arms line is up h = (h.0, (h.1.0, jump at to h.1.0 line is up h.1.1, h.1.2))
-performs_jumped g b env (read_on l args skip k) at to ops arms line is up h = (h.0, (h.1.0, jump at to h.1.0 line is up h.1.1, h.1.2))
-performs_jumped g b env (at_coend l k) at to ops arms line is up h = (h.0, (h.1.0, jump at to h.1.0 line is up h.1.1, h.1.2))
-performs_jumped g b env (part_from caller l k) at to ops arms line is up h = (h.0, (h.1.0, jump at to h.1.0 line is up h.1.1, h.1.2))
-performs_jumped g b env (write_again r k) at to ops arms line is up h = (h.0, (h.1.0, jump at to h.1.0 line is up h.1.1, h.1.2))
-performs_jumped g b env (try_guard bar k) at to ops arms line is up h = (h.0, (h.1.0, jump at to h.1.0 line is up h.1.1, h.1.2))
-performs_jumped g b env (scan_on scan k) at to ops arms line is up h = (h.0, (h.1.0, jump at to h.1.0 line is up h.1.1, h.1.2))
-performs_jumped g b env (try_other w scan k) at to ops arms line is up h = (h.0, (h.1.0, jump at to h.1.0 line is up h.1.1, h.1.2))
-
--- code with nothing behind it
-pub stands_alone : (g : Setting) (at n held : ℕ) (c : Code) → Stands g at n held c → Stands g at n held (c ⨾ nothing)
-stands_alone g at n held c st =
-    let few = st.arms in
-    record {
-      has = subst (λ (xs : Lined). HasCode g at xs) (sym (append-nil (c.put at n))) st.has;
-      texts = subst (λ (xs : List Text). HasTexts g n xs) (sym (append-nil c.texts)) st.texts;
-      room = subst (λ (xs : Lined). most_operands g.program held (instructions xs) ≤ g.room) (sym (append-nil (c.put at n))) st.room;
-      arms = omega arith;
-    }
 
 module _ (g : Setting) (b : Block) (names : List Level) (around : Around) (checked : IsChecked g b (env_in g names around)) (few : 0 ≤ g.arms) where
   abbrev pub env : Env
@@ -248,7 +213,7 @@ module _ (g : Setting) (b : Block) (names : List Level) (around : Around) (check
       let on_end = follows_moved g [] few to (at + size) (sym whole_end) on in
       expression_follows g b x checked [] few e a_number is.typed.0 (while_true m e t p k)
       (λ v. if is_true (ordinal_of v) then from_stmt env m t (turn m loop k) (turns (context env p.line) (again m loop k)) else go) at n ops (front g test others is.code)
-      (refl, (refl, line, at, refl, (n, is, whole)))
+      (refl, (refl, refl, line, at, refl, (n, is, whole)))
       (λ v simple. while_tested e t p inner line m k go at n ops v is whole on_end)
 
   inverse_true : (r : Bool) → is_true (truth (not r)) ≡ not r
@@ -310,7 +275,7 @@ module _ (g : Setting) (b : Block) (names : List Level) (around : Around) (check
       inner p.line m (until m ts e p k) (from_expr x e (until_true m ts e p k) (from_until x m loop k go)) at n mid ops (record { typed = is.typed.0; code = front g code (test ⨾ last) is.code }) refl
       (refl, (mid, arrived mid, (line, at, refl, (n, is, whole))))
       (expression_follows g b x checked [] few e a_number is.typed.1 (until_true m ts e p k) (from_until x m loop k go) mid i ops (front g test last behind)
-      (refl, (refl, line, at, refl, (n, is, whole)))
+      (refl, (refl, refl, line, at, refl, (n, is, whole)))
       (λ v simple. tested_follows ts e p line m k go at n ops v is whole on_end))
 
   -- the test of a `repeat`, behind its statements
@@ -327,7 +292,7 @@ module _ (g : Setting) (b : Block) (names : List Level) (around : Around) (check
       let last = one s NOT ⨾ over s JF 1 ⨾ to_back s TURN (code.size + test.size + 2) in
       let behind = back g code (test ⨾ last) (length ops) (sized_stmts s m ts) (held_grown g.program code 0 (stmts_change ts s m checked.sound is.typed.0) at n (length ops) ∙ omega arith) is.code in
       expression_follows g b x checked [] few e a_number is.typed.1 (until_true m ts e p k) (from_until x m loop k go) (at + code.size) (n + length code.texts) ops (front g test last behind)
-      (refl, (refl, line, at, refl, (n, is, rest)))
+      (refl, (refl, refl, line, at, refl, (n, is, rest)))
       (λ v simple. tested_follows ts e p line m k go at n ops v is rest on)
 
   -- ## Cobegin and accept
@@ -359,7 +324,7 @@ module _ (g : Setting) (b : Block) (names : List Level) (around : Around) (check
       let none : Stands g (at + 1) (n + 0) (length ops) nothing = front g nothing (one s EACC) behind in
       let last = back g nothing (one s EACC) (length ops) (λ at n. refl) refl behind in
       let after = moved to (at + 1 + 0 + 1) ops k (sym whole_end ∙ omega arith) rest in
-      arrives at ops [] (b, checked, (refl, (head g s (λ at n. i) (nothing ⨾ one s EACC) is.code, (n + 0, record { typed = tt; code = none }, accept_ended p.line k (at + 1 + 0) (n + 0 + 0) ops last after))))
+      arrives at ops [] (b, checked, (refl, ((refl, refl), (head g s (λ at n. i) (nothing ⨾ one s EACC) is.code, (n + 0, record { typed = tt; code = none }, accept_ended p.line k (at + 1 + 0) (n + 0 + 0) ops last after)))))
   accept_follows (accept_do y gs t q) p line m k go at n to ops is whole_end rest on =
       let s = site p.line in
       let i = ACC (entry_of s (accept_do y gs t q)) (accept_cell s m) (accept_cells s m) in
@@ -367,4 +332,4 @@ module _ (g : Setting) (b : Block) (names : List Level) (around : Around) (check
       let behind = tail g s (λ at n. i) (inner ⨾ one s EACC) (length ops) (omega arith) is.code in
       let last = back g inner (one s EACC) (length ops) (sized_stmt (in_accept s m) (m + 1) t) (held_grown g.program inner 0 (stmt_changes t (in_accept s m) (m + 1) checked.sound is.typed) (at + 1) (n + 0) (length ops) ∙ omega arith) behind in
       let after = moved to (at + 1 + inner.size + 1) ops k (sym whole_end ∙ omega arith) rest in
-      arrives at ops [] (b, checked, (refl, (head g s (λ at n. i) (inner ⨾ one s EACC) is.code, (n + 0, record { typed = is.typed; code = front g inner (one s EACC) behind }, accept_ended p.line k (at + 1 + inner.size) (n + 0 + length inner.texts) ops last after))))
+      arrives at ops [] (b, checked, (refl, ((refl, refl), (head g s (λ at n. i) (inner ⨾ one s EACC) is.code, (n + 0, record { typed = is.typed; code = front g inner (one s EACC) behind }, accept_ended p.line k (at + 1 + inner.size) (n + 0 + length inner.texts) ops last after)))))

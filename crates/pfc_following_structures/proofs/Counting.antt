@@ -128,7 +128,7 @@ module _ (g : Setting) (b : Block) (names : List Level) (around : Around) (check
       )
 
   -- both bounds are held
-  bounds_follow :
+  pub bounds_follow :
       (f : Count) (k : Remainder) (go : Action) (w : ℤ) (at n to : ℕ) (ops : List ℤ)
       → IsSimpleWord g.view (site f.line) f.at w → IsTyped (site f.line) f.next f.pass → Stands g at n (suc (suc (suc (length ops)))) (pass_code (site f.line) f.down f.next f.pass)
       → at + (pass_code (site f.line) f.down f.next f.pass).size ≡ to → left to ops k → Follows g go to ops []
@@ -157,7 +157,7 @@ module _ (g : Setting) (b : Block) (names : List Level) (around : Around) (check
           (first_pass f k (at + 1) parts.1.0 all ops holds parts.1.1 (moved to (at + 1 + 1 + inside f + 1) ops k ended rest))
 
   -- the first bound is held
-  second_follows :
+  pub second_follows :
       (line m : ℕ) (v : Spot) (kept w : ℤ) (down : Bool) (e : ExprTree) (t : StmtTree) (k : Remainder) (go : Action) (at n to : ℕ) (ops : List ℤ)
       → IsSimpleWord g.view (site line) v w → HasShape (site line) e a_number → IsTyped (site line) m t
       → Stands g at n (suc (suc (length ops))) (expr_code (site line) e ⨾ pass_code (site line) down m t) → at + (expr_code (site line) e ⨾ pass_code (site line) down m t).size ≡ to

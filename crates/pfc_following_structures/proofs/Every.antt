@@ -1,4 +1,4 @@
--- Every statement follows its next action, where each select does.
+-- Every statement follows its next action.
 use Rattle.std.proofs.Common.{◌≤◌, List}
 use Rattle.pfc_tree.specs.trees.Stmts.{StmtTree, StmtTrees, ArmTrees, empty, null, block, if_then, if_then_else, case_of, while_do, repeat_until, repeat_forever, for_do, cobegin, accepting, requeue, select, select_else, assign, send, receive, call, no_stmts, more_stmts, body, arm, no_arms, more_arms}
 use Rattle.pfc_types.specs.Scopes.{Level}
@@ -8,13 +8,14 @@ use Rattle.pfc_semantics.specs.Programs.{Block}
 use Rattle.pfc_standing_code.specs.Settings.{Setting}
 use Rattle.pfc_standing_code.specs.Words.{IsChecked}
 use Rattle.pfc_following_expressions.proofs.Expressions.{env_in}
-use Rattle.pfc_following_structures.specs.Structured.{StatementFollows, StatementsFollow, ArmsFollow, SelectsFollow}
+use Rattle.pfc_following_structures.specs.Structured.{StatementFollows, StatementsFollow, ArmsFollow}
 use Rattle.pfc_following_structures.proofs.Compound.{empty_follows, null_follows, block_follows, none_follow, more_follow, if_follows, if_else_follows, while_follows, repeat_follows, forever_follows, cobegin_follows, accept_follows}
 use Rattle.pfc_following_structures.proofs.Cases.{case_follows, no_arms_follow, more_arms_follow}
 use Rattle.pfc_following_structures.proofs.Counting.{for_follows}
+use Rattle.pfc_following_structures.proofs.Selecting.{selected_follows, selected_else_follows}
 use Rattle.pfc_following_structures.proofs.Single.{assigned_follows, sent_follows, received_follows, called_follows, requeued_follows}
 
-module _ (g : Setting) (b : Block) (names : List Level) (around : Around) (checked : IsChecked g b (env_in g names around)) (few : 0 ≤ g.arms) (selects : SelectsFollow g b (env_in g names around)) where
+module _ (g : Setting) (b : Block) (names : List Level) (around : Around) (checked : IsChecked g b (env_in g names around)) (few : 0 ≤ g.arms) where
   abbrev env : Env
   env = env_in g names around
 
@@ -33,8 +34,8 @@ module _ (g : Setting) (b : Block) (names : List Level) (around : Around) (check
     every_follows (cobegin ts last p) = cobegin_follows g b names around checked few ts last p (all_follow ts)
     every_follows (accepting a p) = accept_follows g b names around checked few a p
     every_follows (requeue x args p) = requeued_follows g b names around checked few x args p
-    every_follows (select pri alts p q) = selects.0 pri alts p q
-    every_follows (select_else pri alts ts at p q) = selects.1 pri alts ts at p q
+    every_follows (select pri alts p q) = selected_follows g b names around checked pri alts p q
+    every_follows (select_else pri alts ts at p q) = selected_else_follows g b names around checked pri alts ts at p q
     every_follows (assign d e p q) = assigned_follows g b names around checked few d e p q
     every_follows (send d e p q) = sent_follows g b names around checked few d e p q
     every_follows (receive d v p q) = received_follows g b names around checked few d v p q

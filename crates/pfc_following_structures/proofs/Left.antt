@@ -17,9 +17,10 @@ use Rattle.pfc_standing_code.specs.Following.{of_loop, Follows, arrives}
 use Rattle.pfc_following_expressions.proofs.Moves.{through, follows_moved}
 use Rattle.pfc_following_statements.proofs.Anywhere.{write_follows, read_follows}
 use Rattle.pfc_following_structures.specs.Left.{RemainderFollows}
-use Rattle.pfc_following_structures.proofs.Compound.{stands_alone}
-use Rattle.pfc_following_structures.proofs.Guards.{guard_follows}
-use Rattle.pfc_following_structures.proofs.Anywhere.{every_list_by_selects, until_left_follows, pass_left_follows, pass_end_follows, replica_left_follows}
+use Rattle.pfc_following_selects.proofs.Jumps.{stands_alone}
+use Rattle.pfc_following_selects.proofs.Anywhere.{opening_follows_anywhere}
+use Rattle.pfc_following_structures.proofs.Guards.{guard_follows, other_follows}
+use Rattle.pfc_following_structures.proofs.Anywhere.{every_list_anywhere, until_left_follows, pass_left_follows, pass_end_follows, replica_left_follows}
 
 least : (n : ℕ) → 0 ≤ n
 least n = omega arith
@@ -41,27 +42,27 @@ module _ (g : Setting) where
       (refl, (at, arrived at, (line, (n, all, moved b env (at + code.size) (at + (code ⨾ nothing).size) ops k (omega arith) rest))))
 
 pub remainder_follows : (g : Setting) → RemainderFollows g
-remainder_follows g selects (ends line) b env at ops arms straight checked room h =
+remainder_follows g (ends line) b env at ops arms checked room h =
     cleared g at ops arms h.0 (through g [] (least g.arms) at h.1.0 ops h.1.1 room (arrives h.1.0 ops [] (b, tt, (refl, h.1.2))))
-remainder_follows g selects (perform m ts k) b env at ops arms straight checked room h =
+remainder_follows g (perform m ts k) b env at ops arms checked room h =
     let to = h.1.0 in
     let line = h.1.2.0 in
     let end = to + (stmts_code (site_of g b (context env line)) m ts).size in
     cleared g at ops arms h.0 (through g [] (least g.arms) at to ops h.1.1 room
-    (every_list_by_selects g b env checked (selects b env checked) ts line m k (from_remainder env k) to h.1.2.1.0 end ops h.1.2.1.1 refl h.1.2.1.2
-    (remainder_follows g selects k b env end ops [] straight checked room h.1.2.1.2)))
-remainder_follows g selects (in_names inner k) b env at ops arms straight checked room h = remainder_follows g selects k h.0 inner at ops arms straight h.1 room h.2
-remainder_follows g selects (turn m loop k) b env at ops arms straight checked room h =
+    (every_list_anywhere g b env checked ts line m k (from_remainder env k) to h.1.2.1.0 end ops h.1.2.1.1 refl h.1.2.1.2
+    (remainder_follows g k b env end ops [] checked room h.1.2.1.2)))
+remainder_follows g (in_names inner k) b env at ops arms checked room h = remainder_follows g k h.0 inner at ops arms h.1 room h.2
+remainder_follows g (turn m loop k) b env at ops arms checked room h =
     let p = h.1.2 in
     cleared g at ops arms h.0 (through g [] (least g.arms) at h.1.0 ops h.1.1 room
     (arrives h.1.0 ops [] (b, checked, (refl, of_loop p.1 p.2 (stands_again g b env p.0 m loop k p.1 p.3.0 ops p.3.1 p.3.2)))))
-remainder_follows g selects (until m ts e p k) b env at ops arms straight checked room h =
+remainder_follows g (until m ts e p k) b env at ops arms checked room h =
     let q = h.1.2 in
     let end = q.1 + (stmt_code (site_of g b (context env q.0)) m (repeat_until ts e p)).size in
     cleared g at ops arms h.0 (through g [] (least g.arms) at h.1.0 ops h.1.1 room
     (follows_moved g [] (least g.arms) (q.1 + (stmts_code (site_of g b (context env p.line)) m ts).size) h.1.0 (sym q.2)
-    (until_left_follows g b env checked ts e p q.0 m k (from_remainder env k) q.1 q.3.0 ops q.3.1 q.3.2 (remainder_follows g selects k b env end ops [] straight checked room q.3.2))))
-remainder_follows g selects (behind_pass f k) b env at ops arms straight checked room h =
+    (until_left_follows g b env checked ts e p q.0 m k (from_remainder env k) q.1 q.3.0 ops q.3.1 q.3.2 (remainder_follows g k b env end ops [] checked room q.3.2))))
+remainder_follows g (behind_pass f k) b env at ops arms checked room h =
     let to = h.1.0 in
     let q = h.1.2 in
     let place = q.0 + 1 + (stmt_code (site_of g b (context env f.line)) f.next f.pass).size in
@@ -71,31 +72,37 @@ remainder_follows g selects (behind_pass f k) b env at ops arms straight checked
     let rest = moved g b env (to + 1) (place + 1) q.2 k next q.6 in
     cleared g at ops arms h.0 (through g [] (least g.arms) at to ops h.1.1 room
     (follows_moved g [] (least g.arms) place to (sym is)
-    (pass_end_follows g b env checked f k (from_remainder env k) q.0 q.1 ops q.2 q.3 q.4 rest (remainder_follows g selects k b env (place + 1) q.2 [] straight checked few rest))))
-remainder_follows g selects (next_pass f k) b env at ops arms straight checked room h =
+    (pass_end_follows g b env checked f k (from_remainder env k) q.0 q.1 ops q.2 q.3 q.4 rest (remainder_follows g k b env (place + 1) q.2 [] checked few rest))))
+remainder_follows g (next_pass f k) b env at ops arms checked room h =
     let q = h.1.2 in
     cleared g at ops arms h.0 (through g [] (least g.arms) at h.1.0 ops h.1.1 room (pass_left_follows g b env checked f k h.1.0 q.0 ops q.1 q.2 q.3 q.4))
-remainder_follows g selects (write_on line args newline k) b env at ops arms straight checked room h =
+remainder_follows g (write_on line args newline k) b env at ops arms checked room h =
     let q = h.1.2 in
     let end = h.1.0 + (writes_code (site_of g b (context env line)) args newline).size in
     cleared g at ops arms h.0 (through g [] (least g.arms) at h.1.0 ops h.1.1 room
-    (write_follows g b (context env line) checked args newline k q.0 (from_remainder env k) h.1.0 q.1 ops q.2 q.3 (remainder_follows g selects k b env end ops [] straight checked room q.3)))
-remainder_follows g selects (read_on line args skip k) b env at ops arms straight checked room h =
+    (write_follows g b (context env line) checked args newline k q.0 (from_remainder env k) h.1.0 q.1 ops q.2 q.3 (remainder_follows g k b env end ops [] checked room q.3)))
+remainder_follows g (read_on line args skip k) b env at ops arms checked room h =
     let q = h.1.2 in
     let end = h.1.0 + (reads_code (site_of g b (context env line)) args skip).size in
     cleared g at ops arms h.0 (through g [] (least g.arms) at h.1.0 ops h.1.1 room
-    (read_follows g b (context env line) checked args skip k q.0 (from_remainder env k) h.1.0 q.1 ops q.2 q.3 (remainder_follows g selects k b env end ops [] straight checked room q.3)))
-remainder_follows g selects (at_coend line k) b env at ops arms straight checked room h =
+    (read_follows g b (context env line) checked args skip k q.0 (from_remainder env k) h.1.0 q.1 ops q.2 q.3 (remainder_follows g k b env end ops [] checked room q.3)))
+remainder_follows g (at_coend line k) b env at ops arms checked room h =
     cleared g at ops arms h.0 (through g [] (least g.arms) at h.1.0 ops h.1.1 room (arrives h.1.0 ops [] (b, checked, (refl, h.1.2))))
-remainder_follows g selects (part_from caller line k) b env at ops arms straight checked room h =
+remainder_follows g (part_from caller line k) b env at ops arms checked room h =
     cleared g at ops arms h.0 (through g [] (least g.arms) at h.1.0 ops h.1.1 room (arrives h.1.0 ops [] (b, checked, (refl, h.1.2))))
-remainder_follows g selects (write_again r k) b env at ops arms straight checked room h =
+remainder_follows g (write_again r k) b env at ops arms checked room h =
     let q = h.1.2 in
     cleared g at ops arms h.0 (through g [] (least g.arms) at h.1.0 ops h.1.1 room (replica_left_follows g b env checked r k h.1.0 q.1 ops q.0 q.2 q.3))
-remainder_follows g selects (go_through line a rest sel k) b env at ops arms straight checked room h = absurd straight
-remainder_follows g selects (try_guard bar k) b env at ops arms straight checked room h =
+remainder_follows g (go_through line a rest sel k) b env at ops arms checked room h =
+    let c = h.2.1 in
+    let few : length arms ≤ g.arms = (let all = c.room in omega arith) in
+    through g arms few at h.0 ops h.1 room (opening_follows_anywhere g b (context env line) checked a rest sel k h.0 ops arms few h.2.0 c)
+remainder_follows g (try_guard bar k) b env at ops arms checked room h =
     cleared g at ops arms h.0 (through g [] (least g.arms) at h.1.0 ops h.1.1 room
-    (guard_follows g b (least g.arms) env bar k h.1.0 ops h.1.2.0 h.1.2.1 (λ end rest. remainder_follows g selects k b env end ops [] straight checked room rest)))
-remainder_follows g selects (scan_on scan k) b env at ops arms straight checked room h =
+    (guard_follows g b (least g.arms) env bar k h.1.0 ops h.1.2.0 h.1.2.1 (λ end rest. remainder_follows g k b env end ops [] checked room rest)))
+remainder_follows g (scan_on scan k) b env at ops arms checked room h =
     cleared g at ops arms h.0 (through g [] (least g.arms) at h.1.0 ops h.1.1 room (arrives h.1.0 ops [] (b, tt, (refl, h.1.2))))
-remainder_follows g selects (try_other w scan k) b env at ops arms straight checked room h = absurd straight
+remainder_follows g (try_other w scan k) b env at ops arms checked room h =
+    let q = h.1.2 in
+    cleared g at ops arms h.0 (through g [] (least g.arms) at h.1.0 ops h.1.1 room
+    (other_follows g b (least g.arms) env q.2 w scan k h.1.0 q.0 q.1 ops q.3 q.4 q.5 q.6 q.7))

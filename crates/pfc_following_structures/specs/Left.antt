@@ -6,7 +6,7 @@ use Rattle.pfc_tree.specs.trees.Stmts.{StmtTrees, repeat_until}
 use Rattle.pfc_types.specs.rules.Expressions.{Env}
 use Rattle.pfc_semantics.specs.Values.{ordinal}
 use Rattle.pfc_semantics.specs.Programs.{Block}
-use Rattle.pfc_semantics.specs.Remainders.{Count, Replica, Remainder, Action, writes, until_true, ends, perform, in_names, turn, until, behind_pass, next_pass, write_on, read_on, at_coend, part_from, write_again, go_through, try_guard, scan_on, try_other}
+use Rattle.pfc_semantics.specs.Remainders.{Count, Replica, Remainder, Action, writes, until_true}
 use Rattle.pfc_semantics.specs.Alternatives.{context}
 use Rattle.pfc_semantics.specs.Expressions.{from_expr}
 use Rattle.pfc_semantics.specs.Statements.{from_until, from_pass, begin_pass}
@@ -19,7 +19,6 @@ use Rattle.pfc_standing_code.specs.TypedStatements.{IsReplica}
 use Rattle.pfc_standing_code.specs.Words.{IsChecked}
 use Rattle.pfc_standing_code.specs.Performs.{StmtAt, HoldsCount, HasPass, Performs}
 use Rattle.pfc_standing_code.specs.Following.{Follows}
-use Rattle.pfc_following_structures.specs.Structured.{SelectsFollow}
 
 -- the test of a `repeat`, behind its statements
 abbrev pub UntilFollows : Setting → Block → Env → Type 0
@@ -55,27 +54,8 @@ ReplicaFollows g b env =
     → Performs g b env (at + (replica_code (site_of g b (context env r.line)) (Some r)).size) ops [] k
     → Follows g (writes (context env r.line) r.at (ordinal r.value) k) at ops []
 
--- in what is left no select is gone through any more, and the guard of no other process is tried
-abbrev pub IsStraight : Remainder → Type 0
-IsStraight (ends line) = Unit {0}
-IsStraight (perform m ts k) = IsStraight k
-IsStraight (in_names inner k) = IsStraight k
-IsStraight (turn m loop k) = IsStraight k
-IsStraight (until m ts e p k) = IsStraight k
-IsStraight (behind_pass f k) = IsStraight k
-IsStraight (next_pass f k) = IsStraight k
-IsStraight (write_on line args newline k) = IsStraight k
-IsStraight (read_on line args skip k) = IsStraight k
-IsStraight (at_coend line k) = IsStraight k
-IsStraight (part_from caller line k) = IsStraight k
-IsStraight (write_again r k) = IsStraight k
-IsStraight (go_through line a rest sel k) = ⊥
-IsStraight (try_guard bar k) = IsStraight k
-IsStraight (scan_on scan k) = IsStraight k
-IsStraight (try_other w scan k) = ⊥
-
--- Where each select follows, what is left does, as far as the operands fit.
+-- What is left follows, as far as the operands fit.
 abbrev pub RemainderFollows : Setting → Type 0
 RemainderFollows g =
-    ((b : Block) (env : Env) → IsChecked g b env → SelectsFollow g b env) → (k : Remainder) (b : Block) (env : Env) (at : ℕ) (ops : List ℤ) (arms : List Arm)
-    → IsStraight k → IsChecked g b env → length ops ≤ g.room → Performs g b env at ops arms k → Follows g (from_remainder env k) at ops arms
+    (k : Remainder) (b : Block) (env : Env) (at : ℕ) (ops : List ℤ) (arms : List Arm) → IsChecked g b env → length ops ≤ g.room → Performs g b env at ops arms k
+    → Follows g (from_remainder env k) at ops arms

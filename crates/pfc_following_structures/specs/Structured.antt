@@ -113,14 +113,14 @@ RequeuesFollow g b env = IsChecked g b env → (x : Text × Place) (args : Actua
 
 -- ## Every statement
 
-abbrev pub SelectsFollow : Setting → Block → Env → Type 0
-SelectsFollow g b env =
-    ((pri : Bool) (alts : AltTrees) (p q : Place) → StatementFollows g b env (select pri alts p q))
+-- the decision of a select is an action, so nothing is asked of the statements behind its alternatives
+abbrev pub SelectStatementsFollow : Setting → Block → Env → Type 0
+SelectStatementsFollow g b env =
+    IsChecked g b env → ((pri : Bool) (alts : AltTrees) (p q : Place) → StatementFollows g b env (select pri alts p q))
     × ((pri : Bool) (alts : AltTrees) (ts : StmtTrees) (at p q : Place) → StatementFollows g b env (select_else pri alts ts at p q))
 
--- where each select follows, every statement does, and so do statements one behind the other
 abbrev pub EveryStatementFollows : Setting → Block → Env → Type 0
-EveryStatementFollows g b env = IsChecked g b env → SelectsFollow g b env → (t : StmtTree) → StatementFollows g b env t
+EveryStatementFollows g b env = IsChecked g b env → (t : StmtTree) → StatementFollows g b env t
 
 abbrev pub EveryListFollows : Setting → Block → Env → Type 0
-EveryListFollows g b env = IsChecked g b env → SelectsFollow g b env → (ts : StmtTrees) → StatementsFollow g b env ts
+EveryListFollows g b env = IsChecked g b env → (ts : StmtTrees) → StatementsFollow g b env ts

@@ -3,7 +3,7 @@ ghost use Rattle.pfc_types.specs.rules.Expressions.{Env};
 ghost use Rattle.pfc_semantics.specs.Programs.{Block};
 ghost use Rattle.pfc_standing_code.specs.Settings.{Setting};
 ghost use Rattle.pfc_following_structures.specs.Left.{UntilFollows, PassFollows, PassEndFollows, ReplicaFollows, RemainderFollows};
-ghost use Rattle.pfc_following_structures.specs.Structured.{NothingFollows, BlockFollows, ListFollows, IfFollows, IfElseFollows, CaseFollows, ArmListFollows, WhileFollows, RepeatFollows, ForeverFollows, ForFollows, CobeginFollows, AcceptFollows, AssignFollows, SendsFollow, ReceivesFollow, CallsFollow, RequeuesFollow, EveryStatementFollows, EveryListFollows};
+ghost use Rattle.pfc_following_structures.specs.Structured.{NothingFollows, BlockFollows, ListFollows, IfFollows, IfElseFollows, CaseFollows, ArmListFollows, WhileFollows, RepeatFollows, ForeverFollows, ForFollows, CobeginFollows, AcceptFollows, AssignFollows, SendsFollow, ReceivesFollow, CallsFollow, RequeuesFollow, SelectStatementsFollow, EveryStatementFollows, EveryListFollows};
 
 /// Statements one behind the other follow their next action where each of them does; where there is none, on goes what is behind.
 pub fn lists_follow()
@@ -55,7 +55,12 @@ pub fn single_statements_follow()
     ensures requeues { (g : Setting) (b : Block) (env : Env) → RequeuesFollow g b env }
 {}
 
-/// Where each select follows its next action, every statement does, and so do statements one behind the other.
+/// So does a select, with an `else` part or without.
+pub fn select_statements_follow()
+    ensures { (g : Setting) (b : Block) (env : Env) → SelectStatementsFollow g b env }
+{}
+
+/// Every statement follows its next action, and so do statements one behind the other.
 pub fn every_statement_follows()
     ensures statement { (g : Setting) (b : Block) (env : Env) → EveryStatementFollows g b env }
     ensures list { (g : Setting) (b : Block) (env : Env) → EveryListFollows g b env }
@@ -69,8 +74,8 @@ pub fn ends_of_passes_follow()
     ensures replicated { (g : Setting) (b : Block) (env : Env) → ReplicaFollows g b env }
 {}
 
-/// What is left behind a statement follows its next action, where each select does. Of what is left while a select is gone through or while
-/// the guard of another process is tried, nothing is said.
+/// What is left behind a statement follows its next action, whatever it is: also while a select is gone through, and while a guard of a
+/// resource is tried, the own one or that of another process.
 pub fn remainders_follow()
     ensures { (g : Setting) → RemainderFollows g }
 {}

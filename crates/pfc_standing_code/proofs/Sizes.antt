@@ -269,7 +269,7 @@ sized_guarded s None inner p = p
 sized_guarded s (Some e) inner p =
     sized_both (expr_code s e) (over s JF inner.size ⨾ inner) (sized_expr s e) (sized_first s (λ at n. JF (at + 1 + inner.size)) inner p)
 
-sized_alternative : (s : Site) (a : Alternative) (branch : ℕ) → IsSized (alternative_code s a branch)
+pub sized_alternative : (s : Site) (a : Alternative) (branch : ℕ) → IsSized (alternative_code s a branch)
 sized_alternative s a branch =
     let inner = comm_code s a.next a.comm branch in
     sized_both (replica_code s a.replica) (guarded_code s a.guard inner) (sized_replica s a.replica) (sized_guarded s a.guard inner (sized_comm s a.next a.comm branch))

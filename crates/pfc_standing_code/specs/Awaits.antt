@@ -1,15 +1,15 @@
 -- Where code goes on with a value that is held on top of some operands, or with the address of a variable: what waits for them.
 --
 -- Of a value only its shape is asked, which is told before what waits for it.
-use Rattle.std.specs.Prelude.{ℕ, suc, ◌+◌, ◌<◌, ◌≤◌, ◌≡◌, ℤ, Bool, true, false, List, [], ◌∷◌, ◌++◌, length, Option, Some}
+use Rattle.std.specs.Prelude.{ℕ, suc, ◌+◌, ◌<◌, ◌≤◌, ◌≡◌, ℤ, Bool, true, false, List, [], ◌∷◌, ◌++◌, length, Option, Some, None}
 use Rattle.std.specs.List.{slice_get}
 use Rattle.pfc_code.specs.declared.instructions.Instr.{Instr}
 use Rattle.pfc_code.specs.declared.instructions.Instr.TheVariants.{LOAD, STORE, OBJ, NOT, JF, FORB, FORW, FORT, CALL, GRD, REQ, NEW, SCAN, SINI, SWAIT, SSIG, SEND, RECV, ECALL, ARMS, ARMR, ARMT, DELAY, RESUME, EMPTY, SLEEP, WRS}
-use Rattle.pfc_tree.specs.trees.Stmts.{StmtTree, while_do, repeat_until}
+use Rattle.pfc_tree.specs.trees.Stmts.{StmtTree, CommTree, while_do, repeat_until, comm_send, comm_receive}
 use Rattle.pfc_types.specs.Types.{semaphore, condition, is_simple}
 use Rattle.pfc_types.specs.Blocks.{module_at, process_at, entry_at}
 use Rattle.pfc_types.specs.rules.Expressions.{Env, expr_type}
-use Rattle.pfc_types.specs.rules.Statements.{scopes_in}
+use Rattle.pfc_types.specs.rules.Statements.{scopes_in, comm_scopes}
 use Rattle.pfc_types.specs.declared.types.TypeId.{TypeId}
 use Rattle.pfc_types.specs.declared.heads.Formal.{Formal}
 use Rattle.pfc_values.specs.declared.simple.Simple.{Simple}
@@ -35,7 +35,7 @@ use Rattle.pfc_standing_code.specs.Effects.{Arm}
 use Rattle.pfc_standing_code.specs.Typed.{IsArray, TakesCells, LeavesCells, HasShape, AreSummands, AreMultipliers, HasShapeSimple, AreArguments, AreSelectors, AreIndices}
 use Rattle.pfc_standing_code.specs.TypedStatements.{IsTyped, IsChannel, IsMessage, IsReceiver, IsRank, IsProcessType}
 use Rattle.pfc_standing_code.specs.Words.{IsWord, IsPart, IsSimpleWord, IsObject, AreHeld}
-use Rattle.pfc_standing_code.specs.Performs.{ArmsAt, StmtThen, direction, CommBranchAt, SelectAt, CommAt, WayAt, own_again, Clear, Performs}
+use Rattle.pfc_standing_code.specs.Performs.{ArmsAt, StmtThen, direction, BranchAt, SelectAt, CommAt, WayAt, own_again, Clear, Performs}
 
 -- `eof`, `eoln` and `clock` have no argument, and that of `empty` is no value
 abbrev pub has_argument : Function → Bool
@@ -73,13 +73,19 @@ PerformsAnywhere g b at ops k = (e : Env) → Performs g b e at ops [] k
 abbrev pub ObjectThen : Setting → Site → ℕ → List ℤ → Code → (ℕ → Type 0) → Type 0
 ObjectThen g s at ops code behind = IsAt g at OBJ s.line × (n : ℕ) × Stands g (at + 1) n (suc (length ops)) code × behind (at + 1 + code.size)
 
--- the instruction that makes an alternative of the operands, and what stands behind it
+-- the instruction that makes an alternative of the operands, and what stands behind it; the alternative is no accept
 pub record ArmAt (g : Setting) (s : Site) (x : Context) (at held : ℕ) (a : Alternative) (rest : List Alternative) (sel : Selecting) (arms : List Arm) (i : ℕ → Instr) (behind : ℕ → Type 0) : Type 0 where
   pub to : ℕ
   pub makes : IsAt g at (i to) s.line
-  pub branch : CommBranchAt g s x to held a a.comm behind
+  pub branch : BranchAt g s to held a.replica None (a.next + comm_scopes a.comm) a.stmts behind
   pub others : SelectAt g s x (at + 1) held rest sel arms behind
   pub room : length arms + 1 + length rest ≤ g.arms
+
+-- the alternative sends or receives
+abbrev pub HasMessage : CommTree → Type 0
+HasMessage (comm_send d e p) = Unit {0}
+HasMessage (comm_receive d v p) = Unit {0}
+HasMessage comm = ⊥
 
 -- ## What waits for a value, for the address of a variable, and for the arguments of a call
 
@@ -148,11 +154,11 @@ abbrev mutual
       Clear arms ((h ≡ a_number) × (i n : ℕ) × ArmsAt g s at i first n m 0 (length ops) alternatives
       × Performs g b x.env (first + (arms_code s m alternatives).size) ops [] k)
   TakesValue g b x at ops arms h (while_true m e t p k) =
-      Clear arms ((h ≡ a_number) × (line a : ℕ) × (at ≡ a + (expr_code (site_of g b (context x.env p.line)) e).size)
+      Clear arms ((h ≡ a_number) × (x.line ≡ p.line) × (line a : ℕ) × (at ≡ a + (expr_code (site_of g b (context x.env p.line)) e).size)
       × StmtThen g (site_of g b (context x.env line)) a (length ops) m (while_do e t p) (λ end. Performs g b x.env end ops [] k))
   TakesValue g b x at ops arms h (until_true m ts e p k) =
       let s = site_of g b (context x.env p.line) in
-      Clear arms ((h ≡ a_number) × (line a : ℕ) × (at ≡ a + (stmts_code s m ts).size + (expr_code s e).size)
+      Clear arms ((h ≡ a_number) × (x.line ≡ p.line) × (line a : ℕ) × (at ≡ a + (stmts_code s m ts).size + (expr_code s e).size)
       × StmtThen g (site_of g b (context x.env line)) a (length ops) m (repeat_until ts e p) (λ end. Performs g b x.env end ops [] k))
   TakesValue g b x at ops arms h (count_from m v down e t k) =
       let s = site_of g b x in
@@ -198,9 +204,9 @@ abbrev mutual
   TakesValue g b x at ops arms h (pass_own bar k) =
       Clear arms ((h ≡ a_number) × (g.trial ≡ of_own) × IsAt g at (GRD bar.resource) x.line × PerformsAnywhere g b (at + 1) ops k)
   TakesValue g b x at ops arms h (pass_other w scan k) =
-      Clear arms ((h ≡ a_number) × (turn : ℕ) × (c : Block) × (view : View) × (g.trial ≡ of_another turn) × TurnAt g turn scan × (at < turn)
+      Clear arms ((h ≡ a_number) × (turn : ℕ) × (seen : View) × (c : Block) × (g.trial ≡ of_another turn seen) × TurnAt g turn scan × (at < turn)
       × IsAt g at (GRD scan.resource) x.line
-      × WayAt (own_again g view) c scan.way g.behind_scan (length ops) (λ end. PerformsAnywhere (own_again g view) c end ops k))
+      × WayAt (own_again g) c scan.way g.behind_scan (length ops) (λ end. PerformsAnywhere (own_again g) c end ops k))
 
   pub TakesLocation : Setting → Block → Context → ℕ → List ℤ → List Arm → Option TypeId → AwaitsLocation → Type 0
   TakesLocation g b x at ops arms t (read_for u) =
@@ -253,20 +259,20 @@ abbrev mutual
       × ObjectThen g s at ops (receiver_code s d ⨾ one s (RECV (receiver_cells s d))) (λ end. Performs g b x.env end ops [] k))
   TakesLocation g b x at ops arms t (receive_into channel k) =
       let s = site_of g b x in
-      Clear arms ((c : Option TypeId) × (u : TypeId) × (n : ℤ) × (below : List ℤ) × (t ≡ Some u) × IsChannel (forms_of s) c u × (ops ≡ n ∷ below)
-      × IsObject g s channel c n × IsAt g at (RECV (shape_cells (forms_of s) (shape_of u))) x.line × Performs g b x.env (at + 1) below [] k)
+      Clear arms ((c : Option TypeId) × (u : TypeId) × (n : ℤ) × (below : List ℤ) × (t ≡ Some u) × (0 < shape_cells (forms_of s) (shape_of u))
+      × IsChannel (forms_of s) c u × (ops ≡ n ∷ below) × IsObject g s channel c n × IsAt g at (RECV (shape_cells (forms_of s) (shape_of u))) x.line × Performs g b x.env (at + 1) below [] k)
   TakesLocation g b x at ops arms t (offer_to m a rest sel k) =
       let s = site_of g b x in
-      (u : TypeId) × IsChannel (forms_of s) t u × IsMessage s m u × IsAt g at OBJ x.line
+      (u : TypeId) × IsChannel (forms_of s) t u × IsMessage s m u × IsAt g at OBJ x.line × HasMessage a.comm
       × CommAt g s x (at + 1) (suc (length ops)) (length ops) a rest sel arms (λ between. message_code s m ⨾ over s (λ to. ARMS (message_cells s m) to) between) (λ end. Performs g b x.env end ops [] k)
   TakesLocation g b x at ops arms t (offer_from d a rest sel k) =
       let s = site_of g b x in
-      (u : TypeId) × IsChannel (forms_of s) t u × IsReceiver s d u × IsAt g at OBJ x.line
+      (u : TypeId) × IsChannel (forms_of s) t u × IsReceiver s d u × IsAt g at OBJ x.line × HasMessage a.comm
       × CommAt g s x (at + 1) (suc (length ops)) (length ops) a rest sel arms (λ between. receiver_code s d ⨾ over s (λ to. ARMR (receiver_cells s d) to) between) (λ end. Performs g b x.env end ops [] k)
   TakesLocation g b x at ops arms t (offer_into channel a rest sel k) =
       let s = site_of g b x in
-      (c : Option TypeId) × (u : TypeId) × (n : ℤ) × (below : List ℤ) × (t ≡ Some u) × IsChannel (forms_of s) c u × (ops ≡ n ∷ below)
-      × IsObject g s channel c n
+      (c : Option TypeId) × (u : TypeId) × (n : ℤ) × (below : List ℤ) × (t ≡ Some u) × (0 < shape_cells (forms_of s) (shape_of u))
+      × IsChannel (forms_of s) c u × (ops ≡ n ∷ below) × IsObject g s channel c n
       × ArmAt g s x at (length below) a rest sel arms (λ to. ARMR (shape_cells (forms_of s) (shape_of u)) to) (λ end. Performs g b x.env end below [] k)
 
   -- what is called, over the operands below its arguments

@@ -1,14 +1,15 @@
 -- What quiet instructions do: those of operands alone, addresses, objects, the alternatives of a select, and the end of a guard.
-use Rattle.std.specs.Prelude.{ℕ, ◌+◌, ◌≤◌, ◌≡◌, ℤ, pos, int_lt, true, max, if◌then◌else◌, List, [], ◌∷◌, ◌++◌, length, take, drop, Option, Some, None}
+use Rattle.std.specs.Prelude.{ℕ, ◌+◌, ◌≤◌, ◌≡◌, ℤ, pos, int_lt, true, if◌then◌else◌, List, [], ◌∷◌, ◌++◌, length, take, drop, Option, Some, None}
 use Rattle.pfc_base.specs.declared.faults.RunFault.{RunFault}
 use Rattle.pfc_base.specs.declared.faults.RunFault.TheVariants.{Below}
 use Rattle.pfc_code.specs.declared.instructions.Instr.{Instr}
 use Rattle.pfc_code.specs.declared.instructions.Instr.TheVariants.{ADDR, REF, OBJ, GRD, ARMS, ARMR, ARMA, ARMT, ARMX}
+use Rattle.pfc_code.specs.Operands.{receiving}
 use Rattle.pfc_values.specs.Numbers.{is_true}
 use Rattle.pfc_machine.specs.Stacks.{operand}
-use Rattle.pfc_machine.specs.Fits.{needs, Reckons}
+use Rattle.pfc_machine.specs.Fits.{Reckons}
 use Rattle.pfc_machine.specs.Rows.{Alone, quiet, action, fault, more, alone}
-use Rattle.pfc_translation.specs.Operands.{takes, receiving}
+use Rattle.pfc_translation.specs.Operands.{reads}
 use Rattle.pfc_standing_code.specs.Settings.{View, Trial, Setting, of_own, of_another}
 
 -- an alternative of a select: the instruction that made it, and the operands that it took, top first
@@ -40,7 +41,7 @@ numbered at ops arms (Some n) = onward (at + 1) (n ∷ ops) arms
 -- the own guard goes on where it is true; that of a barred process goes to the next turn of the scan where it is false
 abbrev pub guarded : Trial → ℕ → ℤ → List ℤ → List Arm → Effect
 guarded of_own at v ops arms = if is_true v then onward (at + 1) ops arms else otherwise
-guarded (of_another turn) at v ops arms = if is_true v then otherwise else onward turn ops arms
+guarded (of_another turn seen) at v ops arms = if is_true v then otherwise else onward turn ops arms
 
 abbrev pub effect_of : Setting → Instr → ℕ → List ℤ → List Arm → Effect
 effect_of g (ADDR l d) at ops arms = onward (at + 1) (pos (g.view.first l + d) ∷ ops) arms
@@ -62,6 +63,6 @@ InSight view i = Unit {0}
 
 -- the operands that an instruction reads are there, what it reckons of an address is an address, and what it names is in view
 pub record CanPerform (g : Setting) (i : Instr) (ops : List ℤ) : Type 0 where
-  pub held : max (needs i) (takes g.program i) ≤ length ops
+  pub held : reads g.program i ≤ length ops
   pub reckons : Reckons i ops
   pub sight : InSight g.view i

@@ -1,15 +1,17 @@
 -- Code that follows the next action of a process: quiet instructions, each of which leads on, and then the action.
-use Rattle.std.specs.Prelude.{ℕ, suc, ◌+◌, ◌<◌, ◌≤◌, ◌≡◌, ℤ, true, List, [], ◌∷◌, ◌++◌, length, reverse, Option, Some, None, Ok, Err}
+use Rattle.std.specs.Prelude.{ℕ, suc, ◌+◌, ◌<◌, ◌≤◌, ◌≡◌, ℤ, true, false, List, [], ◌∷◌, ◌++◌, length, reverse, Option, Some, None, Ok, Err}
 use Rattle.std.specs.List.{slice_get}
 use Rattle.pfc_base.specs.declared.faults.RunFault.{RunFault}
 use Rattle.pfc_code.specs.declared.instructions.Instr.{Instr}
 use Rattle.pfc_code.specs.declared.instructions.Instr.TheVariants.{LOAD, STORE, TURN, FORW, FORT, GRD, COEND, SINI, SWAIT, SSIG, SEND, RECV, ACC, EACC, DELAY, RESUME, EMPTY, SLEEP, CLOCK, RAND, WRS, WRNL, RDNL, EOF, EOLN}
+use Rattle.pfc_tree.specs.trees.Stmts.{no_stmts}
 use Rattle.pfc_types.specs.Types.{semaphore, condition}
 use Rattle.pfc_types.specs.rules.Expressions.{Env}
 use Rattle.pfc_types.specs.declared.types.TypeId.{TypeId}
 use Rattle.pfc_types.specs.declared.heads.Formal.{Formal}
 use Rattle.pfc_values.specs.declared.simple.Simple.{Simple}
 use Rattle.pfc_values.specs.Pieces.{shown, padded}
+use Rattle.pfc_values.specs.Numbers.{is_true}
 use Rattle.pfc_machine.specs.Rows.{is_before, value_behind}
 use Rattle.pfc_semantics.specs.Values.{Value, ordinal}
 use Rattle.pfc_semantics.specs.Displays.{Spot}
@@ -50,6 +52,10 @@ pub data IsWrite (g : Setting) (b : Block) (x : Context) (at : ℕ) (ops : List 
 pub data IsTurn (g : Setting) (b : Block) (x : Context) (at : ℕ) (ops : List ℤ) (k : Remainder) : Type 0 where
   of_loop : (a : ℕ) → IsAt g at (TURN a) x.line → Performs g b x.env a ops [] k → IsTurn g b x at ops k
   of_count : (d a : ℕ) (last kept w : ℤ) (below : List ℤ) → ops ≡ last ∷ kept ∷ w ∷ below → is_before d kept last ≡ true → IsAt g at (FORT d a) x.line → Performs g b x.env a (last ∷ value_behind d kept ∷ w ∷ below) [] k → IsTurn g b x at ops k
+
+-- a plain `!`, `?` or `accept` has no statements of its own, and writes no variable again
+abbrev pub IsPlain : Open → Type 0
+IsPlain o = (o.replica ≡ None) × (o.stmts ≡ no_stmts)
 
 -- A plain communication: its operands, its instruction, and what is left; behind an accept its statement and its end come first.
 abbrev pub MeetsBy : Setting → Block → Context → ℕ → List ℤ → Open → Offer → Remainder → Type 0
@@ -103,7 +109,7 @@ ArrivedBy g b at ops arms (delays x v n k) =
     Clear arms ((rest : List ℤ) × (ops ≡ n ∷ rest) × ObjectAt g b x at rest v condition DELAY k)
 ArrivedBy g b at ops arms (resumes x v k) = Clear arms (ObjectAt g b x at ops v condition RESUME k)
 ArrivedBy g b at ops arms (sleeps x n k) = Clear arms ((below : List ℤ) × (ops ≡ n ∷ below) × IsAt g at SLEEP x.line × Performs g b x.env (at + 1) below [] k)
-ArrivedBy g b at ops arms (meets x o k) = Clear arms (MeetsBy g b x at ops o o.offer k)
+ArrivedBy g b at ops arms (meets x o k) = Clear arms (IsPlain o × MeetsBy g b x at ops o o.offer k)
 ArrivedBy g b at ops arms (decides x sel k) =
     let s = site_of g b x in
     let behind = λ (end : ℕ). Performs g b x.env end ops [] k in
@@ -111,12 +117,13 @@ ArrivedBy g b at ops arms (decides x sel k) =
 ArrivedBy g b at ops arms (parts x caller k) = Clear arms (IsAt g at EACC x.line × Performs g b x.env (at + 1) ops [] k)
 -- a turn of the process itself, or behind the false guard of a barred process
 ArrivedBy g b at ops arms (scans x scan k) =
-    Clear arms ((view : View) × TurnAt g at scan × WayAt (own_again g view) b scan.way g.behind_scan (length ops) (λ end. PerformsAnywhere (own_again g view) b end ops k))
+    Clear arms (TurnAt g at scan × WayAt (own_again g) b scan.way g.behind_scan (length ops) (λ end. PerformsAnywhere (own_again g) b end ops k))
 ArrivedBy g b at ops arms (bars x bar k) =
-    Clear arms ((v : ℤ) × (below : List ℤ) × (ops ≡ v ∷ below) × (g.trial ≡ of_own) × IsAt g at (GRD bar.resource) x.line × PerformsAnywhere g b (at + 1) below k)
+    Clear arms ((v : ℤ) × (below : List ℤ) × (ops ≡ v ∷ below) × (is_true v ≡ false) × (g.trial ≡ of_own) × IsAt g at (GRD bar.resource) x.line
+    × PerformsAnywhere g b (at + 1) below k)
 ArrivedBy g b at ops arms (passes x w scan k) =
-    Clear arms ((v : ℤ) × (below : List ℤ) × (turn : ℕ) × (view : View) × (ops ≡ v ∷ below) × (g.trial ≡ of_another turn) × IsAt g at (GRD scan.resource) x.line
-    × WayAt (own_again g view) b scan.way g.behind_scan (length below) (λ end. PerformsAnywhere (own_again g view) b end below k))
+    Clear arms ((v : ℤ) × (below : List ℤ) × (turn : ℕ) × (seen : View) × (ops ≡ v ∷ below) × (is_true v ≡ true) × (g.trial ≡ of_another turn seen)
+    × IsAt g at (GRD scan.resource) x.line × WayAt (own_again g) b scan.way g.behind_scan (length below) (λ end. PerformsAnywhere (own_again g) b end below k))
 ArrivedBy g b at ops arms (faults x f) = IsFault g x.line at ops arms f
 
 -- the names in view at an action; an end and a fault need none

@@ -2,7 +2,7 @@
 --
 -- Everything is said of a place of the code, of the operands that are held there, top first, and of the alternatives of a select that is
 -- gone through. All but such a select begins without alternatives.
-use Rattle.std.specs.Prelude.{ℕ, ◌+◌, ◌≤◌, ◌≡◌, ℤ, pos, int_lt, Bool, false, if◌then◌else◌, List, [], ◌∷◌, ◌++◌, length, drop, reverse, Option, Some, None}
+use Rattle.std.specs.Prelude.{ℕ, ◌+◌, ◌<◌, ◌≤◌, ◌≡◌, ℤ, pos, int_lt, Bool, false, if◌then◌else◌, List, [], ◌∷◌, ◌++◌, length, drop, reverse, Option, Some, None}
 use Rattle.pfc_code.specs.declared.instructions.Instr.TheVariants.{TURN, FORW, FORT, CERR, GRD, SCAN, COEND, EACC, ARMS, ARMR, ARMA, ARMT, ARMX, SEL}
 use Rattle.pfc_tree.specs.trees.Stmts.{StmtTree, StmtTrees, ArmTrees, CommTree, repeat_until, comm_accept, terminate}
 use Rattle.pfc_types.specs.rules.Expressions.{Env}
@@ -22,7 +22,7 @@ use Rattle.pfc_translation.specs.Calls.{writes_code, reads_code}
 use Rattle.pfc_translation.specs.Statements.{stmt_code, stmts_code, tests_code, arms_code}
 use Rattle.pfc_translation.specs.Selects.{accept_cell, accept_cells, replica_code, comm_code, guarded_code, alternatives_code, first_of}
 use Rattle.pfc_standing_code.specs.Shapes.{a_number, shape_of, shape_cells, IsOf, words_of}
-use Rattle.pfc_standing_code.specs.Settings.{View, Setting, of_own, of_another, site_of, IsAt, Stands, Jumped}
+use Rattle.pfc_standing_code.specs.Settings.{View, Trial, Setting, of_own, of_another, site_of, IsAt, Stands, Jumped}
 use Rattle.pfc_standing_code.specs.Effects.{Arm}
 use Rattle.pfc_standing_code.specs.Typed.{HasShape}
 use Rattle.pfc_standing_code.specs.TypedStatements.{IsChannel, IsTyped, AreTyped, AreArmsTyped, AreWritten, AreRead, IsReplica, IsGuard, IsComm, AreAlternatives}
@@ -79,11 +79,11 @@ MetAt g s at held None m ts behind = StmtsThen g s at held m ts behind
 MetAt g s at held (Some a) m ts behind =
     StmtThen g (in_accept s a.scope) at held (a.scope + 1) a.stmt (λ to. IsAt g to EACC a.line × StmtsThen g s (to + 1) held m ts behind)
 
--- the branch of an alternative: a replicated one writes its variable again
+-- the branch of an alternative: a replicated one writes its variable again, at the line of the select
 abbrev pub BranchAt : Setting → Site → ℕ → ℕ → Option Replica → Option Accepting → ℕ → StmtTrees → (ℕ → Type 0) → Type 0
 BranchAt g s at held None met m ts behind = MetAt g s at held met m ts behind
 BranchAt g s at held (Some r) met m ts behind =
-    IsReplica s (Some r) × (n : ℕ) × Stands g at n held (replica_code s (Some r))
+    (r.line ≡ s.line) × IsReplica s (Some r) × (n : ℕ) × Stands g at n held (replica_code s (Some r))
     × Jumped g (at + (replica_code s (Some r)).size) (λ to. MetAt g s to held met m ts behind)
 
 -- the accept that an alternative is
@@ -102,11 +102,11 @@ BranchesAt g s x first held [] distances behind = Unit {0}
 BranchesAt g s x first held (a ∷ alts) distances behind =
     CommBranchAt g s x (first + first_of distances) held a a.comm behind × BranchesAt g s x first held alts (drop 1 distances) behind
 
--- the decision of a select, with its `else` part
+-- the decision of a select, with its `else` part, which stands behind it: without one the instruction has the address 0
 abbrev pub DecidesAt : Setting → Site → ℕ → ℕ → Bool → Option Otherwise → (ℕ → Type 0) → Type 0
 DecidesAt g s at held pri None behind = IsAt g at (SEL (if pri then 1 else 0) 0) s.line
 DecidesAt g s at held pri (Some other) behind =
-    (to : ℕ) × IsAt g at (SEL (if pri then 1 else 0) to) s.line × StmtsThen g s to held other.next other.stmts behind
+    (to : ℕ) × IsAt g at (SEL (if pri then 1 else 0) to) s.line × (at < to) × StmtsThen g s to held other.next other.stmts behind
 
 -- alternatives stand from here on up to the decision, and each has its branch
 pub record AlternativesAt (g : Setting) (s : Site) (x : Context) (at held : ℕ) (alts : List Alternative) (sel : Selecting) (behind : ℕ → Type 0) : Type 0 where
@@ -122,9 +122,9 @@ pub data IsSent (g : Setting) (s : Site) (channel : Spot) (v : Value) (z : ℕ) 
   of_message : (t : Option TypeId) (u : TypeId) (n : ℤ) → IsChannel (forms_of s) t u → IsObject g s channel t n → IsOf (forms_of s) u v → z ≡ shape_cells (forms_of s) (shape_of u) → ops ≡ reverse (words_of v) ++ n ∷ [] → IsSent g s channel v z ops
   of_signal : (t : Option TypeId) (u : TypeId) (n : ℤ) → IsChannel (forms_of s) t u → IsObject g s channel t n → v ≡ a_signal → z ≡ 0 → ops ≡ n ∷ [] → IsSent g s channel v z ops
 
--- those of a receive: the variable's address over the channel's number, or the number alone
+-- those of a receive: the variable's address over the channel's number, or the number alone, which the instruction tells by the cells
 pub data IsReceived (g : Setting) (s : Site) (channel : Spot) (z : ℕ) (ops : List ℤ) : Option Spot → Type 0 where
-  into_variable : (t : Option TypeId) (u : TypeId) (n w : ℤ) (target : Spot) → IsChannel (forms_of s) t u → IsObject g s channel t n → IsWord g.view s target (Some u) w → z ≡ shape_cells (forms_of s) (shape_of u) → ops ≡ w ∷ n ∷ [] → IsReceived g s channel z ops (Some target)
+  into_variable : (t : Option TypeId) (u : TypeId) (n w : ℤ) (target : Spot) → IsChannel (forms_of s) t u → IsObject g s channel t n → IsWord g.view s target (Some u) w → z ≡ shape_cells (forms_of s) (shape_of u) → 0 < z → ops ≡ w ∷ n ∷ [] → IsReceived g s channel z ops (Some target)
   into_nothing : (t : Option TypeId) (u : TypeId) (n : ℤ) → IsChannel (forms_of s) t u → IsObject g s channel t n → z ≡ 0 → ops ≡ n ∷ [] → IsReceived g s channel z ops None
 
 -- an alternative of the machine is an open one: its operands are those of what is offered, and it leads to its branch
@@ -153,7 +153,7 @@ pub record SelectAt (g : Setting) (s : Site) (x : Context) (at held : ℕ) (alts
   pub room : length arms + length alts ≤ g.arms
 
 -- What an open alternative waits for is evaluated here, over so many operands; its branch begins so many instructions behind the code, over those
--- that are held without it.
+-- that are held without it. There is room for it among the alternatives.
 pub record CommAt (g : Setting) (s : Site) (x : Context) (at above held : ℕ) (a : Alternative) (rest : List Alternative) (sel : Selecting) (arms : List Arm) (code : ℕ → Code) (behind : ℕ → Type 0) : Type 0 where
   pub comm : IsComm s a.comm
   pub between : ℕ
@@ -161,6 +161,7 @@ pub record CommAt (g : Setting) (s : Site) (x : Context) (at above held : ℕ) (
   pub stands : Stands g at n above (code between)
   pub branch : CommBranchAt g s x (at + (code between).size + between) held a a.comm behind
   pub others : SelectAt g s x (at + (code between).size) held rest sel arms behind
+  pub room : length arms + 1 + length rest ≤ g.arms
 
 -- ## Guards of a resource
 
@@ -177,8 +178,12 @@ WayAt g b leave at held behind = behind at
 WayAt g b (own bar) at held behind = (g.trial ≡ of_own) × GuardAt g b bar at held behind
 
 -- the view and the trial of the process itself, where it may be trying the guard of another
-abbrev pub own_again : Setting → View → Setting
-own_again g view = record g { view = view; trial = of_own }
+abbrev pub own_view : Trial → View → View
+own_view of_own view = view
+own_view (of_another at seen) view = seen
+
+abbrev pub own_again : Setting → Setting
+own_again g = record g { view = own_view g.trial g.view; trial = of_own }
 
 -- ## What is left behind a statement
 
@@ -223,9 +228,9 @@ Performs g b env at ops arms (go_through line a rest sel k) = Jumped g at (λ to
 Performs g b env at ops arms (try_guard bar k) = Clear arms (Jumped g at (λ to.
     (g.trial ≡ of_own) × GuardAt g b bar to (length ops) (λ end. (e : Env) → Performs g b e end ops [] k)))
 Performs g b env at ops arms (scan_on scan k) = Clear arms (Jumped g at (λ to.
-    (view : View) × IsAt g to (SCAN scan.resource) scan.line
-    × WayAt (own_again g view) b scan.way g.behind_scan (length ops) (λ end. (e : Env) → Performs (own_again g view) b e end ops [] k)))
+    IsAt g to (SCAN scan.resource) scan.line
+    × WayAt (own_again g) b scan.way g.behind_scan (length ops) (λ end. (e : Env) → Performs (own_again g) b e end ops [] k)))
 Performs g b env at ops arms (try_other w scan k) = Clear arms (Jumped g at (λ to.
-    (turn : ℕ) × (c : Block) × (view : View) × (g.trial ≡ of_another turn) × IsAt g turn (SCAN scan.resource) scan.line
-    × GuardAt g c w.bar to (length ops) (λ end. end ≤ turn)
-    × WayAt (own_again g view) b scan.way g.behind_scan (length ops) (λ end. (e : Env) → Performs (own_again g view) b e end ops [] k)))
+    (turn : ℕ) × (seen : View) × (c : Block) × (g.trial ≡ of_another turn seen) × IsAt g turn (SCAN scan.resource) scan.line
+    × (w.bar.resource ≡ scan.resource) × GuardAt g c w.bar to (length ops) (λ end. end ≤ turn)
+    × WayAt (own_again g) b scan.way g.behind_scan (length ops) (λ end. (e : Env) → Performs (own_again g) b e end ops [] k)))

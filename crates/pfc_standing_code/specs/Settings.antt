@@ -19,10 +19,11 @@ pub record View : Type 0 where
   pub first : ℕ → ℕ
   pub held : ℕ → ℕ → ℕ
 
--- whose guard a `GRD` ends: the own one, or in a scan that of a barred process, where the next turn stands at this address
+-- whose guard a `GRD` ends: the own one, or in a scan that of a barred process, where the next turn stands at this address, and this is what the
+-- process that scans sees itself
 pub data Trial : Type 0 where
   of_own : Trial
-  of_another : ℕ → Trial
+  of_another : ℕ → View → Trial
 
 pub record Setting : Type 0 where
   pub program : Program

@@ -1,0 +1,3 @@
+pub mod Locations
+pub mod Values
+pub mod Anywhere

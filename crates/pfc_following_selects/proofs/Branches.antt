@@ -1,0 +1,80 @@
+-- The branch of an alternative performs what is left behind it.
+use Rattle.std.proofs.Common.{◌≡◌, ℕ, ◌+◌, ℤ, List, [], length, Option, Some, None, refl, sym, subst, arith}
+use Rattle.pfc_tree.specs.trees.Stmts.{StmtTrees, no_stmts, more_stmts}
+use Rattle.pfc_types.specs.rules.Statements.{within_accept}
+use Rattle.pfc_semantics.specs.Programs.{Block}
+use Rattle.pfc_semantics.specs.Remainders.{Context, Replica, Accepting, Remainder, perform, in_names, part_from, write_again}
+use Rattle.pfc_semantics.specs.Alternatives.{context}
+use Rattle.pfc_semantics.specs.Channels.{behind_replica}
+use Rattle.pfc_semantics.specs.Statements.{behind}
+use Rattle.pfc_translation.specs.Codes.{nothing, ◌⨾◌}
+use Rattle.pfc_translation.specs.Selects.{replica_code}
+use Rattle.pfc_translation.specs.Statements.{stmt_code}
+use Rattle.pfc_standing_code.specs.Settings.{Setting, site_of, Stands, arrived}
+use Rattle.pfc_standing_code.specs.TypedStatements.{IsReplica}
+use Rattle.pfc_standing_code.specs.Words.{IsChecked}
+use Rattle.pfc_standing_code.specs.Performs.{StmtsAt, MetAt, BranchAt, Performs}
+use Rattle.pfc_translation.specs.Sites.{in_accept}
+use Rattle.pfc_following_selects.specs.Phrases.{Behind, BranchPerforms, MeetingPerforms}
+use Rattle.pfc_following_selects.proofs.Jumps.{performs_led, performs_at, stands_alone, behind_performs}
+
+module _ (g : Setting) (b : Block) (x : Context) where
+  -- the write of a replicated alternative, before what is left then
+  written_performs :
+      (r : Replica) (n : ℕ) (k : Remainder) (at : ℕ) (ops : List ℤ)
+      → r.line ≡ x.line → IsReplica (site_of g b x) (Some r) → Stands g at n (length ops) (replica_code (site_of g b x) (Some r))
+      → Performs g b x.env (at + (replica_code (site_of g b x) (Some r)).size) ops [] k → Performs g b x.env at ops [] (write_again r k)
+  written_performs r n k at ops same is st rest = (
+    refl,
+    (
+      at,
+      arrived at,
+      (
+        subst (λ (l : ℕ). IsReplica (site_of g b (context x.env l)) (Some r)) (sym same) is,
+        n,
+        subst (λ (l : ℕ). Stands g at n (length ops) (replica_code (site_of g b (context x.env l)) (Some r))) (sym same) st,
+        subst (λ (l : ℕ). Performs g b x.env (at + (replica_code (site_of g b (context x.env l)) (Some r)).size) ops [] k) (sym same) rest,
+      ),
+    ),
+  )
+
+  pub branch_performs : BranchPerforms g b x
+  branch_performs None m ts k at ops h = behind_performs g b x.env x.line m ts k at ops h
+  branch_performs (Some r) m ts k at ops h =
+      let end = at + (replica_code (site_of g b x) (Some r)).size in
+      written_performs r h.2 (behind m ts k) at ops h.0 h.1 h.3
+      (performs_led g b x.env (behind m ts k) end h.4.0 ops [] h.4.1 (behind_performs g b x.env x.line m ts k h.4.0 ops h.4.2))
+
+  -- ## Meetings
+
+  -- behind the write
+  abbrev met : Accepting → ℕ → StmtTrees → ℕ → Remainder → Remainder
+  met a m ts caller k =
+      in_names (within_accept x.env a.scope)
+      (perform (a.scope + 1) (more_stmts a.stmt no_stmts) (part_from caller a.line (in_names x.env (behind m ts k))))
+
+  met_performs :
+      (a : Accepting) (m : ℕ) (ts : StmtTrees) (caller : ℕ) (k : Remainder) (at : ℕ) (ops : List ℤ)
+      → IsChecked g b x.env → IsChecked g b (within_accept x.env a.scope) → MetAt g (site_of g b x) at (length ops) (Some a) m ts (Behind g b x ops k)
+      → Performs g b x.env at ops [] (met a m ts caller k)
+  met_performs a m ts caller k at ops outer inner h =
+      let s = in_accept (site_of g b x) a.scope in
+      let code = stmt_code s (a.scope + 1) a.stmt in
+      let to = at + code.size in
+      let all : StmtsAt g s at h.0 (length ops) (a.scope + 1) (more_stmts a.stmt no_stmts) = record { typed = (h.1.typed, tt); code = stands_alone g at h.0 (length ops) code h.1.code } in
+      let left = part_from caller a.line (in_names x.env (behind m ts k)) in
+      let parts : Performs g b (within_accept x.env a.scope) to ops [] left = (refl, (to, arrived to, (h.2.0, (b, outer, behind_performs g b x.env x.line m ts k (to + 1) ops h.2.1)))) in
+      (b, inner, (refl, (at, arrived at, (x.line, (h.0, all, performs_at g b (within_accept x.env a.scope) left to (at + (code ⨾ nothing).size) ops (omega arith) parts)))))
+
+  meeting_by :
+      (r : Option Replica) (a : Accepting) (m : ℕ) (ts : StmtTrees) (caller : ℕ) (k : Remainder) (at : ℕ) (ops : List ℤ)
+      → IsChecked g b x.env → IsChecked g b (within_accept x.env a.scope) → BranchAt g (site_of g b x) at (length ops) r (Some a) m ts (Behind g b x ops k)
+      → Performs g b x.env at ops [] (behind_replica r (met a m ts caller k))
+  meeting_by None a m ts caller k at ops outer inner h = met_performs a m ts caller k at ops outer inner h
+  meeting_by (Some r) a m ts caller k at ops outer inner h =
+      let end = at + (replica_code (site_of g b x) (Some r)).size in
+      written_performs r h.2 (met a m ts caller k) at ops h.0 h.1 h.3
+      (performs_led g b x.env (met a m ts caller k) end h.4.0 ops [] h.4.1 (met_performs a m ts caller k h.4.0 ops outer inner h.4.2))
+
+  pub meeting_performs : MeetingPerforms g b x
+  meeting_performs o a caller k at ops outer inner h = meeting_by o.replica a o.next o.stmts caller k at ops outer inner h

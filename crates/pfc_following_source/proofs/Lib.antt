@@ -1,0 +1,4 @@
+mod Places
+mod Source
+mod Seen
+mod Behind

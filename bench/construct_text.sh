@@ -1,6 +1,6 @@
 #!/bin/bash
-# Prints an ordinary program without a fault, of about so many bytes, in which every construct occurs: servers with entries, selects and
-# requeues, workers with semaphores and channels, monitors, resources, procedures and functions.
+# Prints an ordinary program without a fault, of about so many bytes, in which every construct occurs: servers with entries, selects of all
+# kinds and requeues, workers with semaphores and channels, monitors, resources, procedures and functions, input and output.
 # Usage: construct_text.sh BYTES
 awk -v bytes="$1" '
 function put(line) { text = text line "\n" }
@@ -33,12 +33,29 @@ function server(k) {
     put("    lines[number mod 3] ! value + turn;")
     put("    lines[turn mod 3] ? value;")
     put("    line.first := value; line.second := line.first - turn;")
+    put("    select ticks ! any; else null end;")
     put("    case line.second mod 3 of")
     put("      0: sleep(1);")
     put("      1, 2: value := random(10) + line.second div 2")
     put("    end;")
     put("    writeln(\x27worker \x27, number, \x27 has \x27, value:6)")
     put("  end")
+    put("end;")
+}
+function bystander(k) {
+    put("process type bystander" k ";")
+    put("  entry go;")
+    put("var seen: integer;")
+    put("begin")
+    put("  repeat")
+    put("    pri select")
+    put("      accept go do write(\x27seen \x27, seen:1); seen := seen + 1;")
+    put("    or")
+    put("      ticks ? any;")
+    put("    or")
+    put("      terminate")
+    put("    end")
+    put("  forever")
     put("end;")
 }
 function monitor(k) {
@@ -84,6 +101,8 @@ function work(k) {
     put("  total := 0; (* the sum so far *)")
     put("  for i := 1 to size do")
     put("    begin slot[i] := half(i * n) + i mod 3; total := total + slot[i] end;")
+    put("  for i := size downto 1 do if odd(i) then null else slot[i] := succ(slot[i]);")
+    put("  if eof then total := clock else if eoln then readln else read(i);")
     put("  repeat total := total + 1 until (total >= 1) and (total <> 2147483647);")
     put("  store" k ".keep(total); gate" k ".enter; gate" k ".leave;")
     put("  store" k ".take(result)")
@@ -91,13 +110,13 @@ function work(k) {
 }
 BEGIN {
     put("program constructs;")
-    put("var count, total: integer; permits: semaphore; lines: array[0..2] of channel of integer;")
-    while (length(text) + length(declared) + length(calls) < bytes - 3900) {
+    put("var count, total: integer; permits: semaphore; lines: array[0..2] of channel of integer; ticks: channel of synchronous;")
+    while (length(text) + length(declared) + length(calls) < bytes - 4700) {
         k++
-        server(k); monitor(k); resource(k); work(k)
-        declared = declared "  servers" k ": server" k "; workers" k ": array[1..2] of worker" k ";\n"
+        server(k); bystander(k); monitor(k); resource(k); work(k)
+        declared = declared "  servers" k ": server" k "; bystanders" k ": bystander" k "; workers" k ": array[1..2] of worker" k ";\n"
         calls = calls "  work" k "(" k ", total); write(\x27the total is \x27, total:12); writeln;\n"
-        calls = calls "  cobegin servers" k "; workers" k "[1](3); workers" k "[2](" k " mod 5) coend;\n"
+        calls = calls "  cobegin servers" k "; bystanders" k "; workers" k "[1](3); workers" k "[2](" k " mod 5) coend;\n"
     }
     printf "%svar\n%sbegin\n  initial(permits, 1);\n%send.\n", text, declared, calls
 }'

@@ -95,8 +95,9 @@ fn delay(args: &[Actual], site: Site, coder: &mut Coder) -> Result<(), EmitFault
     ensures large { let s = site_view site.entry in
         IfErr result (λ fault. fault ≡ Full → IsTooLarge (calls.procedure_code s delay (actuals_view args.now)) coder.old) }
 {
+    let ranked = second(args);
     first_object(args, site, coder)?;
-    rank(second(args), site, coder)?;
+    rank(ranked, site, coder)?;
     coder.put(Instr::DELAY, site)
 }
 

@@ -8,7 +8,7 @@ use Rattle.pfc_translation.specs.Codes.{Code, Lined}
 use Rattle.pfc_translation.specs.Images.{Piece, a_body, an_initial, a_resource, Coded, coded, body_code, statements_code, scan_code, is_initial, before_main, of_main, put_from, size_of, strings_in, scan_at, scans_from}
 use Rattle.pfc_expression_code.specs.Putting.{IsMade}
 use Rattle.pfc_blocks.specs.Making.{Placing}
-use Rattle.pfc_generator.specs.Making.{Standing, nothing_made, placing, IsPut, body_placing, placings_from, AreSized, IsComplete}
+use Rattle.pfc_generator.specs.Making.{SoFar, nothing_made, placing, IsPut, body_placing, placings_from, AreSized, IsComplete}
 
 pub none_complete : (g : Program) (all : List Coded) → IsComplete g all all nothing_made
 none_complete g all = record {
@@ -22,7 +22,7 @@ none_complete g all = record {
   initials = refl;
 }
 
-module _ (g : Program) (all rest : List Coded) (c : Coded) (x y : Standing) (is : IsComplete g all (c ∷ rest) x) where
+module _ (g : Program) (all rest : List Coded) (c : Coded) (x y : SoFar) (is : IsComplete g all (c ∷ rest) x) where
   -- one that keeps its code
   kept_next :
       (one : List Placing) (scan : List ℕ) → is_initial c.piece ≡ false → c.strings ≡ length x.made.texts → IsMade c.code x.made y.made
@@ -97,9 +97,9 @@ module _ (g : Program) (all rest : List Coded) (c : Coded) (x y : Standing) (is 
             ∙ is.initials;
       }
 
-module _ (g : Program) (all : List Coded) (ps : List Piece) (x y : Standing) where
+module _ (g : Program) (all : List Coded) (ps : List Piece) (x y : SoFar) where
   -- the pieces that are left behind one
-  abbrev left : Standing → Code → ℕ → List Coded
+  abbrev left : SoFar → Code → ℕ → List Coded
   left before c resources = coded g (length before.scans + resources) (length before.made.texts + length c.texts) ps
 
   -- are those that are left now

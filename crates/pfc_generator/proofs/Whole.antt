@@ -6,12 +6,12 @@ use Rattle.pfc_semantics.specs.Programs.{Program}
 use Rattle.pfc_translation.specs.Codes.{Lined}
 use Rattle.pfc_translation.specs.Images.{Piece, Coded, coded, body_code, before_main, of_main, put_from, size_of, strings_in, most_arms, scans_from}
 use Rattle.pfc_expression_code.specs.Putting.{Made, IsMade}
-use Rattle.pfc_generator.specs.Making.{Standing, placings_from, AreSized, AreOrdered, IsComplete}
+use Rattle.pfc_generator.specs.Making.{SoFar, placings_from, AreSized, AreOrdered, IsComplete}
 use Rattle.pfc_generator.specs.Whole.{main_coded, whole_code}
 use Rattle.pfc_generator.proofs.Ordering.{all_ordered, arms_of_main, put_both}
 use Rattle.pfc_generator.proofs.Placed.{drop_front}
 
-module _ (g : Program) (ps : List Piece) (x : Standing) (is : IsComplete g (coded g 0 0 ps) [] x) where
+module _ (g : Program) (ps : List Piece) (x : SoFar) (is : IsComplete g (coded g 0 0 ps) [] x) where
   abbrev parts : List Coded
   parts = coded g 0 0 ps
 

@@ -8,13 +8,13 @@ use Rattle.pfc_expression_code.specs.Putting.{Made, IsMade}
 use Rattle.pfc_blocks.specs.Making.{Placing}
 
 -- what is made so far: the code without that of initialising bodies, the bodies in it, the address of each `SCAN`, and the initialising bodies
-pub record Standing : Type 0 where
+pub record SoFar : Type 0 where
   pub made : Made
   pub placed : List Placing
   pub scans : List ℕ
   pub initials : List Coded
 
-abbrev pub nothing_made : Standing
+abbrev pub nothing_made : SoFar
 nothing_made = record { made = record { code = []; texts = []; arms = 0 }; placed = []; scans = []; initials = [] }
 
 -- a body with this code, which is put from an address on
@@ -22,8 +22,8 @@ abbrev pub placing : Program → ℕ → Block → Code → Placing
 placing g at b c =
     record { block = b; entry = at; body = at + (guard_code g b b.guard).size; end = at + c.size; level = level_of g.state.blocks b }
 
--- The code of a piece was put. That of an initialising body was cut away, but its strings and its selects count.
-abbrev pub IsPut : Program → Piece → Standing → Standing → Type 0
+-- The code of a piece was put. That of an initialising body was not, but its strings and its selects count.
+abbrev pub IsPut : Program → Piece → SoFar → SoFar → Type 0
 IsPut g (a_body b) x y =
     IsMade (body_code g b) x.made y.made
     × ((y.placed ≡ x.placed ++ placing g (length x.made.code) b (body_code g b) ∷ []) × ((y.scans ≡ x.scans) × (y.initials ≡ x.initials)))
@@ -54,7 +54,7 @@ AreSized at [] = Unit {0}
 AreSized at (c ∷ cs) = (length (c.code.put at c.strings) ≡ c.code.size) × AreSized (at + c.code.size) cs
 
 -- what is made, with the pieces that are left, comes to all pieces
-pub record IsComplete (g : Program) (all left : List Coded) (x : Standing) : Type 0 where
+pub record IsComplete (g : Program) (all left : List Coded) (x : SoFar) : Type 0 where
   pub code : x.made.code ++ put_from (length x.made.code) (before_main left) ≡ put_from 0 (before_main all)
   pub size : length x.made.code + size_of (before_main left) ≡ size_of (before_main all)
   pub sized : AreSized (length x.made.code) (before_main left) → AreSized 0 (before_main all)

@@ -6,7 +6,7 @@ use Rattle.pfc_program.specs.declared.tables.Tables.{Tables}
 use Rattle.pfc_program.specs.declared.program.Program.{Program as HeldProgram}
 use Rattle.pfc_addresses.specs.Sites.{whole_view}
 use Rattle.pfc_blocks.specs.Making.{placing_view}
-use Rattle.pfc_generator.specs.Making.{Standing}
+use Rattle.pfc_generator.specs.Making.{SoFar}
 use Rattle.pfc_generator.specs.declared.pieces.Piece.{Piece as HeldPiece}
 use Rattle.pfc_generator.specs.declared.pieces.Piece.TheVariants.{Body, Initial, Resource}
 use Rattle.pfc_generator.specs.declared.making.Making.{Making}
@@ -29,8 +29,8 @@ initial_view program i =
 abbrev pub initials_view : HeldProgram → List HeldInitial → List Coded
 initials_view program all = map (λ i. initial_view program i) all
 
-abbrev pub standing : HeldProgram → Making → Standing
-standing program m = record {
+abbrev pub so_far : HeldProgram → Making → SoFar
+so_far program m = record {
   made = m.coder;
   placed = map (λ p. placing_view program.tables p) m.placed.items;
   scans = m.scans.items;

@@ -3,14 +3,14 @@ ghost use Rattle.std.specs.Prelude.{◌≡◌, ◌+◌, ◌≤◌, Some, length,
 ghost use Rattle.pfc_types.specs.declared.heads.SubHead.{SubHead};
 ghost use Rattle.pfc_semantics.specs.Layouts as layouts;
 ghost use Rattle.pfc_translation.specs.Sites.{level_of};
-ghost use Rattle.pfc_translation.specs.Codes.{one};
+ghost use Rattle.pfc_translation.specs.Codes.{one, unseen};
 ghost use Rattle.pfc_translation.specs.Images as images;
 ghost use Rattle.pfc_program.specs.Views.{block_view};
 ghost use Rattle.pfc_addresses.specs.Sites.{program_of, tables_of, whole_view};
 ghost use Rattle.pfc_expression_code.specs.Putting.{IsMade};
 
 use crate::GenFault;
-use crate::phrases::{Phrase, Spot, within};
+use crate::phrases::{Phrase, Position, within};
 use pfc_addresses::{Addresses, Body};
 use pfc_code::Instr;
 use pfc_expression_code::Coder;
@@ -56,7 +56,7 @@ fn put_guard(alloc: Global, body: &Body, coder: &mut Coder) -> Result<(), GenFau
     let Some(guard) = &block.guard else {
         return Ok(())
     };
-    let spot = Spot {
+    let position = Position {
         alloc,
         body,
         around: guard.names.around(),
@@ -65,7 +65,7 @@ fn put_guard(alloc: Global, body: &Body, coder: &mut Coder) -> Result<(), GenFau
     within(
         guard.names.levels(),
         None,
-        spot,
+        position,
         Phrase::Guard(guard.test),
         coder,
     )
@@ -77,7 +77,7 @@ fn put_statements(alloc: Global, body: &Body, coder: &mut Coder) -> Result<(), G
         coder.old coder.new) }
 {
     let block = body.block;
-    let spot = Spot {
+    let position = Position {
         alloc,
         body,
         around: block.names.around(),
@@ -86,8 +86,29 @@ fn put_statements(alloc: Global, body: &Body, coder: &mut Coder) -> Result<(), G
     within(
         block.names.levels(),
         None,
-        spot,
+        position,
         Phrase::Statements(block.next, block.stmts),
+        coder,
+    )
+}
+
+/// Keeps the strings of the statements of a block, and counts the alternatives of their selects.
+fn keep_statements(alloc: Global, body: &Body, coder: &mut Coder) -> Result<(), GenFault>
+    ensures { OnOk result (IsMade (unseen (images.statements_code (whole_view (program_of body.now)) (block_view (tables_of body.now) body.now.block.now)))
+        coder.old coder.new) }
+{
+    let block = body.block;
+    let position = Position {
+        alloc,
+        body,
+        around: block.names.around(),
+        line: block.last_line,
+    };
+    within(
+        block.names.levels(),
+        None,
+        position,
+        Phrase::Unseen(block.next, block.stmts),
         coder,
     )
 }
@@ -104,7 +125,7 @@ fn put_alone(
         (block_view (tables_of body.now) body.now.block.now)) { line = line }) instr) coder.old coder.new) }
 {
     let block = body.block;
-    let spot = Spot {
+    let position = Position {
         alloc,
         body,
         around: block.names.around(),
@@ -113,7 +134,7 @@ fn put_alone(
     within(
         block.names.levels(),
         None,
-        spot,
+        position,
         Phrase::Alone(instr),
         coder,
     )
@@ -150,6 +171,20 @@ pub(crate) fn put_body<'t, 'e>(
         end: coder.here(),
         level: body.level(),
     })
+}
+
+/// Keeps the strings of an initialising body, and counts the alternatives of its selects. Its code stands in main's.
+pub(crate) fn keep_initial<'t, 'e>(
+    alloc: Global,
+    addresses: &'e Addresses<'t, 'e>,
+    block: &'e Block<'t>,
+    coder: &mut Coder,
+) -> Result<(), GenFault>
+    ensures { OnOk result (IsMade (unseen (images.statements_code (whole_view addresses.now.program.now)
+        (block_view addresses.now.program.now.tables block.now))) coder.old coder.new) }
+{
+    let body = Body::new(alloc, addresses, block)?;
+    keep_statements(alloc, &body, coder)
 }
 
 /// Puts an initialising body.

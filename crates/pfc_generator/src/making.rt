@@ -3,10 +3,10 @@ ghost use Rattle.std.specs.Prelude.{◌≡◌, [], IfOk};
 ghost use Rattle.pfc_addresses.specs.Sites.{whole_view};
 ghost use Rattle.pfc_translation.specs.Images.{coded};
 ghost use Rattle.pfc_generator.specs.Making.{IsComplete};
-ghost use Rattle.pfc_generator.specs.Views.{pieces_view, standing};
+ghost use Rattle.pfc_generator.specs.Views.{pieces_view, so_far};
 
 use crate::GenFault;
-use crate::bodies::{put_body, put_initial, put_scan};
+use crate::bodies::{keep_initial, put_body, put_scan};
 use crate::pieces::Piece;
 use pfc_addresses::{Addresses, Body};
 use pfc_base::{Memory, Name};
@@ -15,14 +15,14 @@ use pfc_expression_code::Coder;
 use pfc_program::{Block, Lookups};
 use std::alloc::Global;
 
-/// An initialising body that was put where it stands in the text. So many strings are before it.
+/// An initialising body that was kept where it stands in the text. So many strings are before it.
 #[derive(Clone, Copy)]
 pub(crate) struct Initial<'t, 'p> {
     pub block: &'p Block<'t>,
     pub strings: u32,
 }
 
-/// The code of a program as it is made. That of an initialising body is cut away again: it stands in main's code.
+/// The code of a program as it is made. That of an initialising body stands in main's code.
 #[derive(Drop)]
 pub(crate) struct Making<'t, 'p> {
     pub coder: Coder,
@@ -49,11 +49,11 @@ impl<'t, 'p> Making<'t, 'p> {
     ghost use Rattle.pfc_program.specs.declared.program.Program.{Program};
     ghost use Rattle.pfc_translation.specs.Images.{a_body, an_initial, a_resource};
     ghost use Rattle.pfc_generator.specs.Making.{IsPut, nothing_made};
-    ghost use Rattle.pfc_generator.specs.Views.{piece_view, standing};
+    ghost use Rattle.pfc_generator.specs.Views.{piece_view, so_far};
 
     /// No code. It takes no memory.
     pub(crate) fn new(alloc: Global) -> Making<'t, 'p>
-        ensures { (program : Program) → standing program result ≡ nothing_made }
+        ensures { (program : Program) → so_far program result ≡ nothing_made }
     {
         Making {
             coder: Coder::new(alloc),
@@ -74,7 +74,7 @@ impl<'t, 'p> Making<'t, 'p> {
     ) -> Result<(), GenFault>
         requires { lookups.now.scopes.now ≡ addresses.now.program.now.tables.scopes.now }
         ensures { OnOk result (IsPut (whole_view addresses.now.program.now) (a_body (block_view addresses.now.program.now.tables block.now))
-            (standing addresses.now.program.now self.old) (standing addresses.now.program.now self.new)) }
+            (so_far addresses.now.program.now self.old) (so_far addresses.now.program.now self.new)) }
     {
         let span = put_body(alloc, addresses, lookups, block, &mut self.coder)?;
         self.placed.push(Placed {
@@ -88,7 +88,7 @@ impl<'t, 'p> Making<'t, 'p> {
         Ok(())
     }
 
-    /// Puts an initialising body, so that its strings and its selects count, and cuts its code away.
+    /// Keeps an initialising body, so that its strings and its selects count where it stands in the text.
     fn initial(
         &mut self,
         alloc: Global,
@@ -96,12 +96,10 @@ impl<'t, 'p> Making<'t, 'p> {
         block: &'p Block<'t>,
     ) -> Result<(), GenFault>
         ensures { OnOk result (IsPut (whole_view addresses.now.program.now) (an_initial (block_view addresses.now.program.now.tables block.now))
-            (standing addresses.now.program.now self.old) (standing addresses.now.program.now self.new)) }
+            (so_far addresses.now.program.now self.old) (so_far addresses.now.program.now self.new)) }
     {
         let strings = number(self.coder.strings())?;
-        let at = self.coder.here();
-        put_initial(alloc, addresses, block, &mut self.coder)?;
-        self.coder.cut(at);
+        keep_initial(alloc, addresses, block, &mut self.coder)?;
         self.initials.push(Initial { block, strings })?;
         Ok(())
     }
@@ -110,7 +108,7 @@ impl<'t, 'p> Making<'t, 'p> {
     fn scan(&mut self, alloc: Global, main: &Body<'t, 'p>, line: u32) -> Result<(), GenFault>
         requires { main.now.block.now ≡ (program_of main.now).main }
         ensures { OnOk result (IsPut (whole_view (program_of main.now)) (a_resource line)
-            (standing (program_of main.now) self.old) (standing (program_of main.now) self.new)) }
+            (so_far (program_of main.now) self.old) (so_far (program_of main.now) self.new)) }
     {
         let resource = number(self.scans.len())?;
         let at = self.coder.here();
@@ -130,7 +128,7 @@ impl<'t, 'p> Making<'t, 'p> {
         requires main { main.now.block.now ≡ (program_of main.now).main }
         requires looked_up { lookups.now.scopes.now ≡ (program_of main.now).tables.scopes.now }
         ensures { OnOk result (IsPut (whole_view (program_of main.now)) (piece_view (program_of main.now).tables piece.entry)
-            (standing (program_of main.now) self.old) (standing (program_of main.now) self.new)) }
+            (so_far (program_of main.now) self.old) (so_far (program_of main.now) self.new)) }
     {
         let addresses = main.addresses;
         match piece {
@@ -151,7 +149,7 @@ pub(crate) fn put_pieces<'t, 'p>(
     requires { lookups.now.scopes.now ≡ addresses.now.program.now.tables.scopes.now }
     ensures { IfOk result (λ m. IsComplete (whole_view addresses.now.program.now)
         (coded (whole_view addresses.now.program.now) 0 0 (pieces_view addresses.now.program.now.tables pieces.now)) []
-        (standing addresses.now.program.now m)) }
+        (so_far addresses.now.program.now m)) }
 {
     let program = addresses.program;
     let main = Body::new(alloc, addresses, &program.main)?;

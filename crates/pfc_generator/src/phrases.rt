@@ -15,6 +15,7 @@ use pfc_program::Level;
 use pfc_statement_code::stmts;
 use pfc_tree::{Expr, Stmt};
 use pfc_types::{Around, View};
+use pfc_unseen_code::keep_unseen;
 use std::alloc::Global;
 
 /// A phrase of a body.
@@ -24,13 +25,15 @@ pub(crate) enum Phrase<'a> {
     Guard(&'a Expr),
     /// Statements, before which the next scope of the text has this number.
     Statements(u32, &'a [Stmt]),
+    /// Statements whose code stands elsewhere, so that their strings and their selects count.
+    Unseen(u32, &'a [Stmt]),
     /// An instruction alone.
     Alone(Instr),
 }
 
 /// A place in a body, with the line of its instructions.
 #[derive(Clone, Copy)]
-pub(crate) struct Spot<'t, 'e> {
+pub(crate) struct Position<'t, 'e> {
     pub alloc: Global,
     pub body: &'e Body<'t, 'e>,
     pub around: Around,
@@ -42,12 +45,12 @@ pub(crate) struct Spot<'t, 'e> {
 pub(crate) fn within(
     levels: &[Level],
     outer: Option<&View>,
-    spot: Spot,
+    position: Position,
     p: Phrase,
     coder: &mut Coder,
 ) -> Result<(), GenFault>
     ensures { OnOk result (IsMade (phrase_code
-        (site_within spot.entry.body.now (levels.now ++ levels_of outer.entry) spot.entry.around spot.entry.line) p.entry) coder.old coder.new) }
+        (site_within position.entry.body.now (levels.now ++ levels_of outer.entry) position.entry.around position.entry.line) p.entry) coder.old coder.new) }
 {
     match levels {
         [inner @ .., last] => {
@@ -56,10 +59,10 @@ pub(crate) fn within(
                 count: last.count,
                 outer,
             };
-            within(inner, Some(&view), spot, p, coder)
+            within(inner, Some(&view), position, p, coder)
         }
         [] => match outer {
-            Some(view) => phrase_within(view, spot, p, coder),
+            Some(view) => phrase_within(view, position, p, coder),
             None => Err(GenFault::Memory),
         },
     }
@@ -67,17 +70,22 @@ pub(crate) fn within(
 
 /// Puts the code of a phrase where this view is in view.
 #[tactic(auto, unfolding(pfc_addresses::specs::Sites::site_view))]
-fn phrase_within(view: &View, spot: Spot, p: Phrase, coder: &mut Coder) -> Result<(), GenFault>
-    ensures { OnOk result (IsMade (phrase_code (site_within spot.entry.body.now (levels view.now) spot.entry.around spot.entry.line) p.entry)
+fn phrase_within(
+    view: &View,
+    position: Position,
+    p: Phrase,
+    coder: &mut Coder,
+) -> Result<(), GenFault>
+    ensures { OnOk result (IsMade (phrase_code (site_within position.entry.body.now (levels view.now) position.entry.around position.entry.line) p.entry)
         coder.old coder.new) }
 {
     let site = Site {
-        body: spot.body,
+        body: position.body,
         view,
-        around: spot.around,
-        line: spot.line,
+        around: position.around,
+        line: position.line,
     };
-    put_phrase(spot.alloc, p, site, coder)
+    put_phrase(position.alloc, p, site, coder)
 }
 
 /// Puts the code of a phrase.
@@ -90,6 +98,9 @@ fn put_phrase(alloc: Global, p: Phrase, site: Site, coder: &mut Coder) -> Result
             coder.put(Instr::GRD(resource_of(site)), site)?;
         }
         Phrase::Statements(next, ss) => stmts(alloc, ss, site, next, coder)?,
+        Phrase::Unseen(next, ss) => {
+            keep_unseen(ss, site, next, coder)?;
+        }
         Phrase::Alone(instr) => coder.put(instr, site)?,
     }
     Ok(())

@@ -173,7 +173,14 @@ program a; var i: integer; begin for i := 1 to 3 do write(i); for i := 3 downto 
 ADDR 0 0; 1 LOAD 1; 1 WRI 0; 1 FORT 0 4; 1 ADDR 0 0; 1 LIT 3; 1 LIT 1; 1 FORB 1 15; 1 FORW; 1 FORT 1 13; 1 END
 program a; var i: integer; begin case i of 1, 2: write(1); 3: case i of -4: write(2) end end end.|1 ADDR 0 0; 1 LOAD 1; 1 CEQ 1 6; 1 CEQ 2 6; 1 CEQ 3 \
 9; 1 CERR; 1 LIT 1; 1 WRI 0; 1 JMP 17; 1 ADDR 0 0; 1 LOAD 1; 1 CEQ -4 13; 1 CERR; 1 LIT 2; 1 WRI 0; 1 JMP 16; 1 JMP 17; 1 END
-program a; begin writeln(1+2) end.|1 LIT 1; 1 LIT 2; 1 ADD; 1 WRI 0; 1 WRNL; 1 END
+program n;~var g: integer;~procedure a(var v: integer);~  procedure b;~    procedure c; begin v := v + g; a(g) end;~  begin c end;~begin b \
+end;~begin a(g) end.|5 REF 2 0; 5 REF 2 0; 5 LOAD 1; 5 ADDR 3 0; 5 LOAD 1; 5 ADD; 5 STORE 1; 5 ADDR 3 0; 5 CALL 2 3; 5 RET; 6 CALL 0 0; 6 RET; 7 \
+CALL 1 0; 7 RET; 8 ADDR 0 0; 8 CALL 2 0; 8 END
+program e;~process type w; entry put(n: integer); begin accept put(n: integer) do null end;~var t: array[1..2] of w;~process c; begin t[2].put(3) \
+end;~begin cobegin t[1]; t[2]; c coend end.|2 ACC 0 0 1; 2 EACC; 2 END; 4 ADDR 1 0; 4 LIT 2; 4 IDX 1 2 1; 4 OBJ; 4 LIT 3; 4 ECALL 0 1; 4 END; 5 \
+ADDR 0 0; 5 LIT 1; 5 IDX 1 2 1; 5 OBJ; 5 NEW 0; 5 ADDR 0 0; 5 LIT 2; 5 IDX 1 2 1; 5 OBJ; 5 NEW 0; 5 ADDR 0 2; 5 OBJ; 5 NEW 1; 5 COEND; 5 END
+program s; var c: channel of synchronous; process p; begin c ! any end; process q; begin c ? any end; begin cobegin p; q coend end.|1 ADDR 1 0; 1 \
+OBJ; 1 SEND 0; 1 END; 1 ADDR 1 0; 1 OBJ; 1 RECV 0; 1 END; 1 ADDR 0 1; 1 OBJ; 1 NEW 0; 1 ADDR 0 2; 1 OBJ; 1 NEW 1; 1 COEND; 1 END
 ";
 
 /// The bytes that a text of the table stands for.

@@ -117,11 +117,19 @@ fn lines_and_blocks(rt: HostRuntime) {
     }
 }
 
-/// The number of instructions of a program that writes n integers, or the fault.
-fn length_of_long(alloc: Global, n: u32) -> Result<Option<Result<usize, GenFault>>, Memory> {
+/// The number of instructions of a program that writes n integers and so many characters, or the fault. There are three for each integer, two
+/// for each character, and the end.
+fn length_of_long(
+    alloc: Global,
+    n: u32,
+    characters: u32,
+) -> Result<Option<Result<usize, GenFault>>, Memory> {
     let mut text = Vec::from_slice(alloc, b"program a; var i: integer; begin write(i")?;
     for _ in 1..n {
         text.extend_from_slice(b",i")?;
+    }
+    for _ in 0..characters {
+        text.extend_from_slice(b",'c'")?;
     }
     text.extend_from_slice(b") end.")?;
     Ok(match image_of(alloc, &text) {
@@ -133,7 +141,7 @@ fn length_of_long(alloc: Global, n: u32) -> Result<Option<Result<usize, GenFault
 
 #[test]
 fn at_most_200_000_instructions(rt: HostRuntime) -> Result<(), Fail> {
-    assert!(rt; length_of_long(rt.alloc(), 66_666)? == Some(Ok(199_999)));
-    assert!(rt; length_of_long(rt.alloc(), 66_667)? == Some(Err(GenFault::TooLarge)));
+    assert!(rt; length_of_long(rt.alloc(), 66_665, 2)? == Some(Ok(200_000)));
+    assert!(rt; length_of_long(rt.alloc(), 66_666, 1)? == Some(Err(GenFault::TooLarge)));
     Ok(())
 }

@@ -6,7 +6,7 @@ use Rattle.pfc_translation.specs.Images.{body_code, put_from, size_of, most_arms
 use Rattle.pfc_addresses.specs.Sites.{whole_view}
 use Rattle.pfc_expression_code.specs.Putting.{Made, IsMade}
 use Rattle.pfc_generator.specs.Making.{AreOrdered}
-use Rattle.pfc_generator.specs.Views.{initials_view, pieces_view, standing}
+use Rattle.pfc_generator.specs.Views.{initials_view, pieces_view, so_far}
 use Rattle.pfc_generator.specs.declared.making.Initial.{Initial}
 use Rattle.pfc_generator.proofs.Whole.{at_is, texts_are, placed_are, scans_are, are_sized, are_ordered, whole_is, arms_are, own_texts}
 use Rattle.pfc_generator.proofs.coded.put_all.Goals as goal
@@ -16,7 +16,7 @@ put_initials-requires c =
     let program = c.args.addresses.now.program.now in
     let g = whole_view program in
     let ps = pieces_view program.tables c.args.pieces.now in
-    let x = standing program c.in_ok-coder.field-0 in
+    let x = so_far program c.in_ok-coder.field-0 in
     let initials = c.in_ok-coder.field-0.initials.items in
     let count : c.in_ok-strings.strings ≡ length x.made.texts =
     omega (arith, c.in_ok-strings.ensures, c.len.ensures, ap length c.take_texts-texts.ensures.texts) in
@@ -31,7 +31,7 @@ returns c =
     let program = c.args.addresses.now.program.now in
     let g = whole_view program in
     let ps = pieces_view program.tables c.args.pieces.now in
-    let x = standing program c.in_ok-coder.field-0 in
+    let x = so_far program c.in_ok-coder.field-0 in
     let is = c.in_ok-coder.ensures in
     let second = c.put_initials.new.coder in
     let third = c.put_body.new.coder in

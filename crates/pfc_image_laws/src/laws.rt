@@ -55,7 +55,7 @@ pub fn bodies_end()
         → Each (StaysAbove (level_of g.state.blocks b)) at (instructions ((body_code g b).put at strings)) }
 {}
 
-/// The code of an image is that of its blocks, one behind the other, with the turn of each resource's scan behind its blocks, at the address
+/// The code of an image is that of its blocks, one behind the other, with the turn of each resource's scan between blocks, at the address
 /// that the image has for it, and main's last; each instruction has its line. There is a block for each body of the program, and one for
 /// main; and each process has one of them.
 pub fn images_are_laid_out()

@@ -96,7 +96,7 @@ module _ (A : Type 0) (g : Program) (image : PlainImage) (known : AreNumbered g.
 
     reaching_at :
         (b : Block) (a : Around) (V : List Level → Type 0) (v : List Level) (l : ℕ) (x : Text) (o : Option Found) → found_in g.state.blocks.scopes v x ≡ o → V v
-        → (A → HasCell (meaning_of o))
+        → (A → HasCell g.state v (meaning_of o))
         → let s : Site = record { program = g; block = b; env = record { state = g.state; view = v; around = a }; line = l } in
         X b (if refers s (spot_of s.env o).spot then REF (links_to s (spot_of s.env o).spot.scope) (cell_of s (spot_of s.env o).spot)
         else ADDR (links_to s (spot_of s.env o).spot.scope) (cell_of s (spot_of s.env o).spot))

@@ -114,7 +114,7 @@ module _
     (V : List Level → Type 0)
     (plain_one : (i : Instr) → is_plain i ≡ true → X i)
     (reaching :
-    (v : List Level) (l : ℕ) (x : Text) (o : Option Found) → found_in g.state.blocks.scopes v x ≡ o → V v → (A → HasCell (meaning_of o))
+    (v : List Level) (l : ℕ) (x : Text) (o : Option Found) → found_in g.state.blocks.scopes v x ≡ o → V v → (A → HasCell g.state v (meaning_of o))
     → let s : Site = record { program = g; block = b; env = record { state = g.state; view = v; around = a }; line = l } in
     X (if refers s (spot_of s.env o).spot then REF (links_to s (spot_of s.env o).spot.scope) (cell_of s (spot_of s.env o).spot)
     else ADDR (links_to s (spot_of s.env o).spot.scope) (cell_of s (spot_of s.env o).spot)))
@@ -187,7 +187,7 @@ module _
 
     -- ## Expressions
 
-    pub base : (v : List Level) (l : ℕ) (x : Text) (o : Option Found) → seen v x ≡ o → V v → (A → HasCell (meaning_of o))
+    pub base : (v : List Level) (l : ℕ) (x : Text) (o : Option Found) → seen v x ≡ o → V v → (A → HasCell g.state v (meaning_of o))
         → Holds (base_code (site v l) (spot_of (env v a) o).spot)
     base v l x o e view h = by (refers (site v l) (spot_of (env v a) o).spot) (reaching v l x o e view h)
       where
@@ -241,7 +241,7 @@ module _
         → (A → fits_use g.state.blocks (no_selector ss) (no_actual args) m ≡ true)
         → (let callee = (if no_selector ss then called_function g.state.blocks (Some m) else nothing_called) in
         C (broken_actuals (env v c) None callee.known callee.wants args))
-        → ((A → HasCell (Some m)) → Holds address)
+        → ((A → HasCell g.state v (Some m)) → Holds address)
         → ((formals : List Formal) → C (broken_actuals (env v c) None true (wants_for formals) args) → Holds (args_code (site v l) formals args))
         → Holds (first_value (site v l) args)
         → (C (broken_actuals (env v c) None true one_condition args) → Holds (first_address (site v l) args))
@@ -270,7 +270,7 @@ module _
         (o : Option Found)
         → (let callee = (if no_selector ss then called_function g.state.blocks (meaning_of o) else nothing_called) in
         C (use_rules (env v c) o (no_selector ss) (no_actual args) q) × C (broken_actuals (env v c) None callee.known callee.wants args))
-        → ((A → HasCell (meaning_of o)) → Holds address)
+        → ((A → HasCell g.state v (meaning_of o)) → Holds address)
         → ((formals : List Formal) → C (broken_actuals (env v c) None true (wants_for formals) args) → Holds (args_code (site v l) formals args))
         → Holds (first_value (site v l) args)
         → (C (broken_actuals (env v c) None true one_condition args) → Holds (first_address (site v l) args))
@@ -424,7 +424,7 @@ module _
 
     pub address :
         (v : List Level) (l : ℕ) (c : Around) → V v → (x : Text) (o : Option Found) → seen v x ≡ o → (t : Option TypeId) (ss : SelectorTrees)
-        → (A → HasCell (meaning_of o)) → C (broken_selectors (env v c) t ss) → Holds (address_code (site v l) o ss)
+        → (A → HasCell g.state v (meaning_of o)) → C (broken_selectors (env v c) t ss) → Holds (address_code (site v l) o ss)
     address v l c view x o e t ss h k =
         let w = spot_of (env v a) o in
         both (base_code (site v l) w.spot) (selectors_code (site v l) w.t ss) (base v l x o e view h) (selectors v l c view w.t t ss k)
@@ -432,7 +432,8 @@ module _
     pub designated :
         (v : List Level) (l : ℕ) (c : Around) → V v → (d : DesigTree) → C (broken_desig (env v c) d) → Holds (desig_code (site v l) d)
     designated v l c view (desig x ss p) h =
-        address v l c view x (seen v x) refl (variable_type (meaning_of (seen v x))) ss (λ y. named_cell (meaning_of (seen v x)) p (h y).0) (λ y. (h y).1)
+        address v l c view x (seen v x) refl (variable_type (meaning_of (seen v x))) ss (λ y. named_cell g.state v (meaning_of (seen v x)) p (h y).0)
+        (λ y. (h y).1)
 
     pub an_object :
         (v : List Level) (l : ℕ) (c : Around) → V v → (d : DesigTree) → C (broken_desig (env v c) d) → Holds (object_code (site v l) d)
@@ -720,7 +721,7 @@ module _
 
         variable_call :
             (v : List Level) (l : ℕ) (c : Around) → V v → IsNear c a → (x : Text) (f : Found) → seen v x ≡ Some f → (t : TypeId) (r : Bool)
-            → (A → HasCell (meaning_of (Some f))) → (ss : SelectorTrees) (q : Place) (args : ActualTrees)
+            → (A → HasCell g.state v (meaning_of (Some f))) → (ss : SelectorTrees) (q : Place) (args : ActualTrees)
             → C (call_of (env v c) (Some (Variable t r)) ss q args) → (y : Option (Text × Place)) → last_field ss ≡ y
             → Holds (called_variable (site v l) f ss t y args)
         variable_call v l c view near x f is t r cell ss q args h None last =
@@ -760,7 +761,7 @@ module _
 
         single_call :
             (v : List Level) (l : ℕ) (c : Around) → V v → (x : Text) (f : Found) → seen v x ≡ Some f → (n : ℕ) → n < length g.state.blocks.processes
-            → (A → HasCell (meaning_of (Some f))) → (ss : SelectorTrees) (q : Place) (args : ActualTrees)
+            → (A → HasCell g.state v (meaning_of (Some f))) → (ss : SelectorTrees) (q : Place) (args : ActualTrees)
             → C (call_of (env v c) (Some (Process n)) ss q args) → (y : Option (Text × Place)) → last_field ss ≡ y
             → Holds (called_process (site v l) f n y args)
         single_call v l c view x f is n below cell ss q args h None last =
@@ -776,7 +777,7 @@ module _
         a_meaning_call v l c view near x f is (AConstant t k) e ss q args h = no_code
         a_meaning_call v l c view near x f is (Named t) e ss q args h = no_code
         a_meaning_call v l c view near x f is (Variable t r) e ss q args h =
-            variable_call v l c view near x f is t r (λ z. subst (λ (o : Meaning). HasCell (Some o)) (sym e) tt) ss q args h (last_field ss) refl
+            variable_call v l c view near x f is t r (λ z. subst (λ (o : Meaning). HasCell g.state v (Some o)) (sym e) tt) ss q args h (last_field ss) refl
         a_meaning_call v l c view near x f is (Sub n) e ss q args h =
             let head = sub_at g.state.blocks n in
             a_sub_call (site v l) n (args_code (site v l) head.formals args)
@@ -789,7 +790,7 @@ module _
         a_meaning_call v l c view near x f is (Process n) e ss q args h =
             single_call v l c view x f is n
             (a_process g.state.blocks f.scope n (subst (λ (o : Meaning). Stands g.state.blocks f.scope o) e (stands g.state numbered v x f is)))
-            (λ z. subst (λ (o : Meaning). HasCell (Some o)) (sym e) tt) ss q args h (last_field ss) refl
+            (λ z. subst (λ (o : Meaning). HasCell g.state v (Some o)) (sym e) tt) ss q args h (last_field ss) refl
         a_meaning_call v l c view near x f is (Entry n) e ss q args h = no_code
         a_meaning_call v l c view near x f is (Predeclared k) e ss q args h =
             a_predeclared_procedure v l c view q args (procedure_of k) (routine_of k) (matches_procedure k) (λ z. routine_called (env v c) k ss q args (h z))
@@ -908,7 +909,7 @@ module _
             (v : List Level) (l : ℕ) (c : Around) → V v → (x : Spread) → C (broken_spread (env v c) (Some x))
             → Holds (base_code (site v l) (spot_of (env v a) (seen v x.name)).spot)
         spread_base v l c view x h =
-            base v l x.name (seen v x.name) refl view (λ z. named_cell (meaning_of (seen v x.name)) x.place (h z).0)
+            base v l x.name (seen v x.name) refl view (λ z. named_cell g.state v (meaning_of (seen v x.name)) x.place (h z).0)
 
         spread_chosen :
             (v : List Level) (l : ℕ) (c : Around) → V v → (x : Option Spread) → C (broken_spread (env v c) x)
@@ -1170,7 +1171,7 @@ module _
                   let begin = over s (λ at. FORB (if down then 1 else 0) at) (inner.size + 2) in
                   let end = back s (λ at. FORT (if down then 1 else 0) at) (inner.size + 1) in
                   both w (expr_code s from ⨾ expr_code s to ⨾ begin ⨾ one s FORW ⨾ inner ⨾ end)
-                  (base v p.line x (seen v x) refl view (λ z. named_cell (meaning_of (seen v x)) q (h z).0.0))
+                  (base v p.line x (seen v x) refl view (λ z. named_cell g.state v (meaning_of (seen v x)) q (h z).0.0))
                   (both (expr_code s from) (expr_code s to ⨾ begin ⨾ one s FORW ⨾ inner ⨾ end) (expr v p.line c view from (λ z. (h z).0.1.0))
                   (both (expr_code s to) (begin ⨾ one s FORW ⨾ inner ⨾ end) (expr v p.line c view to (λ z. (h z).0.1.1.0))
                   (both begin (one s FORW ⨾ inner ⨾ end) (loop_begin s down (inner.size + 2))

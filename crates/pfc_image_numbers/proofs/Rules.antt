@@ -13,13 +13,13 @@ use Rattle.pfc_types.specs.Types.{integer, boolean, semaphore, condition}
 use Rattle.pfc_types.specs.rules.Kinds.{name_rules, a_variable, an_entry}
 use Rattle.pfc_tree.specs.Symbols.{Text}
 use Rattle.pfc_tree.specs.trees.Exprs.{ActualTrees, SelectorTrees, desig, index, field, no_selectors, more_selectors}
-use Rattle.pfc_types.specs.Blocks.{sub_at, process_at, entry_at}
+use Rattle.pfc_types.specs.Blocks.{State, sub_at, process_at, entry_at}
 use Rattle.pfc_types.specs.rules.Calls.{call_sub, last_field, before_last, only_field, call_in_module, call_module, call_exported, call_in_process, call_entry, call_entry_named, activate, activate_type, activate_variable, call_field, call_part, call_name, call_part_of, call_selected, call_routine, broken_call, requeue_sub}
-use Rattle.pfc_types.specs.rules.Statements.{accept_rules, target_rules}
+use Rattle.pfc_types.specs.rules.Statements.{accept_rules, is_around, sub_target, target_rules}
 use Rattle.pfc_semantics.specs.Statements.{process_of_type}
 use Rattle.pfc_types.specs.declared.heads.Formal.{Formal}
 use Rattle.pfc_types.specs.declared.view.Found.{Found}
-use Rattle.pfc_types.specs.Scopes.{meaning_of}
+use Rattle.pfc_types.specs.Scopes.{Level, meaning_of}
 use Rattle.pfc_types.specs.rules.Expressions.{Env, find, broken_selectors, field_type, selected, selected_by, broken_actuals, found_lends, use_rules}
 use Rattle.pfc_types.specs.rules.Routines.{Want, a_value, a_variable_of, gives, Site, in_main, in_monitor_sub, Routine, the_signal, a_function, a_procedure, a_delay, a_reader, a_writer, one_condition, one_integer, anywhere, routines, routine_of, nothing_called, called_sort, called_routine, is_function_sort, wants_for}
 use Rattle.pfc_semantics.specs.Predeclared.{Function, abs, sqr, odd, ord, chr, succ, pred, eof, eoln, empty, clock, random, no_function, functions, function_of, Procedure as AProcedure, reader, writer, initial, wait, signal, delay, resume, sleep, no_procedure, procedures, procedure_of}
@@ -197,34 +197,39 @@ empty_args env true r args e is h =
 
 -- ## Names
 
--- A name whose address is taken: a variable, a single process, or a function's result. One that is declared with a broken rule is any.
-abbrev pub HasCell : Option Meaning → Type 0
-HasCell (Some (Variable t reference)) = Unit {0}
-HasCell (Some (Process n)) = Unit {0}
-HasCell (Some (Sub n)) = Unit {0}
-HasCell (Some Faulty) = Unit {0}
-HasCell m = ⊥
+-- A name whose address is taken: a variable, a single process, or the result of a function around. One that is declared with a broken rule is any.
+abbrev pub IsFunction : SubSort → Type 0
+IsFunction Procedure = ⊥
+IsFunction Guarded = ⊥
+IsFunction (FunctionSort t) = Unit {0}
 
-pub named_cell : (m : Option Meaning) (p : Place) → IsClean (name_rules a_variable m p) → HasCell m
-named_cell None p h = absurd h
-named_cell (Some (Constant t v)) p h = absurd h
-named_cell (Some (Named t)) p h = absurd h
-named_cell (Some (Variable t r)) p h = tt
-named_cell (Some (Sub n)) p h = absurd h
-named_cell (Some (Module n)) p h = absurd h
-named_cell (Some (Process n)) p h = absurd h
-named_cell (Some (Entry n)) p h = absurd h
-named_cell (Some (Predeclared k)) p h = absurd h
-named_cell (Some Faulty) p h = tt
+abbrev pub HasCell : State → List Level → Option Meaning → Type 0
+HasCell s v (Some (Variable t reference)) = Unit {0}
+HasCell s v (Some (Process n)) = Unit {0}
+HasCell s v (Some (Sub n)) = (is_around v (sub_at s.blocks n).scope ≡ true) × IsFunction (sub_at s.blocks n).sort
+HasCell s v (Some Faulty) = Unit {0}
+HasCell s v m = ⊥
+
+pub named_cell : (s : State) (v : List Level) (m : Option Meaning) (p : Place) → IsClean (name_rules a_variable m p) → HasCell s v m
+named_cell s v None p h = absurd h
+named_cell s v (Some (Constant t k)) p h = absurd h
+named_cell s v (Some (Named t)) p h = absurd h
+named_cell s v (Some (Variable t r)) p h = tt
+named_cell s v (Some (Sub n)) p h = absurd h
+named_cell s v (Some (Module n)) p h = absurd h
+named_cell s v (Some (Process n)) p h = absurd h
+named_cell s v (Some (Entry n)) p h = absurd h
+named_cell s v (Some (Predeclared k)) p h = absurd h
+named_cell s v (Some Faulty) p h = tt
 
 -- what is lent for a reference
 pub lent_cell :
     (env : Env) (ending : Option ℕ) (lone bare : Bool) (o : Option Found) (p : Place) → found_lends ending o ≡ true
-    → IsClean (use_rules env o lone bare p) → HasCell (meaning_of o)
+    → IsClean (use_rules env o lone bare p) → HasCell env.state env.view (meaning_of o)
 lent_cell env ending lone bare None p h e = absurd e
 lent_cell env ending lone bare (Some f) p h e = by f.meaning h
   where
-    by : (m : Meaning) → found_lends ending (Some (record f { meaning = m })) ≡ true → HasCell (Some m)
+    by : (m : Meaning) → found_lends ending (Some (record f { meaning = m })) ≡ true → HasCell env.state env.view (Some m)
     by (Constant t v) h = absurd (cc)
     by (Named t) h = absurd (cc)
     by (Variable t r) h = tt
@@ -436,12 +441,18 @@ accept_allowed env x p q h =
       named_entry (meaning_of (find env x)) p h.1,
     )
 
-pub target_cell : (env : Env) (m : Option Meaning) (p : Place) → IsClean (target_rules env m p) → HasCell m
+target_sub : (inside : Bool) (sort : SubSort) (p : Place) → IsClean (sub_target inside sort p) → (inside ≡ true) × IsFunction sort
+target_sub inside Procedure p h = absurd h
+target_sub inside Guarded p h = absurd h
+target_sub inside (FunctionSort t) p h = (held inside p 327 h, tt)
+
+pub target_cell : (env : Env) (m : Option Meaning) (p : Place) → IsClean (target_rules env m p) → HasCell env.state env.view m
 target_cell env None p h = absurd h
 target_cell env (Some (Constant t v)) p h = absurd h
 target_cell env (Some (Named t)) p h = absurd h
 target_cell env (Some (Variable t r)) p h = tt
-target_cell env (Some (Sub n)) p h = tt
+target_cell env (Some (Sub n)) p h =
+    target_sub (is_around env.view (sub_at env.state.blocks n).scope) (sub_at env.state.blocks n).sort p h
 target_cell env (Some (Module n)) p h = absurd h
 target_cell env (Some (Process n)) p h = absurd h
 target_cell env (Some (Entry n)) p h = absurd h

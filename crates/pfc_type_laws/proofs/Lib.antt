@@ -1,0 +1,3 @@
+pub mod WalkTypes
+pub mod WalkBlocks
+pub mod SoundTables

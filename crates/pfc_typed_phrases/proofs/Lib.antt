@@ -1,0 +1,6 @@
+pub mod Rules
+pub mod Names
+pub mod Phrases
+pub mod Anywhere
+pub mod Seen
+pub mod Known

@@ -1,0 +1,6 @@
+pub mod Actions
+pub mod Descriptors
+pub mod Communications
+pub mod Machines
+pub mod Quiet
+pub mod Rooms

@@ -1,6 +1,6 @@
 -- The code of expressions, of variables and of arguments as lists of instructions with their lines: it has no jump, so it is the same
 -- wherever it stands.
-use Rattle.std.specs.Prelude.{ℕ, if◌then◌else◌, List, [], ◌∷◌, ◌++◌, Option, Some, None}
+use Rattle.std.specs.Prelude.{ℕ, Bool, true, false, ◌&&◌, is_none, if◌then◌else◌, List, [], ◌∷◌, ◌++◌, Option, Some, None}
 use Rattle.pfc_base.specs.declared.places.Place.{Place}
 use Rattle.pfc_code.specs.declared.instructions.Instr.{Instr}
 use Rattle.pfc_code.specs.declared.instructions.Instr.TheVariants.{LIT, FLD, LOAD, OBJ, NEG, ABS, SQR, ODD, CHR, SUCC, PRED, NOT, EMPTY, CLOCK, RAND, EOF, EOLN}
@@ -97,6 +97,21 @@ name_list s m ss address args predeclared = []
 abbrev pub lone_list : ActualTrees → Lined → Lined
 lone_list no_actuals l = l
 lone_list (more_actuals a rest) l = []
+
+-- whether a sum is one factor alone, without sign and operators
+abbrev pub no_summand : SummandTrees → Bool
+no_summand no_summands = true
+no_summand (more_summands op t rest) = false
+
+abbrev pub no_multiplier : MultiplierTrees → Bool
+no_multiplier no_multipliers = true
+no_multiplier (more_multipliers op f rest) = false
+
+abbrev pub is_lone_term : TermTree → Bool
+is_lone_term (product f rest) = no_multiplier rest
+
+abbrev pub is_lone_simple : SimpleTree → Bool
+is_lone_simple (sum sign first rest) = (is_none sign && no_summand rest) && is_lone_term first
 
 abbrev mutual
   pub expr_list : Ways → ExprTree → Lined

@@ -1,18 +1,20 @@
 //! The code of expressions, of variables and of arguments: each phrase is put behind all that is there.
-ghost use Rattle.std.specs.Prelude.{◌≡◌, ◌++◌, ◌<◌, length, if◌then◌else◌, OnOk, IfErr};
+ghost use Rattle.std.specs.Prelude.{◌≡◌, ◌++◌, ◌<◌, length, if◌then◌else◌, true, OnOk, IfOk, IfErr};
 ghost use Rattle.pfc_tree.specs.views.Exprs.{expr_view, simple_view, term_view, factor_view, desig_view, summands_view, multipliers_view, selectors_view, exprs_view, actual_view, actuals_view};
 ghost use Rattle.pfc_tree.specs.trees.Exprs.{sum, product};
 ghost use Rattle.pfc_types.specs.rules.Expressions as rules;
 ghost use Rattle.pfc_emit.specs.declared.emitter.EmitFault.TheVariants.{Full};
 ghost use Rattle.pfc_semantics.specs.Expressions.{spot_of};
+ghost use Rattle.pfc_code.specs.declared.instructions.Instr.TheVariants.{SUCC, PRED};
 ghost use Rattle.pfc_facts.specs.Views.{function_view};
 ghost use Rattle.pfc_expression_code.specs.Lists as lists;
 ghost use Rattle.pfc_expression_code.specs.Lists.{ways_in};
 
 use crate::coder::put;
+use crate::single::is_lone_simple;
 use crate::ways::{
-    base, call, element_in, field_cell, field_type, first_number, formals, index_instr, load,
-    meaning, type_behind,
+    base, call, call_type, element_in, expr_type, field_cell, field_type, first_type, formals,
+    index_instr, load, meaning, type_behind, type_number,
 };
 use crate::words::{add_instr, multiply_instr, relation_instr};
 use pfc_addresses::Site;
@@ -22,6 +24,7 @@ use pfc_emit::{EmitFault, Emitter};
 use pfc_facts::{Function, char_in, function_of};
 use pfc_tree::{Actual, AddOp, Desig, Expr, Factor, MulOp, Selector, Sign, Simple, Term};
 use pfc_types::{Formal, Meaning, TypeId};
+use pfc_typing::{inverse_type, literal_type};
 
 /// Puts the code of an expression.
 #[cycle(exprs)]
@@ -158,8 +161,14 @@ fn function(f: Function, args: &[Actual], site: Site, code: &mut Emitter) -> Res
         Function::Odd => applied(args, Instr::ODD, site, code),
         Function::Ord => first_value(args, site, code),
         Function::Chr => applied(args, Instr::CHR, site, code),
-        Function::Succ => applied(args, Instr::SUCC(first_number(args, site)), site, code),
-        Function::Pred => applied(args, Instr::PRED(first_number(args, site)), site, code),
+        Function::Succ => {
+            succ(args, site, code)?;
+            Ok(())
+        }
+        Function::Pred => {
+            pred(args, site, code)?;
+            Ok(())
+        }
         Function::Eof => put(Instr::EOF, site, code),
         Function::Eoln => put(Instr::EOLN, site, code),
         Function::Empty => {
@@ -170,6 +179,137 @@ fn function(f: Function, args: &[Actual], site: Site, code: &mut Emitter) -> Res
         Function::Clock => put(Instr::CLOCK, site, code),
         Function::Random => applied(args, Instr::RAND, site, code),
         Function::NoFunction => Ok(()),
+    }
+}
+
+/// `succ` behind its argument, whose type is given.
+#[cycle(exprs)]
+fn succ(args: &[Actual], site: Site, code: &mut Emitter) -> Result<Option<TypeId>, EmitFault>
+    ensures code { OnOk result (code.new ≡ code.old ++ lists.first_value_list (ways_in site.entry) (actuals_view args.now)
+        ++ lists.single (ways_in site.entry) (SUCC (lists.first_number (ways_in site.entry) (actuals_view args.now)))) }
+    ensures t { IfOk result (λ t. t ≡ rules.first_type (ways_in site.entry).env (actuals_view args.now)) }
+    ensures large { IfErr result (λ fault. fault ≡ Full → 200000 < length (code.old ++ lists.first_value_list (ways_in site.entry) (actuals_view args.now)
+        ++ lists.single (ways_in site.entry) (SUCC (lists.first_number (ways_in site.entry) (actuals_view args.now))))) }
+{
+    let t = typed_first(args, site, code)?;
+    put(Instr::SUCC(type_number(t)), site, code)?;
+    Ok(t)
+}
+
+/// `pred` behind its argument, whose type is given.
+#[cycle(exprs)]
+fn pred(args: &[Actual], site: Site, code: &mut Emitter) -> Result<Option<TypeId>, EmitFault>
+    ensures code { OnOk result (code.new ≡ code.old ++ lists.first_value_list (ways_in site.entry) (actuals_view args.now)
+        ++ lists.single (ways_in site.entry) (PRED (lists.first_number (ways_in site.entry) (actuals_view args.now)))) }
+    ensures t { IfOk result (λ t. t ≡ rules.first_type (ways_in site.entry).env (actuals_view args.now)) }
+    ensures large { IfErr result (λ fault. fault ≡ Full → 200000 < length (code.old ++ lists.first_value_list (ways_in site.entry) (actuals_view args.now)
+        ++ lists.single (ways_in site.entry) (PRED (lists.first_number (ways_in site.entry) (actuals_view args.now))))) }
+{
+    let t = typed_first(args, site, code)?;
+    put(Instr::PRED(type_number(t)), site, code)?;
+    Ok(t)
+}
+
+/// A predeclared function behind its argument, and the type of the argument.
+#[cycle(exprs)]
+fn typed_function(
+    f: Function,
+    args: &[Actual],
+    site: Site,
+    code: &mut Emitter,
+) -> Result<Option<TypeId>, EmitFault>
+    ensures code { OnOk result (code.new ≡ code.old
+        ++ lists.function_list (ways_in site.entry) (function_view f) (rules.first_type (ways_in site.entry).env (actuals_view args.now))
+        (lists.first_value_list (ways_in site.entry) (actuals_view args.now)) (lists.first_address_list (ways_in site.entry) (actuals_view args.now))) }
+    ensures t { IfOk result (λ t. t ≡ rules.first_type (ways_in site.entry).env (actuals_view args.now)) }
+    ensures large { IfErr result (λ fault. fault ≡ Full → 200000 < length (code.old
+        ++ lists.function_list (ways_in site.entry) (function_view f) (rules.first_type (ways_in site.entry).env (actuals_view args.now))
+        (lists.first_value_list (ways_in site.entry) (actuals_view args.now)) (lists.first_address_list (ways_in site.entry) (actuals_view args.now)))) }
+{
+    match f {
+        Function::Succ => succ(args, site, code),
+        Function::Pred => pred(args, site, code),
+        _ => {
+            function(f, args, site, code)?;
+            Ok(first_type(args, site))
+        }
+    }
+}
+
+/// The value of the first argument and its type. Calls of `succ` and `pred` within one another are walked once.
+#[cycle(exprs)]
+fn typed_first(args: &[Actual], site: Site, code: &mut Emitter) -> Result<Option<TypeId>, EmitFault>
+    ensures code { OnOk result (code.new ≡ code.old ++ lists.first_value_list (ways_in site.entry) (actuals_view args.now)) }
+    ensures t { IfOk result (λ t. t ≡ rules.first_type (ways_in site.entry).env (actuals_view args.now)) }
+    ensures large { IfErr result (λ fault. fault ≡ Full → 200000 < length (code.old ++ lists.first_value_list (ways_in site.entry) (actuals_view args.now))) }
+{
+    match args {
+        [first, ..] => typed_expr(&first.value, site, code),
+        [] => Ok(None),
+    }
+}
+
+/// An expression and its type.
+#[cycle(exprs)]
+fn typed_expr(e: &Expr, site: Site, code: &mut Emitter) -> Result<Option<TypeId>, EmitFault>
+    ensures code { OnOk result (code.new ≡ code.old ++ lists.expr_list (ways_in site.entry) (expr_view e.now)) }
+    ensures t { IfOk result (λ t. t ≡ rules.expr_type (ways_in site.entry).env (expr_view e.now)) }
+    ensures large { IfErr result (λ fault. fault ≡ Full → 200000 < length (code.old ++ lists.expr_list (ways_in site.entry) (expr_view e.now))) }
+{
+    if let None = &e.right {
+        if is_lone_simple(&e.left) {
+            return typed_lone(&e.left, site, code);
+        }
+    }
+    expr(e, site, code)?;
+    Ok(expr_type(e, site))
+}
+
+/// A sum that is one factor alone, and its type.
+#[cycle(exprs)]
+#[tactic(auto, using(crate::proofs::Nodes::nodes, crate::proofs::Lone::lone_same))]
+fn typed_lone(s: &Simple, site: Site, code: &mut Emitter) -> Result<Option<TypeId>, EmitFault>
+    requires { lists.is_lone_simple (simple_view s.now) ≡ true }
+    ensures code { OnOk result (code.new ≡ code.old ++ lists.simple_list (ways_in site.entry) (simple_view s.now)) }
+    ensures t { IfOk result (λ t. t ≡ rules.simple_type (ways_in site.entry).env (simple_view s.now)) }
+    ensures large { IfErr result (λ fault. fault ≡ Full → 200000 < length (code.old ++ lists.simple_list (ways_in site.entry) (simple_view s.now))) }
+{
+    typed_factor(&s.first.first, site, code)
+}
+
+/// A factor and its type.
+#[cycle(exprs)]
+fn typed_factor(f: &Factor, site: Site, code: &mut Emitter) -> Result<Option<TypeId>, EmitFault>
+    ensures code { OnOk result (code.new ≡ code.old ++ lists.factor_list (ways_in site.entry) (factor_view f.now)) }
+    ensures t { IfOk result (λ t. t ≡ rules.factor_type (ways_in site.entry).env (factor_view f.now)) }
+    ensures large { IfErr result (λ fault. fault ≡ Full → 200000 < length (code.old ++ lists.factor_list (ways_in site.entry) (factor_view f.now))) }
+{
+    match f {
+        Factor::Number(_, _) => {
+            factor(f, site, code)?;
+            Ok(Some(TypeId::INTEGER))
+        }
+        Factor::Literal(text, _) => {
+            factor(f, site, code)?;
+            Ok(literal_type(text.bytes()))
+        }
+        Factor::Not(negated, _) => {
+            let t = typed_factor(negated, site, code)?;
+            put(Instr::NOT, site, code)?;
+            Ok(inverse_type(t))
+        }
+        Factor::Paren(e, _) => typed_expr(e, site, code),
+        Factor::Use(d, args, _) => match meaning(&d.name, site) {
+            Some(Meaning::Predeclared(k)) => {
+                let first = typed_function(function_of(k), args, site, code)?;
+                Ok(call_type(d, args, first, site))
+            }
+            _ => {
+                factor(f, site, code)?;
+                let first = first_type(args, site);
+                Ok(call_type(d, args, first, site))
+            }
+        },
     }
 }
 

@@ -8,6 +8,7 @@ mod coder;
 mod exprs;
 mod parts;
 mod phrases;
+mod single;
 mod ways;
 mod words;
 

@@ -1,11 +1,15 @@
 //! What the code of an expression asks of the place where it stands.
 ghost use Rattle.std.specs.Prelude.{◌≡◌, IfOk, IfErr};
-ghost use Rattle.pfc_tree.specs.views.Exprs.{exprs_view, selectors_view, actuals_view};
+ghost use Rattle.pfc_tree.specs.views.Exprs.{expr_view, desig_view, exprs_view, selectors_view, actuals_view};
+ghost use Rattle.pfc_base.specs.declared.places.Place.{Place};
+ghost use Rattle.pfc_tree.specs.trees.Exprs.{applied};
 ghost use Rattle.pfc_types.specs.Scopes.{meaning_of};
 ghost use Rattle.pfc_types.specs.Blocks.{sub_at};
 ghost use Rattle.pfc_types.specs.rules.Expressions as rules;
 ghost use Rattle.pfc_semantics.specs.Expressions.{spot_of, form_in};
+ghost use Rattle.pfc_semantics.specs.Operators as operators;
 ghost use Rattle.pfc_translation.specs.Addresses as addresses;
+ghost use Rattle.pfc_translation.specs.Expressions as expressions;
 ghost use Rattle.pfc_emit.specs.declared.emitter.EmitFault.TheVariants.{Memory as NoMemory};
 ghost use Rattle.pfc_expression_code.specs.Lists as lists;
 ghost use Rattle.pfc_expression_code.specs.Lists.{ways_in};
@@ -17,15 +21,17 @@ use pfc_base::Name;
 use pfc_code::Instr;
 use pfc_emit::EmitFault;
 use pfc_facts::simple_of;
-use pfc_tree::{Actual, Expr, Selector};
+use pfc_phrases::{callee_of, meaning_of, no_actual, no_selector, variable_type};
+use pfc_tree::{Actual, Desig, Expr, Selector};
 use pfc_types::{Formal, Meaning, TypeId};
+use pfc_typing::{arguments_fit, name_type, selected_type};
 
 /// What a name stands for.
 #[tactic(auto, unfolding(crate::specs::Lists::ways_in))]
 pub(crate) fn meaning(name: &Name, site: Site) -> Option<Meaning>
     ensures { result ≡ meaning_of (rules.find (ways_in site.entry).env name.now) }
 {
-    pfc_phrases::meaning_of(site.find(name))
+    meaning_of(site.find(name))
 }
 
 /// The address of the variable that a name is, and its type.
@@ -58,16 +64,46 @@ pub(crate) fn call(n: u32, site: Site) -> Instr
 pub(crate) fn load(ss: &[Selector], t: TypeId, site: Site) -> Instr
     ensures { result ≡ lists.load_instr (ways_in site.entry) t (selectors_view ss.now) }
 {
-    let part = pfc_typing::selected_type(ss, Some(t), site.env());
+    let part = selected_type(ss, Some(t), site.env());
     Instr::LOAD(parts::type_cells(site.tables().types, part))
 }
 
-/// The number by which an instruction names the type of the first argument.
-#[tactic(auto, unfolding(crate::specs::Lists::ways_in))]
-pub(crate) fn first_number(args: &[Actual], site: Site) -> u32
-    ensures { result ≡ lists.first_number (ways_in site.entry) (actuals_view args.now) }
+/// The number by which an instruction names a type.
+pub(crate) fn type_number(t: Option<TypeId>) -> u32
+    ensures { result ≡ expressions.simple_number (operators.simple_of t) }
 {
-    simple_number(simple_of(pfc_typing::first_type(args, site.env())))
+    simple_number(simple_of(t))
+}
+
+/// The type of an expression, None where it is faulty.
+#[tactic(auto, unfolding(crate::specs::Lists::ways_in))]
+pub(crate) fn expr_type(e: &Expr, site: Site) -> Option<TypeId>
+    ensures { result ≡ rules.expr_type (ways_in site.entry).env (expr_view e.now) }
+{
+    pfc_typing::expr_type(e, site.env())
+}
+
+/// The type of the first argument, None where there is none or it is faulty.
+#[tactic(auto, unfolding(crate::specs::Lists::ways_in))]
+pub(crate) fn first_type(args: &[Actual], site: Site) -> Option<TypeId>
+    ensures { result ≡ rules.first_type (ways_in site.entry).env (actuals_view args.now) }
+{
+    pfc_typing::first_type(args, site.env())
+}
+
+/// The type of a name that is a factor, with selectors and arguments, None where it is faulty. The first argument has the type t: only
+/// the others are walked.
+#[tactic(auto, unfolding(crate::specs::Lists::ways_in))]
+pub(crate) fn call_type(d: &Desig, args: &[Actual], t: Option<TypeId>, site: Site) -> Option<TypeId>
+    requires { t ≡ rules.first_type (ways_in site).env (actuals_view args.now) }
+    ensures { (p : Place) → result ≡ rules.factor_type (ways_in site.entry).env (applied (desig_view d.now) (actuals_view args.now) p) }
+{
+    let env = site.env();
+    let found = site.find(&d.name);
+    let (alone, bare) = (no_selector(&d.selectors), no_actual(args));
+    let part = selected_type(&d.selectors, variable_type(meaning_of(found)), env);
+    let fit = arguments_fit(args, t, callee_of(found, true, env).wants, env);
+    name_type(found, alone, bare, part, fit, t, env)
 }
 
 /// The instruction of an index of something of type t.

@@ -130,9 +130,9 @@ fn outward(alloc: Global, instr: Instr, held: Four) -> Result<After, Memory> {
         Instr::NEW(a) => after(alloc, Instr::NEW(a), held),
         Instr::END => after(alloc, Instr::END, held),
         Instr::SWAIT => after(alloc, Instr::SWAIT, held),
-        Instr::SEND(a) => after(alloc, Instr::SEND(a), held),
+        Instr::SEND(1) => after(alloc, Instr::SEND(1), held),
         Instr::SEL(a, b) => after(alloc, Instr::SEL(a, b), held),
-        Instr::WRI(a) => after(alloc, Instr::WRI(a), held),
+        Instr::WRI(0) => after(alloc, Instr::WRI(0), held),
         Instr::EOLN => after(alloc, Instr::EOLN, held),
         _ => Ok((Seen::Quiet, 0, [0; 5])),
     }

@@ -19,11 +19,11 @@ use Rattle.pfc_meaning.specs.Store.{Location, value_at, stored, variables}
 use Rattle.pfc_meaning.specs.Operators.{simple_of}
 use Rattle.pfc_meaning.specs.Frames.{Rest, Use, Next, Task, store_whole, reads, copies_from, writes, turns, prints, inputs, skips, asks_eof, asks_eoln, draws, faults, finishes, going, holding}
 use Rattle.pfc_meaning.specs.Configurations.{Config, act, acted, faulted, read_in, skipped_in, drawn_in}
-use Rattle.pfc_gen.specs.Statements.{write_instr, read_instr}
 use Rattle.pfc_machine.specs.Refs.{ref_of}
 use Rattle.pfc_machine.specs.Rows.{quiet, action, Row, goes, acts, ends_in, row, within, passed, is_before, value_behind}
 use Rattle.pfc_machine.specs.Fits.{Fits, AreLive}
 use Rattle.pfc_machine.specs.Stacks.{Stack, Stacks, own_cells, stack_of, operand, cells_at, written}
+use Rattle.pfc_translation.specs.Calls.{write_instr, read_instr}
 use Rattle.pfc_relation.specs.Cells.{IsOf, is_number, AreCells, words_of}
 use Rattle.pfc_relation.specs.Standing.{Program, IsChecked, IsAt, IsWord, IsSimpleWord, IsWholeWord, forms_of, names_of, RestAt, UseAt, arrived}
 use Rattle.pfc_relation.specs.Following.{TaskAt, IsPiece, number, wide_number, string, wide_string, newline, IsFault, of_operands, of_number_width, of_string_width, IsWrite, of_value, of_kept, IsTurn, of_loop, of_count, Arrived}
@@ -230,10 +230,10 @@ module _ (g : Program) (checked : IsChecked g) (start : g.start ≡ own_cells) (
 
   -- ## Output
 
-  print_fits : (t : Simple) (w : ℕ) → Fits (write_instr t w) 0 (stack ∷ [])
-  print_fits Integer w = record { held = omega arith; room = omega arith; reach = tt }
-  print_fits Boolean w = record { held = omega arith; room = omega arith; reach = tt }
-  print_fits Char w = record { held = omega arith; room = omega arith; reach = tt }
+  print_fits : (t : Simple) (w : ℕ) → 1 + w ≤ length stack.operands → Fits (write_instr t w) 0 (stack ∷ [])
+  print_fits Integer w held = record { held = held; room = omega arith; reach = tt }
+  print_fits Boolean w held = record { held = held; room = omega arith; reach = tt }
+  print_fits Char w held = record { held = held; room = omega arith; reach = tt }
 
   print_manages : (t : Simple) (w : ℕ) → Manages (write_instr t w) g.texts 0 (stack ∷ [])
   print_manages Integer w = tt
@@ -269,13 +269,13 @@ module _ (g : Program) (checked : IsChecked g) (start : g.start ≡ own_cells) (
   arrive_prints line bytes k below (number t n e shows at) after =
       let whole : length stack.operands ≡ suc (length below) = ap length e in
       arrival_by (prints line bytes k) (write_instr t 0) line (puts (at_next (stack.at + 1) below ∷ []) bytes) at
-      (print_fits t 0) (print_manages t 0) (print_unquiet t 0)
+      (print_fits t 0 (omega (arith, whole))) (print_manages t 0) (print_unquiet t 0)
       (print_deed t 0 ∙ ap (λ (xs : List ℤ). puts (at_next (stack.at + 1) (drop 1 xs) ∷ []) (shown t (operand xs 0))) e ∙ sym (ap (λ (bs : List ℕ). puts (at_next (stack.at + 1) below ∷ []) bs) shows))
       (puts_it line bytes k below (omega arith) after)
   arrive_prints line bytes k below (wide_number t n w e pads at) after =
       let whole : length stack.operands ≡ suc (suc (length below)) = ap length e in
       arrival_by (prints line bytes k) (write_instr t 1) line (puts (at_next (stack.at + 1) below ∷ []) bytes) at
-      (print_fits t 1) (print_manages t 1) (print_unquiet t 1)
+      (print_fits t 1 (omega (arith, whole))) (print_manages t 1) (print_unquiet t 1)
       (print_deed t 1 ∙ padded_number t n w below (Ok bytes) e pads ∙ ap (λ (xs : List ℤ). puts (at_next (stack.at + 1) (drop 2 xs) ∷ []) bytes) e)
       (puts_it line bytes k below (omega arith) after)
   arrive_prints line bytes k below (string s e is at) after =
@@ -305,10 +305,12 @@ module _ (g : Program) (checked : IsChecked g) (start : g.start ≡ own_cells) (
       arrival_by (faults line f) i line (refuses f) at (fault_fits i stack f ends_so fit) (fault_manages i stack g.texts f ends_so) (λ stacks h. cc)
       (ap (λ (x : Row). by_row x i g.texts 0 (stack ∷ []) input words) r) (faulty f (λ c. refl))
   arrive_faults line f (of_number_width t n w below e pads at) =
-      arrival_by (faults line f) (write_instr t 1) line (refuses f) at (print_fits t 1) (print_manages t 1) (print_unquiet t 1)
+      let whole : length stack.operands ≡ suc (suc (length below)) = ap length e in
+      arrival_by (faults line f) (write_instr t 1) line (refuses f) at (print_fits t 1 (omega (arith, whole))) (print_manages t 1) (print_unquiet t 1)
       (print_deed t 1 ∙ padded_number t n w below (Err f) e pads) (faulty f (λ c. refl))
   arrive_faults line f (of_string_width s w text below e is pads at) =
-      arrival_by (faults line f) (WRS s 1) line (refuses f) at (record { held = omega arith; room = omega arith; reach = tt }) (slice_get_within g.texts s text is) (λ stacks h. cc)
+      let whole : length stack.operands ≡ suc (length below) = ap length e in
+      arrival_by (faults line f) (WRS s 1) line (refuses f) at (record { held = omega (arith, whole); room = omega arith; reach = tt }) (slice_get_within g.texts s text is) (λ stacks h. cc)
       (padded_text s w text below (Err f) e is pads) (faulty f (λ c. refl))
 
   -- ## Input
@@ -318,10 +320,10 @@ module _ (g : Program) (checked : IsChecked g) (start : g.start ≡ own_cells) (
   read_deed Boolean = refl
   read_deed Char = refl
 
-  read_fits : (t : Simple) → Fits (read_instr t) 0 (stack ∷ [])
-  read_fits Integer = record { held = omega arith; room = omega arith; reach = tt }
-  read_fits Boolean = record { held = omega arith; room = omega arith; reach = tt }
-  read_fits Char = record { held = omega arith; room = omega arith; reach = tt }
+  read_fits : (t : Simple) → 1 ≤ length stack.operands → Fits (read_instr t) 0 (stack ∷ [])
+  read_fits Integer held = record { held = held; room = omega arith; reach = tt }
+  read_fits Boolean held = record { held = held; room = omega arith; reach = tt }
+  read_fits Char held = record { held = held; room = omega arith; reach = tt }
 
   read_manages : (t : Simple) → 1 ≤ length stack.operands → AreLive (stack ∷ []) (ref_of (operand stack.operands 0)) 1 → Manages (read_instr t) g.texts 0 (stack ∷ [])
   read_manages Integer h live = (h, live)
@@ -344,14 +346,14 @@ module _ (g : Program) (checked : IsChecked g) (start : g.start ≡ own_cells) (
 
       by : (r : Result Item RunFault) → item (simple_of t) input.bytes ≡ r → Arrival g values (inputs line t l k) stack input words
       by (Err f) h =
-          arrival_by (inputs line t l k) (read_instr (simple_of t)) line (refuses f) at (read_fits (simple_of t)) (read_manages (simple_of t) (omega (arith, size)) live) (read_unquiet (simple_of t))
+          arrival_by (inputs line t l k) (read_instr (simple_of t)) line (refuses f) at (read_fits (simple_of t) (omega (arith, size))) (read_manages (simple_of t) (omega (arith, size)) live) (read_unquiet (simple_of t))
           (read_deed (simple_of t) ∙ ap (λ (x : Result Item RunFault). item_read (stack ∷ []) 0 input words x) h)
           (faulty f (λ c. ap (λ (x : Result Item RunFault). read_in (over c values input words) 0 line l k x) h))
       by (Ok i) h =
           let v : Value = ordinal i.value in
           let left : Left = record input { bytes = i.left } in
           let new : Stack = written_stack l is.t w is.lies v (stack.at + 1) below in
-          arrival_by (inputs line t l k) (read_instr (simple_of t)) line (does (new ∷ []) left words) at (read_fits (simple_of t)) (read_manages (simple_of t) (omega (arith, size)) live) (read_unquiet (simple_of t))
+          arrival_by (inputs line t l k) (read_instr (simple_of t)) line (does (new ∷ []) left words) at (read_fits (simple_of t) (omega (arith, size))) (read_manages (simple_of t) (omega (arith, size)) live) (read_unquiet (simple_of t))
           (read_deed (simple_of t) ∙ ap (λ (x : Result Item RunFault). item_read (stack ∷ []) 0 input words x) h
           ∙ ap (λ (xs : List ℤ). does (passed (written (stack ∷ []) (ref_of (operand xs 0)) (i.value ∷ [])) 0 (drop 1 xs)) left words) e
           ∙ ap (λ (ss : Stacks). does (passed ss 0 below) left words) (word_written g checked start stack own cells values eight all are l is.t w is.lies v))
@@ -409,12 +411,12 @@ module _ (g : Program) (checked : IsChecked g) (start : g.start ≡ own_cells) (
 
       by : (r : Result ℤ RunFault) → drawn words n ≡ r → Arrival g values (draws line n u) stack input words
       by (Err f) h =
-          arrival_by (draws line n u) RAND line (refuses f) at (record { held = omega arith; room = omega arith; reach = tt }) (omega (arith, size)) (λ stacks q. cc)
+          arrival_by (draws line n u) RAND line (refuses f) at (record { held = omega (arith, size); room = omega arith; reach = tt }) (omega (arith, size)) (λ stacks q. cc)
           (top ∙ ap (λ (x : Result ℤ RunFault). number_drawn (stack ∷ []) 0 input (after_draw words n) x) h)
           (faulty f (λ c. ap (λ (x : Result ℤ RunFault). drawn_in (over c values input words) 0 line (after_draw words n) u x) h))
       by (Ok m) h =
           arrival_by (draws line n u) RAND line (does (at_next (stack.at + 1) (m ∷ below) ∷ []) input (after_draw words n)) at
-          (record { held = omega arith; room = omega arith; reach = tt }) (omega (arith, size)) (λ stacks q. cc)
+          (record { held = omega (arith, size); room = omega arith; reach = tt }) (omega (arith, size)) (λ stacks q. cc)
           (top ∙ ap (λ (x : Result ℤ RunFault). number_drawn (stack ∷ []) 0 input (after_draw words n) x) h
           ∙ ap (λ (xs : List ℤ). does (at_next (stack.at + 1) (m ∷ drop 1 xs) ∷ []) input (after_draw words n)) e)
           (silent (at_next (stack.at + 1) (m ∷ below) ∷ []) input (after_draw words n) values (holding line m u)

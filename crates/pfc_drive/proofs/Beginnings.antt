@@ -11,7 +11,7 @@ use Rattle.pfc_meaning.specs.Store.{fresh}
 use Rattle.pfc_meaning.specs.Frames.{going}
 use Rattle.pfc_meaning.specs.Configurations.{body_rest, first_line, start}
 use Rattle.pfc_meaning.specs.Unbuilt.{unbuilt}
-use Rattle.pfc_gen.specs.Images.{main_block, image_of}
+use Rattle.pfc_relation.specs.code.Images.{main_block, image_of}
 use Rattle.pfc_machine.specs.Stacks.{own_cells}
 use Rattle.pfc_machine.specs.Starts.{entered, start_stacks}
 use Rattle.pfc_relation.specs.Programs.{program_of}

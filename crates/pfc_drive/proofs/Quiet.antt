@@ -2,7 +2,7 @@
 use Rattle.std.proofs.Common.{◌≡◌, ℕ, zero, suc, ◌+◌, ◌-◌, ◌≤◌, ℤ, pos, List, [], ◌∷◌, length, ap, ◌∙◌, arith}
 use Rattle.pfc_base.specs.declared.faults.RunFault.{RunFault}
 use Rattle.pfc_code.specs.declared.instructions.Instr.{Instr}
-use Rattle.pfc_code.specs.declared.instructions.Instr.TheVariants.{LIT, ADDR, LOAD, STORE, FORW, RAND, WRS, RDI, RDC, EOF, EOLN}
+use Rattle.pfc_code.specs.declared.instructions.Instr.TheVariants.{LIT, ADDR, REF, LOAD, STORE, FORW, CLOCK, RAND, WRS, RDI, RDC, EOF, EOLN}
 use Rattle.pfc_machine.specs.Rows.{Alone, quiet, action, fault, more, alone, goes, ends_in, row, moved, within, passed}
 use Rattle.pfc_machine.specs.Fits.{Fits, adds, Reckons, Reaches}
 use Rattle.pfc_machine.specs.Stacks.{Stack, own_cells}
@@ -43,7 +43,11 @@ quiet_adds (ADDR zero d) start at ops to room left h few =
     held (fault f) = 0
     held more = 0
 quiet_adds (ADDR (suc l) d) start at ops to room left h few = cc
+quiet_adds (REF l d) start at ops to room left h few = cc
 quiet_adds (LOAD z) start at ops to room left h few = cc
+quiet_adds CLOCK start at ops to room left h few = cc
+quiet_adds EOF start at ops to room left h few = cc
+quiet_adds EOLN start at ops to room left h few = cc
 quiet_adds i start at ops to room left h few = omega arith
 
 quiet_reaches : (i : Instr) (stack : Stack) (start to : ℕ) (left : List ℤ) → quietly start i stack.at stack.operands ≡ quiet to left → Reckons i stack.operands → Reaches i 0 (stack ∷ [])
@@ -64,7 +68,11 @@ quiet_fits i stack start to left h few fit =
 fault_adds : (i : Instr) (at : ℕ) (ops : List ℤ) (f : RunFault) (n : ℕ) → alone i at ops ≡ fault f → adds i ≤ n
 fault_adds (LIT k) at ops f n h = absurd cc
 fault_adds (ADDR l d) at ops f n h = absurd cc
+fault_adds (REF l d) at ops f n h = absurd cc
 fault_adds (LOAD z) at ops f n h = absurd cc
+fault_adds CLOCK at ops f n h = absurd cc
+fault_adds EOF at ops f n h = absurd cc
+fault_adds EOLN at ops f n h = absurd cc
 fault_adds i at ops f n h = omega arith
 
 fault_reaches : (i : Instr) (stack : Stack) (f : RunFault) → alone i stack.at stack.operands ≡ fault f → Reckons i stack.operands → Reaches i 0 (stack ∷ [])

@@ -2,7 +2,7 @@
 use Rattle.std.specs.Prelude.{◌<◌, ◌^◌, ◌≡◌, Some, length}
 use Rattle.pfc_code.specs.declared.images.Block.{Block}
 use Rattle.pfc_code.specs.Images.{PlainImage}
-use Rattle.pfc_gen.specs.Images.{instructions, lines_of}
+use Rattle.pfc_relation.specs.code.Images.{instructions, lines_of}
 use Rattle.pfc_machine.specs.Stacks.{own_cells}
 use Rattle.pfc_machine.specs.Starts.{main_block}
 use Rattle.pfc_relation.specs.Standing.{Program}

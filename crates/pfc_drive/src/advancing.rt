@@ -1,5 +1,5 @@
 //! The quiet instructions of a process, up to its next action.
-ghost use Rattle.std.specs.Prelude.{◌≡◌, ℕ, List};
+ghost use Rattle.std.specs.Prelude.{◌≡◌, ℕ, List, get_or};
 ghost use Rattle.pfc_code.specs.Images.{plain_image};
 ghost use Rattle.pfc_drive.specs.Advances.{Reached};
 ghost use Rattle.pfc_drive.specs.Programs.{IsProgram};
@@ -23,10 +23,17 @@ pub(crate) fn advance(store: &mut Store, image: &Image, r: Running) -> (u32, Ins
 {
     let mut r = r;
     loop {
-        let line = store.line(image, 0);
+        let at = store.at(r.number());
         match store.run_instr(image, r) {
             Instructed::Quiet(next) => r = next,
-            did => return (line, did),
+            did => return (line_at(image, at), did),
         }
     }
+}
+
+/// The line, from 1, of the instruction at an address; 0 where the image has none there.
+fn line_at(image: &Image, at: u32) -> u32
+    ensures { result ≡ get_or image.now.lines.items at 0 }
+{
+    image.lines.get(at as usize).copied().unwrap_or(0)
 }

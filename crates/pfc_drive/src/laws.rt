@@ -1,7 +1,7 @@
 //! Laws of programs and their images. Each function does nothing; its contract is the law.
 ghost use Rattle.std.specs.Prelude.{◌≡◌, ◌≤◌, None, false, length};
 ghost use Rattle.pfc_drive.specs.Programs.{IsProgram};
-ghost use Rattle.pfc_gen.specs.Images.{image_of};
+ghost use Rattle.pfc_relation.specs.code.Images.{image_of};
 ghost use Rattle.pfc_meaning.specs.Unbuilt.{unbuilt};
 ghost use Rattle.pfc_relation.specs.Programs.{program_of};
 ghost use Rattle.pfc_relation.specs.Standing.{IsChecked};

@@ -4,7 +4,7 @@ ghost use Rattle.pfc_code.specs.Images.{plain_image};
 ghost use Rattle.pfc_drive.specs.Beginnings.{line_of, start_state};
 ghost use Rattle.pfc_drive.specs.Standing.{Stands};
 ghost use Rattle.pfc_drive.specs.Standings.{standings_from};
-ghost use Rattle.pfc_gen.specs.Images.{image_of};
+ghost use Rattle.pfc_relation.specs.code.Images.{image_of};
 ghost use Rattle.pfc_machine.specs.Starts.{main_block};
 ghost use Rattle.pfc_meaning.specs.Configurations.{start};
 ghost use Rattle.pfc_meaning.specs.Unbuilt.{unbuilt};

@@ -1,7 +1,7 @@
 -- Lists from their end.
-use Rattle.std.proofs.Common.{◌≡◌, ℕ, ◌-◌, ◌≤◌, ◌<◌, List, ◌++◌, ◌≢◌, length, take, drop, get_or, set, sym, ◌∙◌, ap, arith, ◌⊎◌, inl, inr}
+use Rattle.std.proofs.Common.{◌≡◌, ℕ, ◌-◌, ◌≤◌, ◌<◌, List, ◌++◌, ◌≢◌, length, take, drop, get_or, set, sym, ◌∙◌, ap, arith, ◌⊎◌, inl, inr, ◌+◌, [], ◌∷◌}
 use Rattle.std.specs.Prelude.{reverse}
-use Rattle.std.proofs.lemmas.List.{reverse-append, length-reverse, length-drop, take-append-drop, drop_at, take_at, drop_all, length-set, get_or-reverse, get_or-set_same, get_or-set_other, same_lists}
+use Rattle.std.proofs.lemmas.List.{reverse-append, length-reverse, length-drop, take-append-drop, drop_at, take_at, drop_all, length-set, get_or-reverse, get_or-set_same, get_or-set_other, same_lists, take_more, set_at, length-take-le}
 
 reverse-split : {X : Type 0} (m : ℕ) (xs : List X) → reverse xs ≡ reverse (drop m xs) ++ reverse (take m xs)
 reverse-split m xs = sym (ap reverse (take-append-drop m xs)) ∙ reverse-append (take m xs) (drop m xs)
@@ -69,3 +69,16 @@ set-reverse xs k v h =
     let right : length (reverse (set xs (length xs - 1 - k) v)) ≡ length xs = length-reverse (set xs (length xs - 1 - k) v) ∙ length-set xs (length xs - 1 - k) v in
     same_lists (set (reverse xs) k v) (reverse (set xs (length xs - 1 - k) v)) (left ∙ sym right)
     (λ j d lt. set-reverse_at xs k v h j d (omega arith))
+
+-- the last of the first places holds another word
+last-set : {X : Type 0} (xs : List X) (m : ℕ) (v : X) → m < length xs → set (take (m + 1) xs) m v ≡ take m xs ++ v ∷ []
+last-set {X = X} xs m v lt =
+    ap (λ (ys : List X). set ys m v) (take_more xs m v lt)
+    ∙ set_at (take m xs) (get_or xs m v) [] v m (length-take-le m xs (omega arith))
+
+-- so one stands in the place of the last n
+pub last-replaced : {X : Type 0} (n : ℕ) (xs : List X) (v : X) → 0 < n → n ≤ length xs →
+    reverse (set (take (length xs - n + 1) xs) (length xs - n) v) ≡ v ∷ drop n (reverse xs)
+last-replaced {X = X} n xs v some held =
+    let m : ℕ = length xs - n in
+    ap reverse (last-set xs m v (omega arith)) ∙ reverse-append (take m xs) (v ∷ []) ∙ ap (λ (ys : List X). v ∷ ys) (drop-reverse n xs)

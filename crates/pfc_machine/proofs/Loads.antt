@@ -1,7 +1,7 @@
 -- Cells that are pushed one by one.
 use Rattle.std.proofs.Common.{◌≡◌, ℕ, ◌+◌, ◌-◌, ◌<◌, ℤ, pos, List, [], ◌∷◌, ◌++◌, length, take, drop, get_or, set, refl, sym, ◌∙◌, ap, arith}
 use Rattle.std.specs.Prelude.{reverse}
-use Rattle.std.proofs.lemmas.List.{reverse-append, get_or-take, get_or-drop, get_or-set_same, set-set, take_more, length-take-le, length-drop}
+use Rattle.std.proofs.lemmas.List.{reverse-append, get_or-take, get_or-drop, get_or-set_same, set-set, take_more, length-take-le, length-drop, drop_more}
 use Rattle.pfc_machine.specs.declared.refs.Ref.{Ref}
 use Rattle.pfc_machine.specs.Fits.{AreLive}
 use Rattle.pfc_machine.specs.Rows.{passed}
@@ -43,3 +43,7 @@ pushed_more ws below j v lt e =
     ap (λ (w : ℤ). w ∷ (reverse (take j ws) ++ below)) e
     ∙ sym (ap (λ (xs : List ℤ). reverse xs ++ below) (take_more ws j (pos 0) lt)
     ∙ ap (λ (xs : List ℤ). xs ++ below) (reverse-append (take j ws) (get_or ws j (pos 0) ∷ [])))
+
+-- one cell
+pub one_cell : (stacks : Stacks) (r : Ref) → AreLive stacks r 1 → cells_at stacks r 1 ≡ get_or (cells_of stacks r.process) r.cell (pos 0) ∷ []
+one_cell stacks r live = ap (take 1) (drop_more (cells_of stacks r.process) r.cell (pos 0) (omega arith))

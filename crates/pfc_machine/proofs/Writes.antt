@@ -77,6 +77,12 @@ written_more stacks r ws j v live lt e =
     ∙ set-set stacks q now (record s { cells = set now.cells (r.cell + j) v })
     ∙ ap (λ (cells : List ℤ). set stacks q (record s { cells = cells })) (word_more s.cells r.cell ws j v live lt e)
 
+pub written_one : (stacks : Stacks) (r : Ref) (v : ℤ) → AreLive stacks r 1 → with_cell stacks r.process r.cell v ≡ written stacks r (v ∷ [])
+written_one stacks r v live =
+    ap (λ (s : Stacks). with_cell s r.process r.cell v) (written_none stacks r)
+    ∙ ap (λ (k : ℕ). with_cell (written stacks r []) r.process k v) (omega arith)
+    ∙ written_more stacks r (v ∷ []) 0 v live (omega arith) refl
+
 -- ## Words from operands
 
 -- z operands in the order of cells, the last of them at depth k

@@ -1,7 +1,8 @@
 -- When an instruction may be performed.
 use Rattle.std.specs.Prelude.{ℕ, zero, suc, ◌+◌, ◌-◌, ◌≤◌, ◌≡◌, true, ℤ, pos, ◌+ℤ◌, List, length}
 use Rattle.pfc_code.specs.declared.instructions.Instr.{Instr}
-use Rattle.pfc_code.specs.declared.instructions.Instr.TheVariants.{LIT, ADDR, IDX, FLD, LOAD, STORE, NEG, ADD, SUB, MUL, DIV, MOD, ABS, SQR, ODD, CHR, SUCC, PRED, NOT, AND, OR, EQ, NE, LT, LE, GT, GE, JF, FORB, FORW, FORT, CEQ}
+use Rattle.pfc_code.specs.declared.instructions.Instr.TheVariants.{ADDR, IDX, FLD, LOAD, STORE, FORW}
+use Rattle.pfc_code.specs.Operands.{told, operands_of}
 use Rattle.pfc_machine.specs.declared.refs.Ref.{Ref}
 use Rattle.pfc_machine.specs.Refs.{ref_of, IsAddress}
 use Rattle.pfc_machine.specs.Stacks.{Stacks, stack_of, operand, cells_of, cell_word}
@@ -9,44 +10,11 @@ use Rattle.pfc_machine.specs.Rows.{is_within, element_word}
 
 -- how many operands an instruction reads
 abbrev pub needs : Instr → ℕ
-needs (IDX low high z) = 2
-needs (FLD k) = 1
-needs (LOAD z) = 1
-needs (STORE z) = z + 1
-needs NEG = 1
-needs ADD = 2
-needs SUB = 2
-needs MUL = 2
-needs DIV = 2
-needs MOD = 2
-needs ABS = 1
-needs SQR = 1
-needs ODD = 1
-needs CHR = 1
-needs (SUCC k) = 1
-needs (PRED k) = 1
-needs NOT = 1
-needs AND = 2
-needs OR = 2
-needs EQ = 2
-needs NE = 2
-needs LT = 2
-needs LE = 2
-needs GT = 2
-needs GE = 2
-needs (JF a) = 1
-needs (FORB d a) = 3
-needs FORW = 3
-needs (FORT d a) = 3
-needs (CEQ n a) = 1
-needs i = 0
+needs i = told (operands_of i).reads
 
--- how many more operands it leaves than it found, where it leaves more
+-- how many more operands it leaves than it takes, where it leaves more
 abbrev pub adds : Instr → ℕ
-adds (LIT n) = 1
-adds (ADDR l d) = 1
-adds (LOAD z) = z - 1
-adds i = 0
+adds i = told (operands_of i).leaves - told (operands_of i).takes
 
 -- the z cells from an address on are there
 abbrev pub AreLive : Stacks → Ref → ℕ → Type 0

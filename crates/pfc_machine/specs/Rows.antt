@@ -6,7 +6,6 @@ use Rattle.pfc_base.specs.declared.faults.RunFault.TheVariants.{Index, Case}
 use Rattle.pfc_code.specs.declared.instructions.Instr.{Instr}
 use Rattle.pfc_code.specs.declared.instructions.Instr.TheVariants.{LIT, ADDR, IDX, FLD, LOAD, STORE, NEG, ADD, SUB, MUL, DIV, MOD, ABS, SQR, ODD, CHR, SUCC, PRED, NOT, AND, OR, EQ, NE, LT, LE, GT, GE, JMP, JF, TURN, FORB, FORW, FORT, CEQ, CERR}
 use Rattle.pfc_values.specs.declared.simple.Simple.{Simple}
-use Rattle.pfc_values.specs.declared.simple.Simple.TheVariants.{Integer, Boolean, Char}
 use Rattle.pfc_values.specs.Simples.{simple_of}
 use Rattle.pfc_values.specs.Numbers.{Outcome, negative_of, sum_of, difference_of, product_of, quotient_of, remainder_of, magnitude_of, square_of, truth, is_true, inverse_of, both_of, either_of, is_odd, char_of, next_of, before_of}
 use Rattle.pfc_machine.specs.Refs.{ref_of}

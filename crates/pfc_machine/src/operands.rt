@@ -52,6 +52,14 @@ impl Operands {
         if k < n { self.items[n - 1 - k] } else { 0 }
     }
 
+    /// The operand at a depth at which there is one, the top at 0.
+    pub(crate) fn held(&self, k: usize) -> i64
+        requires { k < length self.now.words }
+        ensures { result ≡ operand self.now.words k }
+    {
+        self.items[self.items.len() - 1 - k]
+    }
+
     /// Writes the operand at a depth, where there is one.
     pub(crate) fn set(&mut self, k: usize, v: i64)
         ensures { self.new ≡ record self.old { words = set self.old.words k v } }
@@ -84,7 +92,8 @@ impl Operands {
         requires held { n ≤ length self.old.words }
         ensures { self.new ≡ record self.old { words = v ∷ drop n self.old.words } }
     {
-        self.cut(n);
-        self.push(v);
+        let below = self.items.len() - n;
+        self.items.truncate(below + 1);
+        self.items[below] = v;
     }
 }

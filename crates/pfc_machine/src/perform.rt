@@ -3,7 +3,7 @@ ghost use Rattle.std.specs.Prelude.{◌≡◌, ◌≤◌, ◌<◌, ◌+◌, ◌-
 ghost use Rattle.pfc_machine.specs.Answers.{alone_by, Changes};
 ghost use Rattle.pfc_machine.specs.Fits.{needs, adds, Reckons};
 ghost use Rattle.pfc_machine.specs.Refs.{IsAddress};
-ghost use Rattle.pfc_machine.specs.Rows.{alone, jumping, of_one, of_two, is_within, element_word, element_at};
+ghost use Rattle.pfc_machine.specs.Rows.{alone, jumping, is_within, element_word, element_at};
 
 use crate::instructed::Did;
 use crate::stack::ProcessStack;
@@ -15,119 +15,115 @@ use pfc_values::{
 };
 
 impl ProcessStack {
-    /// Operators of two operands, the right one on top.
-    fn of_two(&mut self, i: Instr) -> Did
-        requires held { needs i ≤ length self.old.operands }
+    /// The instructions that need no more than the address and the operands of their process: numbers, the address of an
+    /// element or of a field, jumps and loops, operators and functions. Any other is left undone. One match has them all, so
+    /// that one jump finds each.
+    pub(crate) fn alone(&mut self, i: &Instr) -> Did
+        requires held { needs i.now ≤ length self.old.operands }
+        requires room { adds i.now ≤ self.old.room - length self.old.operands }
+        requires reckons { Reckons i.now self.old.operands }
         requires next { self.old.at + 1 < 2 ^ 32 }
-        ensures row { of_two i self.old.at self.old.operands ≡ alone_by result self.new.at self.new.operands }
+        ensures row { alone i.now self.old.at self.old.operands ≡ alone_by result self.new.at self.new.operands }
         ensures changes { Changes result self.old self.new }
     {
-        let a = self.operand(1);
-        let b = self.operand(0);
-        match i {
-            Instr::ADD => self.pass_outcome(2, sum(a, b)),
-            Instr::SUB => self.pass_outcome(2, difference(a, b)),
-            Instr::MUL => self.pass_outcome(2, product(a, b)),
-            Instr::DIV => self.pass_outcome(2, quotient(a, b)),
-            Instr::MOD => self.pass_outcome(2, remainder(a, b)),
-            Instr::AND => self.pass_outcome(2, Ok(both(a, b))),
-            Instr::OR => self.pass_outcome(2, Ok(either(a, b))),
-            Instr::EQ => self.pass_outcome(2, Ok(truth(a == b))),
-            Instr::NE => self.pass_outcome(2, Ok(truth(a != b))),
-            Instr::LT => self.pass_outcome(2, Ok(truth(a < b))),
-            Instr::LE => self.pass_outcome(2, Ok(truth(a <= b))),
-            Instr::GT => self.pass_outcome(2, Ok(truth(a > b))),
-            Instr::GE => self.pass_outcome(2, Ok(truth(a >= b))),
+        match *i {
+            Instr::LIT(n) => self.push_number(n),
+            Instr::IDX(low, high, z) => self.pass_outcome(
+                2,
+                element(low, high, z, self.held(0), self.held(1)),
+            ),
+            Instr::FLD(k) => self.move_on(k),
+            Instr::JMP(a) => self.jump(a),
+            Instr::JF(a) => self.jump_if_false(a),
+            Instr::TURN(a) => self.turn(a),
+            Instr::FORB(d, a) => self.begin_for(d, a),
+            Instr::FORT(d, a) => self.turn_for(d, a),
+            Instr::CEQ(n, a) => self.jump_if_equal(n, a),
+            Instr::CERR => Did::Faulted(RunFault::Case),
+            Instr::NEG => self.pass_outcome(1, negative(self.held(0))),
+            Instr::ABS => self.pass_outcome(1, magnitude(self.held(0))),
+            Instr::SQR => self.pass_outcome(1, square(self.held(0))),
+            Instr::ODD => self.pass_outcome(1, Ok(odd(self.held(0)))),
+            Instr::CHR => self.pass_outcome(1, char_at(self.held(0))),
+            Instr::SUCC(k) => self.pass_outcome(1, next_value(Simple::of(k), self.held(0))),
+            Instr::PRED(k) => self.pass_outcome(1, value_before(Simple::of(k), self.held(0))),
+            Instr::NOT => self.pass_outcome(1, Ok(inverse(self.held(0)))),
+            Instr::ADD => self.pass_outcome(2, sum(self.held(1), self.held(0))),
+            Instr::SUB => self.pass_outcome(2, difference(self.held(1), self.held(0))),
+            Instr::MUL => self.pass_outcome(2, product(self.held(1), self.held(0))),
+            Instr::DIV => self.pass_outcome(2, quotient(self.held(1), self.held(0))),
+            Instr::MOD => self.pass_outcome(2, remainder(self.held(1), self.held(0))),
+            Instr::AND => self.pass_outcome(2, Ok(both(self.held(1), self.held(0)))),
+            Instr::OR => self.pass_outcome(2, Ok(either(self.held(1), self.held(0)))),
+            Instr::EQ => self.pass_outcome(2, Ok(truth(self.held(1) == self.held(0)))),
+            Instr::NE => self.pass_outcome(2, Ok(truth(self.held(1) != self.held(0)))),
+            Instr::LT => self.pass_outcome(2, Ok(truth(self.held(1) < self.held(0)))),
+            Instr::LE => self.pass_outcome(2, Ok(truth(self.held(1) <= self.held(0)))),
+            Instr::GT => self.pass_outcome(2, Ok(truth(self.held(1) > self.held(0)))),
+            Instr::GE => self.pass_outcome(2, Ok(truth(self.held(1) >= self.held(0)))),
             _ => Did::Nothing,
         }
     }
 
-    /// Operators and functions of one operand.
-    fn of_one(&mut self, i: Instr) -> Did
-        requires held { needs i ≤ length self.old.operands }
+    fn push_number(&mut self, n: i32) -> Did
+        requires room { length self.old.operands < self.old.room }
         requires next { self.old.at + 1 < 2 ^ 32 }
-        ensures row { of_one i self.old.at self.old.operands ≡ alone_by result self.new.at self.new.operands }
+        ensures row { alone (Instr.LIT n) self.old.at self.old.operands ≡ alone_by result self.new.at self.new.operands }
         ensures changes { Changes result self.old self.new }
     {
-        let a = self.operand(0);
-        match i {
-            Instr::NEG => self.pass_outcome(1, negative(a)),
-            Instr::ABS => self.pass_outcome(1, magnitude(a)),
-            Instr::SQR => self.pass_outcome(1, square(a)),
-            Instr::ODD => self.pass_outcome(1, Ok(odd(a))),
-            Instr::CHR => self.pass_outcome(1, char_at(a)),
-            Instr::SUCC(k) => self.pass_outcome(1, next_value(Simple::of(k), a)),
-            Instr::PRED(k) => self.pass_outcome(1, value_before(Simple::of(k), a)),
-            Instr::NOT => self.pass_outcome(1, Ok(inverse(a))),
-            _ => self.of_two(i),
-        }
+        self.push(i64::from(n));
+        self.pass();
+        Did::Passed
     }
 
-    /// Jumps and loops.
-    fn jumping(&mut self, i: Instr) -> Did
-        requires held { needs i ≤ length self.old.operands }
+    /// The address moves on to a field.
+    fn move_on(&mut self, k: u32) -> Did
+        requires held { 1 ≤ length self.old.operands }
+        requires reckons { Reckons (Instr.FLD k) self.old.operands }
         requires next { self.old.at + 1 < 2 ^ 32 }
-        ensures row { jumping i self.old.at self.old.operands ≡ alone_by result self.new.at self.new.operands }
+        ensures row { alone (Instr.FLD k) self.old.at self.old.operands ≡ alone_by result self.new.at self.new.operands }
         ensures changes { Changes result self.old self.new }
     {
-        match i {
-            Instr::JMP(a) => {
-                self.go(a);
-                Did::Passed
-            }
-            Instr::JF(a) => {
-                let to = if is_true(self.operand(0)) {
-                    self.at() + 1
-                } else {
-                    a
-                };
-                self.leave(1, to);
-                Did::Passed
-            }
-            Instr::TURN(a) => self.turn(a),
-            Instr::FORB(d, a) => self.begin_for(d, a),
-            Instr::FORT(d, a) => self.turn_for(d, a),
-            Instr::CEQ(n, a) => {
-                if self.operand(0) == i64::from(n) {
-                    self.leave(1, a);
-                } else {
-                    self.pass();
-                }
-                Did::Passed
-            }
-            Instr::CERR => Did::Faulted(RunFault::Case),
-            _ => self.of_one(i),
-        }
+        let a = self.held(0) + i64::from(k);
+        self.pass_with(1, a);
+        Did::Passed
     }
 
-    /// The instructions that need no more than the address and the operands of their process: numbers, the address of an
-    /// element or of a field, and all of the above. Any other is left undone.
-    pub(crate) fn alone(&mut self, i: Instr) -> Did
-        requires held { needs i ≤ length self.old.operands }
-        requires room { adds i ≤ self.old.room - length self.old.operands }
-        requires reckons { Reckons i self.old.operands }
-        requires next { self.old.at + 1 < 2 ^ 32 }
-        ensures row { alone i self.old.at self.old.operands ≡ alone_by result self.new.at self.new.operands }
+    fn jump(&mut self, a: u32) -> Did
+        ensures row { jumping (Instr.JMP a) self.old.at self.old.operands ≡ alone_by result self.new.at self.new.operands }
         ensures changes { Changes result self.old self.new }
     {
-        match i {
-            Instr::LIT(n) => {
-                self.push(i64::from(n));
-                self.pass();
-                Did::Passed
-            }
-            Instr::IDX(low, high, z) => {
-                let i = self.operand(0);
-                let array = self.operand(1);
-                self.pass_outcome(2, element(low, high, z, i, array))
-            }
-            Instr::FLD(k) => {
-                let a = self.operand(0) + i64::from(k);
-                self.pass_with(1, a);
-                Did::Passed
-            }
-            _ => self.jumping(i),
+        self.go(a);
+        Did::Passed
+    }
+
+    fn jump_if_false(&mut self, a: u32) -> Did
+        requires held { 1 ≤ length self.old.operands }
+        requires next { self.old.at + 1 < 2 ^ 32 }
+        ensures row { jumping (Instr.JF a) self.old.at self.old.operands ≡ alone_by result self.new.at self.new.operands }
+        ensures changes { Changes result self.old self.new }
+    {
+        let to = if is_true(self.held(0)) {
+            self.at() + 1
+        } else {
+            a
+        };
+        self.leave(1, to);
+        Did::Passed
+    }
+
+    fn jump_if_equal(&mut self, n: i32, a: u32) -> Did
+        requires held { 1 ≤ length self.old.operands }
+        requires next { self.old.at + 1 < 2 ^ 32 }
+        ensures row { jumping (Instr.CEQ n a) self.old.at self.old.operands ≡ alone_by result self.new.at self.new.operands }
+        ensures changes { Changes result self.old self.new }
+    {
+        if self.held(0) == i64::from(n) {
+            self.leave(1, a);
+        } else {
+            self.pass();
         }
+        Did::Passed
     }
 
     /// Back to an address, as an action.

@@ -26,23 +26,23 @@ impl Store {
         ensures row { (i : Instr) → slice_get image.now.code.items (stack_of self.old r.number).at ≡ Some i → IsPerformed i r.number self.old result self.new }
     {
         let p = r.number();
-        let at = self.at(p);
-        let instr = image.code[at as usize];
+        let at = self.here(p);
+        let instr = &image.code[at as usize];
         match self.perform(p, instr) {
             Did::Passed => Instructed::Quiet(r),
             Did::Action => Instructed::Acted(r),
             Did::Faulted(fault) => Instructed::Fault { r, fault },
-            Did::Nothing => Instructed::Outward { r, instr },
+            Did::Nothing => Instructed::Outward { r, instr: *instr },
         }
     }
 
-    fn perform(&mut self, p: u32, i: Instr) -> Did
+    fn perform(&mut self, p: u32, i: &Instr) -> Did
         requires process { p < length self.old }
-        requires fits { Fits i p self.old }
+        requires fits { Fits i.now p self.old }
         requires next { (stack_of self.old p).at + 1 < 2 ^ 32 }
-        ensures { IsDone (row i p self.old) self.old result self.new }
+        ensures { IsDone (row i.now p self.old) self.old result self.new }
     {
-        match i {
+        match *i {
             Instr::ADDR(l, d) => {
                 self.push_address(p, l, d);
                 Did::Passed
@@ -72,8 +72,7 @@ impl Store {
         ensures { self.new ≡ passed self.old p (cell_word self.old p l d ∷ (stack_of self.old p).operands) }
     {
         let w = self.cell_word(p, l, d);
-        self.pass(p, 0);
-        self.push(p, w);
+        self.pass_more(p, w);
     }
 
     fn cell_word(&self, p: u32, l: u32, d: u32) -> i64
@@ -112,6 +111,23 @@ impl Store {
         requires next { (stack_of self.old p).at + 1 < 2 ^ 32 }
         ensures { self.new ≡ passed self.old p (reverse (cells_at self.old (ref_of (operand (stack_of self.old p).operands 0)) z) ++ drop 1 (stack_of self.old p).operands) }
     {
+        if z == 1 {
+            let v = self.read(Ref::of(self.held(p, 0)));
+            self.pass_instead(p, v);
+        } else {
+            self.load_cells(p, z);
+        }
+    }
+
+    /// The same, cell by cell.
+    fn load_cells(&mut self, p: u32, z: u32)
+        requires process { p < length self.old }
+        requires held { 1 ≤ length (stack_of self.old p).operands }
+        requires room { z - 1 ≤ (stack_of self.old p).room - length (stack_of self.old p).operands }
+        requires live { AreLive self.old (ref_of (operand (stack_of self.old p).operands 0)) z }
+        requires next { (stack_of self.old p).at + 1 < 2 ^ 32 }
+        ensures { self.new ≡ passed self.old p (reverse (cells_at self.old (ref_of (operand (stack_of self.old p).operands 0)) z) ++ drop 1 (stack_of self.old p).operands) }
+    {
         let from = Ref::of(self.operand(p, 0));
         self.pass(p, 1);
         for j in 0..z as usize {
@@ -128,8 +144,12 @@ impl Store {
         requires next { (stack_of self.old p).at + 1 < 2 ^ 32 }
         ensures { self.new ≡ passed (written self.old (ref_of (operand (stack_of self.old p).operands z)) (reverse (take z (stack_of self.old p).operands))) p (drop (z + 1) (stack_of self.old p).operands) }
     {
-        let to = Ref::of(self.operand(p, z as usize));
-        self.copy_out(p, 0, z, to);
+        let to = Ref::of(self.held(p, z as usize));
+        if z == 1 {
+            self.write(to, self.held(p, 0));
+        } else {
+            self.copy_out(p, 0, z, to);
+        }
         self.pass(p, z as usize + 1);
     }
 
@@ -141,8 +161,8 @@ impl Store {
         requires next { (stack_of self.old p).at + 1 < 2 ^ 32 }
         ensures { self.new ≡ passed (written self.old (ref_of (operand (stack_of self.old p).operands 2)) (operand (stack_of self.old p).operands 1 ∷ [])) p (stack_of self.old p).operands }
     {
-        let to = Ref::of(self.operand(p, 2));
-        self.copy_out(p, 1, 1, to);
+        let to = Ref::of(self.held(p, 2));
+        self.write(to, self.held(p, 1));
         self.pass(p, 0);
     }
 }

@@ -88,6 +88,22 @@ impl ProcessStack {
         self.cells.get(k).copied().unwrap_or(0)
     }
 
+    /// The cell at a place at which there is one, from 0.
+    pub(crate) fn live_cell(&self, k: usize) -> i64
+        requires { k < length self.now.cells }
+        ensures { result ≡ get_or self.now.cells k (pos 0) }
+    {
+        self.cells[k]
+    }
+
+    /// Writes the cell at a place at which there is one, from 0.
+    pub(crate) fn set_live_cell(&mut self, k: usize, v: i64)
+        requires { k < length self.old.cells }
+        ensures { self.new ≡ record self.old { cells = set self.old.cells k v } }
+    {
+        self.cells[k] = v;
+    }
+
     /// Writes the cell at a place, from 0, where there is one.
     pub(crate) fn set_cell(&mut self, k: usize, v: i64)
         ensures { self.new ≡ record self.old { cells = set self.old.cells k v } }
@@ -102,6 +118,14 @@ impl ProcessStack {
         ensures { result ≡ operand self.now.operands k }
     {
         self.operands.at(k)
+    }
+
+    /// The operand at a depth at which there is one, the top at 0.
+    pub(crate) fn held(&self, k: usize) -> i64
+        requires { k < length self.now.operands }
+        ensures { result ≡ operand self.now.operands k }
+    {
+        self.operands.held(k)
     }
 
     /// Writes the operand at a depth, where there is one.

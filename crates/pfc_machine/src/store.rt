@@ -1,5 +1,5 @@
 //! The stacks of all processes.
-ghost use Rattle.std.specs.Prelude.{◌≡◌, ◌≤◌, ◌<◌, ◌+◌, ◌-◌, ◌^◌, ℕ, ℤ, pos, Some, ◌∷◌, ◌++◌, length, take, drop, set, get_or, reverse, IfOk};
+ghost use Rattle.std.specs.Prelude.{◌≡◌, ◌≤◌, ◌<◌, ◌+◌, ◌-◌, ◌^◌, ℕ, ℤ, pos, Some, [], ◌∷◌, ◌++◌, length, take, drop, set, get_or, reverse, IfOk};
 ghost use Rattle.pfc_code.specs.Images.{plain_image};
 ghost use Rattle.pfc_machine.specs.Answers.{IsDone};
 ghost use Rattle.pfc_machine.specs.Fits.{needs, adds, Reckons, AreLive};
@@ -153,6 +153,52 @@ impl Store {
         }
     }
 
+    /// The address of the instruction of a process of the store that comes next, from 0.
+    pub(crate) fn here(&self, p: u32) -> u32
+        requires { p < length self.now }
+        ensures { result ≡ (stack_of self.now p).at }
+    {
+        let stack = &self.stacks[p as usize];
+        stack.at()
+    }
+
+    /// The operand of a process of the store at a depth at which there is one, the top at 0.
+    pub(crate) fn held(&self, p: u32, k: usize) -> i64
+        requires process { p < length self.now }
+        requires held { k < length (stack_of self.now p).operands }
+        ensures { result ≡ operand (stack_of self.now p).operands k }
+    {
+        let stack = &self.stacks[p as usize];
+        stack.held(k)
+    }
+
+    /// The cell at an address.
+    pub(crate) fn read(&self, from: Ref) -> i64
+        requires { AreLive self.now from 1 }
+        ensures { result ≡ get_or (cells_of self.now from.process) from.cell (pos 0) }
+    {
+        let stack = &self.stacks[from.process as usize];
+        stack.live_cell(from.cell as usize)
+    }
+
+    /// Writes the cell at an address.
+    pub(crate) fn write(&mut self, to: Ref, v: i64)
+        requires { AreLive self.old to 1 }
+        ensures { self.new ≡ written self.old to (v ∷ []) }
+    {
+        self.set_live_cell(to.process, to.cell as usize, v);
+    }
+
+    /// Writes the cell of a process at a place at which there is one, from 0.
+    fn set_live_cell(&mut self, q: u32, k: usize, v: i64)
+        requires process { q < length self.old }
+        requires cell { k < length (cells_of self.old q) }
+        ensures { self.new ≡ set self.old q (record (stack_of self.old q) { cells = set (cells_of self.old q) k v }) }
+    {
+        let stack = &mut self.stacks[q as usize];
+        stack.set_live_cell(k, v);
+    }
+
     /// The cell of a process at a place, from 0; 0 where there is none.
     pub(crate) fn cell(&self, q: u32, k: usize) -> i64
         ensures { result ≡ get_or (cells_of self.now q) k (pos 0) }
@@ -175,13 +221,12 @@ impl Store {
 
     /// Where the own cells of the current activation of a process begin.
     pub(crate) fn base(&self, p: u32) -> u32
+        requires { p < length self.now }
         ensures base { result ≡ (stack_of self.now p).base }
         ensures few { length self.now ≤ 1024 }
     {
-        match self.stacks.get(p as usize) {
-            Some(stack) => stack.base(),
-            None => 0,
-        }
+        let stack = &self.stacks[p as usize];
+        stack.base()
     }
 
     /// Pops so many operands of a process, or all where it has fewer, which goes on at the next instruction.
@@ -196,14 +241,37 @@ impl Store {
         stack.leave(n, next);
     }
 
-    /// An instruction that needs no more than the address and the operands of its process. Any other is left undone.
-    pub(crate) fn alone(&mut self, p: u32, i: Instr) -> Did
+    /// Pushes an operand of a process, which goes on at the next instruction.
+    pub(crate) fn pass_more(&mut self, p: u32, v: i64)
         requires process { p < length self.old }
-        requires held { needs i ≤ length (stack_of self.old p).operands }
-        requires room { adds i ≤ (stack_of self.old p).room - length (stack_of self.old p).operands }
-        requires reckons { Reckons i (stack_of self.old p).operands }
+        requires room { length (stack_of self.old p).operands < (stack_of self.old p).room }
         requires next { (stack_of self.old p).at + 1 < 2 ^ 32 }
-        ensures { IsDone (within self.old p (alone i (stack_of self.old p).at (stack_of self.old p).operands)) self.old result self.new }
+        ensures { self.new ≡ passed self.old p (v ∷ (stack_of self.old p).operands) }
+    {
+        let stack = &mut self.stacks[p as usize];
+        stack.push(v);
+        stack.pass();
+    }
+
+    /// Puts an operand in the place of the top of a process, which goes on at the next instruction.
+    pub(crate) fn pass_instead(&mut self, p: u32, v: i64)
+        requires process { p < length self.old }
+        requires held { 1 ≤ length (stack_of self.old p).operands }
+        requires next { (stack_of self.old p).at + 1 < 2 ^ 32 }
+        ensures { self.new ≡ passed self.old p (v ∷ drop 1 (stack_of self.old p).operands) }
+    {
+        let stack = &mut self.stacks[p as usize];
+        stack.pass_with(1, v);
+    }
+
+    /// An instruction that needs no more than the address and the operands of its process. Any other is left undone.
+    pub(crate) fn alone(&mut self, p: u32, i: &Instr) -> Did
+        requires process { p < length self.old }
+        requires held { needs i.now ≤ length (stack_of self.old p).operands }
+        requires room { adds i.now ≤ (stack_of self.old p).room - length (stack_of self.old p).operands }
+        requires reckons { Reckons i.now (stack_of self.old p).operands }
+        requires next { (stack_of self.old p).at + 1 < 2 ^ 32 }
+        ensures { IsDone (within self.old p (alone i.now (stack_of self.old p).at (stack_of self.old p).operands)) self.old result self.new }
     {
         let stack = &mut self.stacks[p as usize];
         stack.alone(i)

@@ -1,8 +1,6 @@
 -- The words of main's locations are addresses.
-use Rattle.std.proofs.Common.{◌≡◌, ℕ, ◌+◌, ◌<◌, ◌≤◌, ◌^◌, ℤ, pos, ◌≤ℤ◌, ◌<ℤ◌, List, [], sym, subst, arith}
+use Rattle.std.proofs.Common.{ℕ, ◌+◌, ◌<◌, ◌^◌, ℤ, pos, [], sym, subst, arith}
 use Rattle.std.proofs.lemmas.Bool.Decides.{nat_tests}
-use Rattle.pfc_types.specs.Types.{cells_in}
-use Rattle.pfc_types.specs.rules.Declarations.{scope_cells}
 use Rattle.pfc_types.specs.declared.types.TypeId.{TypeId}
 use Rattle.pfc_meaning.specs.Store.{Location}
 use Rattle.pfc_machine.specs.Refs.{IsAddress}

@@ -1,21 +1,21 @@
 -- The tests of a `case` lead to the arm that has its value among the labels.
-use Rattle.std.proofs.Common.{◌≡◌, ℕ, zero, suc, ◌+◌, ◌<◌, ◌≤◌, ℤ, Bool, true, false, ◌||◌, if◌then◌else◌, List, [], ◌∷◌, ◌++◌, length, Option, Some, None, refl, sym, ap, ◌∙◌, subst, arith}
+use Rattle.std.proofs.Common.{◌≡◌, ℕ, suc, ◌+◌, ◌<◌, ◌≤◌, ℤ, Bool, true, false, ◌||◌, if◌then◌else◌, List, [], ◌∷◌, length, Option, Some, None, refl, sym, ap, ◌∙◌, arith}
 use Rattle.std.specs.Ordering.{int_eq}
 use Rattle.std.proofs.lemmas.List.{length-append}
 use Rattle.pfc_code.specs.declared.instructions.Instr.TheVariants.{CEQ, JMP}
 use Rattle.pfc_tree.specs.declared.tree.Constant.{Constant}
-use Rattle.pfc_tree.specs.trees.Stmts.{StmtTree, ArmTree, ArmTrees, arm, no_arms, more_arms}
+use Rattle.pfc_tree.specs.trees.Stmts.{ArmTree, ArmTrees, arm, no_arms, more_arms}
 use Rattle.pfc_types.specs.rules.Constants.{Ordinal, constant_value}
 use Rattle.pfc_meaning.specs.Frames.{Next}
 use Rattle.pfc_meaning.specs.Expressions.{Context}
 use Rattle.pfc_meaning.specs.Statements.{context, is_ordinal, is_label, are_labels}
-use Rattle.pfc_gen.specs.Phrases.{Code, one}
-use Rattle.pfc_gen.specs.Statements.{stmt_code, label_of, labels_code, label_count, tests_code, arms_code, arms_size, strings_in}
+use Rattle.pfc_translation.specs.Statements.{label_of, label_count}
+use Rattle.pfc_relation.specs.code.Statements.{stmt_code, labels_code, tests_code, arms_code, arms_size, strings_in}
 use Rattle.pfc_machine.specs.Rows.{quiet}
 use Rattle.pfc_relation.specs.Standing.{Program, IsAt, Stands}
 use Rattle.pfc_relation.specs.Following.{Follows}
 use Rattle.pfc_relation.specs.Typed.{HaveValues}
-use Rattle.pfc_relation.proofs.Glue.{room_for, tail, head, follows_moved}
+use Rattle.pfc_relation.proofs.Glue.{tail, head, follows_moved}
 use Rattle.pfc_relation.proofs.Moves.{fits, move, next_move}
 use Rattle.pfc_relation.proofs.Ranges.{same_turned}
 use Rattle.pfc_relation.proofs.Types.{none_is_some}

@@ -10,7 +10,7 @@ use Rattle.pfc_types.specs.declared.scope.Meaning.{Meaning}
 use Rattle.pfc_types.specs.declared.scope.Meaning.TheVariants.{Variable}
 use Rattle.pfc_meaning.specs.Values.{Value, ordinal, part, with_part}
 use Rattle.pfc_meaning.specs.Store.{Location, Store, variables, value_at, stored}
-use Rattle.pfc_gen.specs.Cells.{cells_before}
+use Rattle.pfc_relation.specs.code.Cells.{cells_before}
 use Rattle.pfc_relation.specs.Cells.{IsSound, IsOf, IsNamed, AreCells, LiesAt, words_of}
 use Rattle.pfc_relation.proofs.Lists.{nested, over_written, middle_read, middle_within}
 use Rattle.pfc_relation.proofs.Words.{words_length, Around, around}

@@ -1,11 +1,10 @@
 -- Code that stands in parts, and how many operands are held behind it.
-use Rattle.std.proofs.Common.{◌≡◌, ℕ, zero, suc, ◌+◌, ◌<◌, ◌≤◌, ℤ, List, [], ◌∷◌, ◌++◌, length, map, refl, sym, ap, ◌∙◌, subst, arith}
-use Rattle.std.proofs.lemmas.List.{length-append}
+use Rattle.std.proofs.Common.{◌≡◌, ℕ, suc, ◌+◌, ◌≤◌, ℤ, List, [], ◌∷◌, ◌++◌, length, refl, ap, ◌∙◌, subst, arith}
 use Rattle.pfc_code.specs.declared.instructions.Instr.{Instr}
 use Rattle.pfc_types.specs.declared.types.TypeId.{TypeId}
 use Rattle.pfc_meaning.specs.Frames.{Rest, Use, Goal, Next}
-use Rattle.pfc_gen.specs.Phrases.{Code}
-use Rattle.pfc_gen.specs.Images.{held_behind, most_operands, instructions}
+use Rattle.pfc_relation.specs.code.Phrases.{Code}
+use Rattle.pfc_relation.specs.code.Images.{held_behind, most_operands, instructions}
 use Rattle.pfc_relation.specs.Standing.{Program, IsAt, HasCode, Stands, RestAt, UseAt, GoalAt}
 use Rattle.pfc_relation.specs.Following.{Follows}
 

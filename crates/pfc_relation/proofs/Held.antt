@@ -1,5 +1,5 @@
 -- How many operands the code of an expression leaves: one more than before. Selectors leave as many as before.
-use Rattle.std.proofs.Common.{◌≡◌, ℕ, zero, suc, ◌+◌, ◌-◌, ℤ, Bool, true, false, List, [], ◌∷◌, ◌++◌, length, Option, Some, None, refl, sym, ap, ◌∙◌, subst, arith}
+use Rattle.std.proofs.Common.{◌≡◌, ℕ, suc, ◌+◌, ◌-◌, true, ◌++◌, Option, Some, None, refl, ap, ◌∙◌, arith}
 use Rattle.pfc_base.specs.declared.places.Place.{Place}
 use Rattle.pfc_code.specs.declared.instructions.Instr.TheVariants.{LOAD}
 use Rattle.pfc_tree.specs.declared.tree.Sign.{Sign}
@@ -10,11 +10,11 @@ use Rattle.pfc_tree.specs.declared.tree.AddOp.{AddOp}
 use Rattle.pfc_tree.specs.declared.tree.AddOp.TheVariants.{Add, Sub, Or}
 use Rattle.pfc_tree.specs.declared.tree.MulOp.{MulOp}
 use Rattle.pfc_tree.specs.declared.tree.MulOp.TheVariants.{Mul, Div, Mod, And}
-use Rattle.pfc_tree.specs.trees.Exprs.{ExprTree, SimpleTree, SummandTrees, TermTree, MultiplierTrees, FactorTree, DesigTree, SelectorTrees, ExprTrees, ActualTrees, plain, related, sum, no_summands, more_summands, product, no_multipliers, more_multipliers, number, literal, negation, paren, applied as used, desig, index, field, no_selectors, more_selectors, no_exprs, more_exprs, actual, actual_width, no_actuals, more_actuals}
-use Rattle.pfc_types.specs.Types.{Forms, is_simple, cells_in}
+use Rattle.pfc_tree.specs.trees.Exprs.{ExprTree, SimpleTree, SummandTrees, TermTree, MultiplierTrees, FactorTree, SelectorTrees, ExprTrees, ActualTrees, plain, related, sum, no_summands, more_summands, product, no_multipliers, more_multipliers, number, literal, negation, paren, applied as used, desig, index, field, no_selectors, more_selectors, no_exprs, more_exprs, actual, actual_width, no_actuals, more_actuals}
+use Rattle.pfc_types.specs.Types.{Forms}
 use Rattle.pfc_types.specs.Scopes.{meaning_of}
 use Rattle.pfc_types.specs.rules.Kinds.{has_simple, variable_type}
-use Rattle.pfc_types.specs.rules.Expressions.{Env, find, first_type, field_type}
+use Rattle.pfc_types.specs.rules.Expressions.{find, first_type, field_type}
 use Rattle.pfc_types.specs.declared.types.TypeId.{TypeId}
 use Rattle.pfc_types.specs.declared.types.TypeForm.{TypeForm}
 use Rattle.pfc_types.specs.declared.types.TypeForm.TheVariants.{Channel, Array, Record, Process as AProcess}
@@ -22,9 +22,12 @@ use Rattle.pfc_types.specs.declared.scope.Meaning.{Meaning}
 use Rattle.pfc_types.specs.declared.scope.Meaning.TheVariants.{Constant, Named, Variable, Sub as ASub, Module, Process, Entry, Predeclared, Faulty}
 use Rattle.pfc_meaning.specs.Operators.{Function, abs, sqr, odd, ord, chr, succ, pred, eof, eoln, random, no_function, function_of}
 use Rattle.pfc_meaning.specs.Expressions.{Context, form_in}
-use Rattle.pfc_gen.specs.Cells.{cell_found, type_cells, element_type, type_behind}
-use Rattle.pfc_gen.specs.Images.{held_behind}
-use Rattle.pfc_gen.specs.Phrases.{Code, one, relation_instr, add_instr, multiply_instr, sign_code, function_code, call_code, index_instr, type_selected, name_code, expr_code, simple_code, summands_code, term_code, multipliers_code, factor_code, argument_code, selectors_code, indices_code, desig_code}
+use Rattle.pfc_translation.specs.Addresses.{index_instr}
+use Rattle.pfc_translation.specs.Expressions.{relation_instr, add_instr, multiply_instr}
+use Rattle.pfc_translation.specs.Sites.{type_cells}
+use Rattle.pfc_relation.specs.code.Cells.{cell_found, element_type, type_behind}
+use Rattle.pfc_relation.specs.code.Images.{held_behind}
+use Rattle.pfc_relation.specs.code.Phrases.{Code, one, sign_code, call_code, type_selected, name_code, expr_code, simple_code, summands_code, term_code, multipliers_code, factor_code, argument_code, selectors_code, indices_code}
 use Rattle.pfc_relation.specs.Cells.{IsSound}
 use Rattle.pfc_relation.specs.Numbers.{IsNumeric, IsNumericSimple, AreNumericSummands, IsNumericTerm, AreNumericMultipliers, IsNumericFactor, IsNumericUse, IsNumericArgument, AreSelectors, AreIndices}
 use Rattle.pfc_relation.proofs.Glue.{held_after, held_both}

@@ -1,16 +1,14 @@
 -- How many operands the code of a statement leaves: as many as before.
-use Rattle.std.proofs.Common.{◌≡◌, ◌⊎◌, inl, inr, ℕ, zero, suc, ◌+◌, ◌-◌, ℤ, pos, Bool, true, false, if◌then◌else◌, List, [], ◌∷◌, ◌++◌, length, Option, Some, None, refl, sym, ap, ◌∙◌, subst, arith}
-use Rattle.pfc_base.specs.declared.places.Place.{Place}
+use Rattle.std.proofs.Common.{◌≡◌, ◌⊎◌, inl, inr, ℕ, suc, ◌+◌, ◌-◌, Bool, true, false, if◌then◌else◌, List, [], ◌∷◌, ◌++◌, length, Option, Some, None, refl, ap, ◌∙◌, arith}
 use Rattle.pfc_code.specs.declared.instructions.Instr.{Instr}
-use Rattle.pfc_code.specs.declared.instructions.Instr.TheVariants.{ADDR, LOAD, STORE, NOT, JMP, JF, TURN, FORB, FORW, FORT, CEQ, CERR, WRI, WRB, WRC, WRS, WRNL, RDI, RDC, RDNL}
+use Rattle.pfc_code.specs.declared.instructions.Instr.TheVariants.{LOAD, STORE, JMP, TURN, FORB, FORW, FORT, CERR, WRS, WRNL, RDNL}
 use Rattle.pfc_tree.specs.Symbols.{Text}
 use Rattle.pfc_tree.specs.declared.tree.Constant.{Constant}
 use Rattle.pfc_tree.specs.trees.Exprs.{ExprTree, DesigTree, ActualTree, ActualTrees, desig, actual, actual_width, no_actuals, more_actuals}
-use Rattle.pfc_tree.specs.trees.Stmts.{StmtTree, StmtTrees, BodyTree, ArmTree, ArmTrees, empty, null, block, if_then, if_then_else, case_of, while_do, repeat_until, repeat_forever, for_do, cobegin, accepting, requeue, select, select_else, assign, send, receive, call, no_stmts, more_stmts, body, arm, no_arms, more_arms}
-use Rattle.pfc_types.specs.Types.{Forms, is_simple, cells_in}
+use Rattle.pfc_tree.specs.trees.Stmts.{StmtTree, StmtTrees, ArmTree, ArmTrees, empty, null, block, if_then, if_then_else, case_of, while_do, repeat_until, repeat_forever, for_do, cobegin, accepting, requeue, select, select_else, assign, send, receive, call, no_stmts, more_stmts, body, arm, no_arms, more_arms}
+use Rattle.pfc_types.specs.Types.{is_simple, cells_in}
 use Rattle.pfc_types.specs.Scopes.{meaning_of}
 use Rattle.pfc_types.specs.rules.Kinds.{variable_type}
-use Rattle.pfc_types.specs.rules.Constants.{constant_value}
 use Rattle.pfc_types.specs.rules.Expressions.{Env, find, as_desig, expr_type, desig_type}
 use Rattle.pfc_types.specs.declared.types.TypeId.{TypeId}
 use Rattle.pfc_values.specs.declared.simple.Simple.{Simple}
@@ -20,16 +18,18 @@ use Rattle.pfc_meaning.specs.Frames.{Rest, Next, copies_from, writes, assign_to,
 use Rattle.pfc_meaning.specs.Values.{ordinal}
 use Rattle.pfc_meaning.specs.Expressions.{Context, from_expr, from_desig}
 use Rattle.pfc_meaning.specs.Statements.{context, variable_in, has_simple_type, from_assign, from_copy, as_string, item_of}
-use Rattle.pfc_gen.specs.Cells.{cell_found, type_cells}
-use Rattle.pfc_gen.specs.Images.{held_behind}
-use Rattle.pfc_gen.specs.Phrases.{Code, one, expr_code, desig_code, selectors_code}
-use Rattle.pfc_gen.specs.Statements.{assign_code, whole_code, write_instr, plain_item, wide_item, item_code, string_count, writes_code, read_instr, variable_code, reads_code, called, procedure_code, strings_in, label_of, labels_code, label_count, stmt_code, stmts_code, tests_code, arms_code, arms_size}
+use Rattle.pfc_translation.specs.Calls.{write_instr, read_instr}
+use Rattle.pfc_translation.specs.Sites.{type_cells}
+use Rattle.pfc_translation.specs.Statements.{label_count}
+use Rattle.pfc_relation.specs.code.Images.{held_behind}
+use Rattle.pfc_relation.specs.code.Phrases.{Code, one, expr_code, desig_code, selectors_code}
+use Rattle.pfc_relation.specs.code.Statements.{assign_code, whole_code, plain_item, wide_item, item_code, string_count, writes_code, variable_code, reads_code, called, procedure_code, strings_in, labels_code, stmt_code, stmts_code, tests_code, arms_code, arms_size}
 use Rattle.pfc_relation.specs.Cells.{IsSound}
-use Rattle.pfc_relation.specs.Standing.{Program, IsChecked, direction}
-use Rattle.pfc_relation.specs.Typed.{IsNumber, IsSimpleDesig, IsAssignment, of_number, of_whole, IsItem, IsWritten, AreWritten, AreRead, IsCall, HaveValues, IsTyped, AreTyped, AreArmsTyped}
+use Rattle.pfc_relation.specs.Standing.{Program, IsChecked}
+use Rattle.pfc_relation.specs.Typed.{IsNumber, IsSimpleDesig, IsAssignment, of_number, of_whole, IsItem, IsWritten, AreWritten, AreRead, IsCall, IsTyped, AreTyped, AreArmsTyped}
 use Rattle.pfc_relation.proofs.Glue.{held_after, held_both}
 use Rattle.pfc_relation.proofs.Held.{held_expr, held_selectors}
-use Rattle.pfc_relation.proofs.Types.{some_alike, number_is_numeric, selectors_are}
+use Rattle.pfc_relation.proofs.Types.{number_is_numeric, selectors_are}
 
 -- ## Instructions
 

@@ -1,26 +1,24 @@
 -- The code of `write` and of `read` follows their next action, and so does what waits for an item or a width.
-use Rattle.std.proofs.Common.{◌≡◌, ℕ, zero, suc, ◌+◌, ◌≤◌, ℤ, Bool, true, false, if◌then◌else◌, List, [], ◌∷◌, ◌++◌, length, Option, Some, None, Result, Ok, Err, refl, sym, ap, ◌∙◌, subst, arith}
+use Rattle.std.proofs.Common.{◌≡◌, ℕ, suc, ◌+◌, ℤ, Bool, true, false, List, [], ◌∷◌, ◌++◌, length, Option, Some, None, Result, Ok, Err, refl, sym, ap, ◌∙◌, subst, arith}
 use Rattle.std.proofs.lemmas.List.{length-append}
-use Rattle.std.specs.List.{slice_get}
 use Rattle.pfc_base.specs.declared.faults.RunFault.{RunFault}
 use Rattle.pfc_code.specs.declared.instructions.Instr.TheVariants.{WRS, WRNL, RDNL}
 use Rattle.pfc_tree.specs.Symbols.{Text}
 use Rattle.pfc_tree.specs.trees.Exprs.{ExprTree, DesigTree, ActualTree, ActualTrees, actual, actual_width, no_actuals, more_actuals}
-use Rattle.pfc_types.specs.rules.Expressions.{Env, as_desig, expr_type, desig_type}
+use Rattle.pfc_types.specs.rules.Expressions.{expr_type, desig_type}
 use Rattle.pfc_types.specs.declared.types.TypeId.{TypeId}
-use Rattle.pfc_values.specs.declared.simple.Simple.{Simple}
 use Rattle.pfc_values.specs.Pieces.{shown, padded}
-use Rattle.pfc_meaning.specs.Store.{Location}
 use Rattle.pfc_meaning.specs.Operators.{simple_of, Procedure, reader, writer, no_procedure}
-use Rattle.pfc_meaning.specs.Frames.{Rest, Next, write_on, read_on, show, show_wide, pad, input_to, prints, inputs, skips}
-use Rattle.pfc_meaning.specs.Expressions.{Context, from_expr, from_desig}
-use Rattle.pfc_meaning.specs.Statements.{context, as_string, from_piece, from_width, from_shown, from_wide, from_string, from_wide_string, from_item, from_writes, item_of, from_variable, from_reads, from_procedure}
-use Rattle.pfc_gen.specs.Phrases.{Code, one, expr_code, desig_code}
-use Rattle.pfc_gen.specs.Statements.{write_instr, plain_item, wide_item, item_code, listed, strings_among, string_count, writes_code, read_instr, variable_code, reads_code, procedure_code, procedure_strings}
+use Rattle.pfc_meaning.specs.Frames.{Rest, Next, write_on, read_on, show, show_wide, pad, input_to, prints, inputs}
+use Rattle.pfc_meaning.specs.Expressions.{Context, from_expr}
+use Rattle.pfc_meaning.specs.Statements.{context, as_string, from_piece, from_width, from_string, from_wide_string, from_item, from_writes, item_of, from_variable, from_reads, from_procedure}
+use Rattle.pfc_translation.specs.Calls.{write_instr, read_instr}
+use Rattle.pfc_relation.specs.code.Phrases.{one, expr_code, desig_code}
+use Rattle.pfc_relation.specs.code.Statements.{plain_item, wide_item, item_code, listed, strings_among, string_count, writes_code, variable_code, reads_code, procedure_code, procedure_strings}
 use Rattle.pfc_relation.specs.Typed.{IsNumber, IsSimpleDesig, IsItem, IsWritten, AreWritten, AreRead, IsCall}
-use Rattle.pfc_relation.specs.Standing.{Program, IsChecked, IsAt, Stands, IsWord, IsSimpleWord, HasTexts, Leads, arrived, RestAt, PadAt, of_number, of_string}
-use Rattle.pfc_relation.specs.Following.{number, wide_number, string, wide_string, newline, IsPiece, of_number_width, of_string_width, Follows, arrives}
-use Rattle.pfc_relation.proofs.Glue.{room_for, front, back, head, rest_moved, follows_moved}
+use Rattle.pfc_relation.specs.Standing.{Program, IsChecked, IsAt, Stands, HasTexts, arrived, RestAt, PadAt, of_number, of_string}
+use Rattle.pfc_relation.specs.Following.{number, wide_number, string, wide_string, newline, of_number_width, of_string_width, Follows, arrives}
+use Rattle.pfc_relation.proofs.Glue.{front, back, head, rest_moved, follows_moved}
 use Rattle.pfc_relation.proofs.HeldStatements.{numeric_held, held_desig, held_item, held_variable}
 use Rattle.pfc_relation.proofs.Expressions.{ends_behind}
 use Rattle.pfc_relation.proofs.Locations.{number_follows, desig_follows}

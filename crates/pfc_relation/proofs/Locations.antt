@@ -1,35 +1,33 @@
 -- The code of a variable with its selectors follows its next action, and so does what waits for its location.
-use Rattle.std.proofs.Common.{◌≡◌, ℕ, zero, suc, ◌+◌, ◌-◌, ◌≤◌, ℤ, pos, Bool, true, false, List, [], ◌∷◌, ◌++◌, length, reverse, Option, Some, None, refl, sym, ap, ◌∙◌, subst, arith}
-use Rattle.std.proofs.lemmas.List.{length-append}
+use Rattle.std.proofs.Common.{◌≡◌, ℕ, suc, ◌+◌, ℤ, pos, Bool, List, [], ◌∷◌, ◌++◌, length, Option, Some, None, refl, sym, ap, subst, arith}
 use Rattle.pfc_code.specs.declared.instructions.Instr.TheVariants.{ADDR, LOAD, STORE}
 use Rattle.pfc_tree.specs.Symbols.{Text}
 use Rattle.pfc_tree.specs.trees.Exprs.{ExprTree, DesigTree, SelectorTrees, desig}
-use Rattle.pfc_types.specs.Types.{is_simple, cells_in}
+use Rattle.pfc_types.specs.Types.{cells_in}
 use Rattle.pfc_types.specs.Scopes.{meaning_of}
 use Rattle.pfc_types.specs.rules.Kinds.{variable_type}
-use Rattle.pfc_types.specs.rules.Expressions.{Env, find, selected, desig_type}
+use Rattle.pfc_types.specs.rules.Expressions.{find, selected, desig_type}
 use Rattle.pfc_types.specs.declared.types.TypeId.{TypeId}
 use Rattle.pfc_types.specs.declared.scope.Meaning.{Meaning}
 use Rattle.pfc_types.specs.declared.scope.Meaning.TheVariants.{Constant, Named, Variable, Sub as ASub, Module, Process, Entry, Predeclared, Faulty}
 use Rattle.pfc_types.specs.declared.view.Found.{Found}
 use Rattle.pfc_meaning.specs.Values.{ordinal}
 use Rattle.pfc_meaning.specs.Store.{Location}
-use Rattle.pfc_meaning.specs.Frames.{Part, Rest, Use, Goal, Next, store_at, read_for, assign_to, copy_to, copy_from, input_to, copies_from, writes}
+use Rattle.pfc_meaning.specs.Frames.{Rest, Use, Goal, Next, store_at, read_for, assign_to, copy_to, copy_from, input_to, copies_from, writes}
 use Rattle.pfc_meaning.specs.Expressions.{Context, part_found, from_expr, from_selectors, from_desig}
 use Rattle.pfc_meaning.specs.Statements.{context}
 use Rattle.pfc_meaning.specs.Remainders.{from_goal}
-use Rattle.pfc_gen.specs.Cells.{cell_found}
-use Rattle.pfc_gen.specs.Phrases.{Code, one, expr_code, desig_code, selectors_code}
-use Rattle.pfc_relation.specs.Cells.{words_of, is_number}
+use Rattle.pfc_relation.specs.code.Cells.{cell_found}
+use Rattle.pfc_relation.specs.code.Phrases.{one, expr_code, desig_code, selectors_code}
+use Rattle.pfc_relation.specs.Cells.{is_number}
 use Rattle.pfc_relation.specs.Typed.{IsNumber}
 use Rattle.pfc_relation.specs.Standing.{Program, IsChecked, forms_of, IsAt, Stands, IsWord, IsPart, IsSimpleWord, IsWholeWord, RestAt, UseAt, GoalAt}
 use Rattle.pfc_relation.specs.Following.{of_value, Follows, arrives}
-use Rattle.pfc_relation.proofs.Glue.{held_after, room_for, front, back, tail, head, is_moved, rest_moved, use_moved, goal_moved, follows_moved}
-use Rattle.pfc_relation.proofs.Held.{held_expr}
+use Rattle.pfc_relation.proofs.Glue.{room_for, front, back, tail, head}
 use Rattle.pfc_relation.proofs.HeldStatements.{held_desig, numeric_held}
 use Rattle.pfc_relation.proofs.Moves.{address_move}
 use Rattle.pfc_relation.proofs.Types.{none_is_some, some_alike, selected_some, selectors_are, number_is_numeric}
-use Rattle.pfc_relation.proofs.Expressions.{ends_behind, variable_part, SelectorsAt, expr_follows, selectors_follow}
+use Rattle.pfc_relation.proofs.Expressions.{variable_part, expr_follows, selectors_follow}
 
 pub variable_meant : (m : Meaning) (t : TypeId) → variable_type (Some m) ≡ Some t → (r : Bool) × (m ≡ Variable t r)
 variable_meant (Variable u r) t e = (r, ap (λ (x : TypeId). Variable x r) (some_alike u t e))

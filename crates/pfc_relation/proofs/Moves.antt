@@ -1,21 +1,20 @@
 -- Quiet instructions: each leads to what follows behind it.
-use Rattle.std.proofs.Common.{◌≡◌, ℕ, zero, suc, ◌+◌, ◌<◌, ◌≤◌, ℤ, pos, Bool, true, false, not, if◌then◌else◌, List, [], ◌∷◌, length, Option, Some, None, Result, Ok, Err, refl, sym, ap, ◌∙◌, subst, arith}
-use Rattle.pfc_base.specs.declared.faults.RunFault.{RunFault}
+use Rattle.std.proofs.Common.{◌≡◌, ℕ, zero, suc, ◌+◌, ◌<◌, ◌≤◌, ℤ, pos, Bool, true, false, if◌then◌else◌, List, ◌∷◌, length, Ok, Err, refl, ap, arith}
 use Rattle.pfc_code.specs.declared.instructions.Instr.{Instr}
-use Rattle.pfc_code.specs.declared.instructions.Instr.TheVariants.{LIT, ADDR, IDX, FLD, LOAD, NEG, ADD, SUB, MUL, DIV, MOD, ABS, SQR, ODD, CHR, SUCC, PRED, NOT, AND, OR, EQ, NE, LT, LE, GT, GE, JMP, JF}
+use Rattle.pfc_code.specs.declared.instructions.Instr.TheVariants.{ADDR, ADD, SUB, MUL, DIV, MOD, AND, OR, EQ, NE, LT, LE, GT, GE, JMP, JF}
 use Rattle.pfc_tree.specs.declared.tree.Relation.{Relation}
 use Rattle.pfc_tree.specs.declared.tree.Relation.TheVariants.{Eq, Ne, Lt, Le, Gt, Ge}
 use Rattle.pfc_tree.specs.declared.tree.AddOp.{AddOp}
 use Rattle.pfc_tree.specs.declared.tree.AddOp.TheVariants.{Add, Sub, Or}
 use Rattle.pfc_tree.specs.declared.tree.MulOp.{MulOp}
 use Rattle.pfc_tree.specs.declared.tree.MulOp.TheVariants.{Mul, Div, Mod, And}
-use Rattle.pfc_values.specs.Numbers.{Outcome, is_true, inverse_of}
+use Rattle.pfc_values.specs.Numbers.{Outcome, is_true}
 use Rattle.pfc_meaning.specs.Operators.{added, multiplied, compared}
-use Rattle.pfc_meaning.specs.Frames.{Next, faults}
+use Rattle.pfc_meaning.specs.Frames.{Next}
 use Rattle.pfc_meaning.specs.Expressions.{with_number}
-use Rattle.pfc_gen.specs.Phrases.{relation_instr, add_instr, multiply_instr}
 use Rattle.pfc_machine.specs.Fits.{needs, Reckons}
-use Rattle.pfc_machine.specs.Rows.{Alone, quiet, action, fault, more, with_outcome, alone}
+use Rattle.pfc_machine.specs.Rows.{quiet, with_outcome, alone}
+use Rattle.pfc_translation.specs.Expressions.{relation_instr, add_instr, multiply_instr}
 use Rattle.pfc_relation.specs.Standing.{Program, IsAt, Leads, arrived, jump}
 use Rattle.pfc_relation.specs.Following.{IsFit, quietly, of_operands, Follows, arrives, moves}
 

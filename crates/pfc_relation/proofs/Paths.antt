@@ -8,7 +8,8 @@ use Rattle.pfc_types.specs.declared.types.TypeId.{TypeId}
 use Rattle.pfc_types.specs.declared.types.TypeForm.TheVariants.{Array, Record}
 use Rattle.pfc_types.specs.declared.scope.Meaning.TheVariants.{Variable}
 use Rattle.pfc_meaning.specs.Store.{Location, inner}
-use Rattle.pfc_gen.specs.Cells.{cells_before, fields_before}
+use Rattle.pfc_translation.specs.Addresses.{fields_before}
+use Rattle.pfc_relation.specs.code.Cells.{cells_before}
 use Rattle.pfc_relation.specs.Cells.{IsPath, here, into_element, into_field, LiesAt}
 
 module _ (forms : Forms) where

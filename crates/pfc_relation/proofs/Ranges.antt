@@ -1,9 +1,8 @@
 -- The values of a `for`: a value that is not past the last is before it or is the last, and the value behind one before the last is not past it.
-use Rattle.std.proofs.Common.{◌≡◌, ◌⊎◌, inl, inr, ℕ, zero, suc, ◌+◌, ℤ, pos, ◌+ℤ◌, ◌-ℤ◌, Bool, true, false, not, if◌then◌else◌, refl, sym, ap, ◌∙◌, arith}
-use Rattle.std.specs.Prelude.{int_lt, int_le}
+use Rattle.std.proofs.Common.{◌≡◌, ℤ, pos, ◌+ℤ◌, ◌-ℤ◌, Bool, true, false, not, refl, arith}
+use Rattle.std.specs.Prelude.{int_lt}
 use Rattle.std.specs.Ordering.{int_eq}
 use Rattle.std.proofs.lemmas.Int.{ints}
-use Rattle.std.proofs.lemmas.Bool.Decides.{Decides-int_eq}
 use Rattle.pfc_meaning.specs.Statements.{is_past, next_kept}
 use Rattle.pfc_machine.specs.Rows.{is_past as is_past_by, is_before, value_behind}
 use Rattle.pfc_relation.specs.Standing.{direction}

@@ -1,22 +1,24 @@
 -- The code follows the next action of what is left, of what waits for a number, and of every task.
-use Rattle.std.proofs.Common.{◌≡◌, ℕ, zero, suc, ◌+◌, ◌-◌, ◌<◌, ◌≤◌, ℤ, pos, Bool, true, false, if◌then◌else◌, List, [], ◌∷◌, ◌++◌, length, Option, Some, None, refl, sym, ap, ◌∙◌, subst, arith}
+use Rattle.std.proofs.Common.{◌≡◌, ℕ, suc, ◌+◌, ◌≤◌, ℤ, List, [], ◌∷◌, ◌++◌, length, Option, refl, sym, ap, ◌∙◌, subst, arith}
 use Rattle.std.proofs.lemmas.List.{length-append}
-use Rattle.pfc_code.specs.declared.instructions.Instr.TheVariants.{LOAD, STORE, NOT}
+use Rattle.pfc_code.specs.declared.instructions.Instr.TheVariants.{NOT}
 use Rattle.pfc_types.specs.declared.types.TypeId.{TypeId}
-use Rattle.pfc_values.specs.Numbers.{inverse_of, is_true}
-use Rattle.pfc_values.specs.Pieces.{shown}
+use Rattle.pfc_values.specs.Numbers.{inverse_of}
 use Rattle.pfc_meaning.specs.Values.{ordinal}
-use Rattle.pfc_meaning.specs.Operators.{simple_of, signed, added, multiplied, compared}
-use Rattle.pfc_meaning.specs.Frames.{Part, Rest, Use, Goal, Next, Task, ends, perform, turn, until, behind_pass, next_pass, store_whole, write_on, read_on, begin_sum, add_to, begin_product, multiply_by, compare_with, compare_to, invert, apply, index_into, store_at, choose, choose_arm, while_true, until_true, count_from, count_to, show, show_wide, pad, writes, going, holding}
-use Rattle.pfc_meaning.specs.Expressions.{Context, form_in, with_number, with_element, element_part, finish_call, from_expr, from_simple, from_summands, from_multipliers, from_selectors, from_indices}
-use Rattle.pfc_meaning.specs.Statements.{context, from_stmt, from_arms, from_until, from_bounds, from_width, counting}
+use Rattle.pfc_meaning.specs.Operators.{added, multiplied, compared}
+use Rattle.pfc_meaning.specs.Frames.{Part, Rest, Use, Next, Task, ends, perform, turn, until, behind_pass, next_pass, store_whole, write_on, read_on, begin_sum, add_to, begin_product, multiply_by, compare_with, compare_to, invert, apply, index_into, store_at, choose, choose_arm, while_true, until_true, count_from, count_to, show, show_wide, pad, writes, going, holding}
+use Rattle.pfc_meaning.specs.Expressions.{Context, form_in, with_number, with_element, element_part, from_expr, from_summands, from_multipliers, from_selectors, from_indices}
+use Rattle.pfc_meaning.specs.Statements.{context, from_stmt, from_bounds, counting}
 use Rattle.pfc_meaning.specs.Remainders.{loop_line, from_rest, from_goal, from_use, next}
-use Rattle.pfc_gen.specs.Cells.{element_type, type_behind}
-use Rattle.pfc_gen.specs.Phrases.{Code, one, relation_instr, add_instr, multiply_instr, sign_code, function_code, index_instr, expr_code, simple_code, summands_code, multipliers_code, selectors_code, indices_code}
-use Rattle.pfc_gen.specs.Statements.{stmt_code, stmts_code, writes_code, reads_code, label_count, arms_size}
-use Rattle.pfc_relation.specs.Standing.{Program, IsChecked, forms_of, Stands, pass_code, Leads, RestAt, UseAt, GoalAt}
+use Rattle.pfc_translation.specs.Addresses.{index_instr}
+use Rattle.pfc_translation.specs.Expressions.{relation_instr, add_instr, multiply_instr}
+use Rattle.pfc_translation.specs.Statements.{label_count}
+use Rattle.pfc_relation.specs.code.Cells.{element_type, type_behind}
+use Rattle.pfc_relation.specs.code.Phrases.{one, sign_code, function_code, expr_code, simple_code, summands_code, multipliers_code, selectors_code, indices_code}
+use Rattle.pfc_relation.specs.code.Statements.{stmt_code, stmts_code, writes_code, reads_code, arms_size}
+use Rattle.pfc_relation.specs.Standing.{Program, IsChecked, forms_of, Stands, pass_code, RestAt, UseAt}
 use Rattle.pfc_relation.specs.Following.{of_value, Follows, arrives, TaskAt}
-use Rattle.pfc_relation.proofs.Glue.{held_after, room_for, room_after, front, back, tail, head, rest_moved, use_moved, goal_moved, follows_moved}
+use Rattle.pfc_relation.proofs.Glue.{room_for, room_after, front, back, tail, head, rest_moved, use_moved, follows_moved}
 use Rattle.pfc_relation.proofs.Held.{add_held, multiply_held, relation_held, sign_held, index_held, held_simple, held_indices}
 use Rattle.pfc_relation.proofs.Moves.{fits, next_move, add_move, multiply_move, relation_move, test_move, through}
 use Rattle.pfc_relation.proofs.Expressions.{ends_behind, element_follows, finish_follows, sign_follows, SelectorsAt, IndicesAt, simple_follows, summands_follow, multipliers_follow, selectors_follow, indices_follow}

@@ -1,9 +1,7 @@
 -- Indices as distances.
-use Rattle.std.proofs.Common.{◌≡◌, ℕ, ◌+◌, ◌*◌, ◌<◌, ℤ, pos, ◌+ℤ◌, ◌-ℤ◌, ◌*ℤ◌, ◌≤ℤ◌, nat_abs, Bool, true, ◌&&◌, refl, sym, ap, ◌∙◌, subst, arith}
+use Rattle.std.proofs.Common.{◌≡◌, ℕ, ◌+◌, ◌*◌, ◌<◌, ℤ, pos, ◌-ℤ◌, nat_abs, true, arith}
 use Rattle.std.proofs.lemmas.Bool.Decides.{nat_tests}
-use Rattle.std.proofs.lemmas.Float.{T_from_true}
 use Rattle.std.specs.Prelude.{int_le}
-use Rattle.std.specs.Int.Signed.{le_z_yes, non_neg, yes_non_neg, pos-nat_abs}
 use Rattle.pfc_types.specs.Types.{extent}
 use Rattle.pfc_machine.specs.Rows.{is_within, element_word}
 

@@ -11,7 +11,7 @@ use Rattle.pfc_types.specs.declared.types.TypeId.{TypeId}
 use Rattle.pfc_types.specs.declared.types.TypeForm.{TypeForm}
 use Rattle.pfc_types.specs.declared.types.TypeForm.TheVariants.{Array, Record}
 use Rattle.pfc_types.specs.declared.table.Held.{Held}
-use Rattle.pfc_gen.specs.Cells.{fields_before}
+use Rattle.pfc_translation.specs.Addresses.{fields_before}
 use Rattle.pfc_relation.specs.Cells.{IsSound}
 use Rattle.pfc_relation.specs.Tables.{AreBefore, IsBuiltUp}
 use Rattle.pfc_relation.proofs.Tables.{built_form, built_none, built_part}

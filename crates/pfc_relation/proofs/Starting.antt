@@ -1,18 +1,17 @@
 -- The code of a program stands for its body before the first action.
-use Rattle.std.proofs.Common.{◌≡◌, ℕ, zero, suc, ◌+◌, ◌≤◌, ◌<◌, ◌^◌, ℤ, pos, false, None, replicate, List, [], ◌∷◌, ◌++◌, length, Some, refl, sym, ap, ◌∙◌, subst, arith, append_assoc}
+use Rattle.std.proofs.Common.{◌≡◌, ◌+◌, pos, false, None, replicate, List, [], ◌∷◌, ◌++◌, length, Some, refl, sym, ap, ◌∙◌, subst, arith, append_assoc}
 use Rattle.std.proofs.lemmas.List.{length-append}
 use Rattle.std.specs.List.{slice_get}
-use Rattle.pfc_code.specs.declared.instructions.Instr.{Instr}
 use Rattle.pfc_code.specs.declared.instructions.Instr.TheVariants.{END}
 use Rattle.pfc_tree.specs.Symbols.{Text}
 use Rattle.pfc_tree.specs.trees.Stmts.{StmtTrees, BodyTree, body}
 use Rattle.pfc_tree.specs.trees.Parts.{ProgramTree}
 use Rattle.pfc_meaning.specs.Configurations.{main_env, body_rest}
-use Rattle.pfc_gen.specs.Phrases.{Code}
-use Rattle.pfc_gen.specs.Statements.{stmts_code, strings_of}
-use Rattle.pfc_gen.specs.Images.{most_operands, instructions, main_code, main_strings}
+use Rattle.pfc_relation.specs.code.Phrases.{Code}
+use Rattle.pfc_relation.specs.code.Statements.{stmts_code, strings_of}
+use Rattle.pfc_relation.specs.code.Images.{most_operands, instructions, main_code, main_strings}
 use Rattle.pfc_relation.specs.Typed.{AreTyped}
-use Rattle.pfc_relation.specs.Standing.{Program, IsAt, HasCode, HasTexts, StmtsAt, RestAt, arrived}
+use Rattle.pfc_relation.specs.Standing.{Program, HasCode, HasTexts, RestAt, arrived}
 use Rattle.pfc_relation.specs.Programs.{program_of}
 use Rattle.pfc_tree.specs.forget.Parts.{forget_program}
 use Rattle.pfc_tree.specs.lawful.Parts.{IsLawful}

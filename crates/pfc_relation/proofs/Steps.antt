@@ -1,14 +1,14 @@
 -- The location of a part keeps its word: an index within the bounds and a field lead on.
-use Rattle.std.proofs.Common.{◌≡◌, ℕ, ◌+◌, ◌*◌, ℤ, pos, ◌+ℤ◌, ◌-ℤ◌, nat_abs, Bool, true, List, [], ◌∷◌, Option, Some, None, refl, sym, ap, ◌∙◌, subst, arith}
+use Rattle.std.proofs.Common.{◌≡◌, ℕ, ◌+◌, ◌*◌, ℤ, pos, ◌+ℤ◌, ◌-ℤ◌, nat_abs, true, Some, ap, ◌∙◌, arith}
 use Rattle.std.specs.List.{slice_get}
 use Rattle.pfc_tree.specs.Symbols.{Text}
-use Rattle.pfc_types.specs.Types.{Forms, form_of, cells_in}
+use Rattle.pfc_types.specs.Types.{form_of, cells_in}
 use Rattle.pfc_types.specs.Fields.{FieldList}
 use Rattle.pfc_types.specs.declared.types.TypeId.{TypeId}
 use Rattle.pfc_types.specs.declared.types.TypeForm.TheVariants.{Array, Record}
 use Rattle.pfc_meaning.specs.Store.{Location, inner}
-use Rattle.pfc_gen.specs.Cells.{fields_before}
 use Rattle.pfc_machine.specs.Rows.{is_within, element_word}
+use Rattle.pfc_translation.specs.Addresses.{fields_before}
 use Rattle.pfc_relation.specs.Standing.{Program, forms_of, names_of, IsWord}
 use Rattle.pfc_relation.proofs.Paths.{element_lies, field_lies}
 use Rattle.pfc_relation.proofs.Signed.{within_extent, element_word_is}

@@ -7,7 +7,7 @@ use Rattle.pfc_types.specs.Fields.{FieldList}
 use Rattle.pfc_types.specs.declared.types.TypeId.{TypeId}
 use Rattle.pfc_types.specs.declared.types.TypeForm.TheVariants.{Array, Record}
 use Rattle.pfc_meaning.specs.Values.{Value, Values, ordinal, ordinal_of, compound, more_values, part, with_part, part_at, with_part_at}
-use Rattle.pfc_gen.specs.Cells.{fields_before}
+use Rattle.pfc_translation.specs.Addresses.{fields_before}
 use Rattle.pfc_relation.proofs.Lists.{nested, over_written, middle_read, middle_within}
 use Rattle.pfc_relation.specs.Cells.{IsSound, IsOf, AreOf, AreFieldsOf, IsPath, is_number, is_array, is_record, none_of, one_of, no_field, one_field, here, into_element, into_field, words_of, words_in}
 

@@ -1,5 +1,5 @@
 -- Values in cells: where a location lies, and which cells hold the values of main's variables.
-use Rattle.std.specs.Prelude.{ℕ, zero, suc, ◌+◌, ◌*◌, ◌<◌, ◌≡◌, ℤ, pos, Bool, true, false, List, [], ◌∷◌, ◌++◌, length, Option, Some, None}
+use Rattle.std.specs.Prelude.{ℕ, zero, suc, ◌+◌, ◌*◌, ◌<◌, ◌≡◌, ℤ, true, false, List, [], ◌∷◌, ◌++◌, length, Some, None}
 use Rattle.std.specs.List.{slice_get}
 use Rattle.pfc_tree.specs.Symbols.{Text}
 use Rattle.pfc_types.specs.Types.{Forms, form_of, cells_in, extent, is_simple, has_bounds}
@@ -13,7 +13,8 @@ use Rattle.pfc_types.specs.declared.scope.Meaning.{Meaning}
 use Rattle.pfc_types.specs.declared.scope.Meaning.TheVariants.{Variable}
 use Rattle.pfc_meaning.specs.Values.{Value, Values, ordinal, compound, no_values, more_values}
 use Rattle.pfc_meaning.specs.Store.{Location}
-use Rattle.pfc_gen.specs.Cells.{cells_before, fields_before}
+use Rattle.pfc_translation.specs.Addresses.{fields_before}
+use Rattle.pfc_relation.specs.code.Cells.{cells_before}
 
 -- ## Types whose cells are those of their parts
 

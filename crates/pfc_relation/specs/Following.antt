@@ -1,20 +1,19 @@
 -- Code that follows a next action: quiet instructions, each of which leads on, and then the action.
-use Rattle.std.specs.Prelude.{ℕ, zero, suc, ◌+◌, ◌<◌, ◌≤◌, ◌≡◌, ℤ, pos, Bool, true, false, List, [], ◌∷◌, ◌++◌, length, reverse, Option, Some, None, Result, Ok, Err}
+use Rattle.std.specs.Prelude.{ℕ, zero, suc, ◌+◌, ◌<◌, ◌≤◌, ◌≡◌, ℤ, pos, true, List, [], ◌∷◌, ◌++◌, length, reverse, Some, Ok, Err}
 use Rattle.std.specs.List.{slice_get}
 use Rattle.pfc_base.specs.declared.faults.RunFault.{RunFault}
 use Rattle.pfc_code.specs.declared.instructions.Instr.{Instr}
 use Rattle.pfc_code.specs.declared.instructions.Instr.TheVariants.{ADDR, LOAD, STORE, TURN, FORW, FORT, END, RAND, WRS, WRNL, RDNL, EOF, EOLN}
-use Rattle.pfc_types.specs.Types.{cells_in}
 use Rattle.pfc_types.specs.declared.types.TypeId.{TypeId}
 use Rattle.pfc_values.specs.declared.simple.Simple.{Simple}
 use Rattle.pfc_values.specs.Pieces.{shown, padded}
 use Rattle.pfc_meaning.specs.Values.{Value, ordinal}
 use Rattle.pfc_meaning.specs.Store.{Location}
 use Rattle.pfc_meaning.specs.Operators.{simple_of}
-use Rattle.pfc_meaning.specs.Frames.{Rest, Use, Next, Task, reads, copies_from, writes, turns, prints, inputs, skips, asks_eof, asks_eoln, draws, faults, finishes, going, holding}
-use Rattle.pfc_gen.specs.Statements.{write_instr, read_instr}
+use Rattle.pfc_meaning.specs.Frames.{Rest, Next, Task, reads, copies_from, writes, turns, prints, inputs, skips, asks_eof, asks_eoln, draws, faults, finishes, going, holding}
 use Rattle.pfc_machine.specs.Fits.{needs, Reckons}
-use Rattle.pfc_machine.specs.Rows.{Alone, quiet, action, fault, more, alone, is_before, value_behind}
+use Rattle.pfc_machine.specs.Rows.{Alone, quiet, fault, alone, is_before, value_behind}
+use Rattle.pfc_translation.specs.Calls.{write_instr, read_instr}
 use Rattle.pfc_relation.specs.Cells.{IsOf, words_of}
 use Rattle.pfc_relation.specs.Standing.{Program, forms_of, IsAt, IsSimpleWord, IsWholeWord, RestAt, UseAt}
 

@@ -1,3 +1,4 @@
+pub mod code
 pub mod Cells
 pub mod Following
 pub mod Numbers

@@ -1,7 +1,7 @@
 -- Expressions that give numbers, and the selectors of variables in them: each part has the type that its evaluation needs.
 --
 -- All that has a simple type is so. It is said here of the parts themselves, so that no type is asked for again.
-use Rattle.std.specs.Prelude.{ℕ, ◌≡◌, ℤ, true, Option, Some, None}
+use Rattle.std.specs.Prelude.{ℕ, ◌≡◌, ℤ, true, Option, Some}
 use Rattle.std.specs.List.{slice_get}
 use Rattle.pfc_tree.specs.Symbols.{Text}
 use Rattle.pfc_tree.specs.trees.Exprs.{ExprTree, SimpleTree, SummandTrees, TermTree, MultiplierTrees, FactorTree, SelectorTrees, ExprTrees, ActualTrees, plain, related, sum, no_summands, more_summands, product, no_multipliers, more_multipliers, number, literal, negation, paren, applied as used, desig, index, field, no_selectors, more_selectors, no_exprs, more_exprs, actual, actual_width, no_actuals, more_actuals}
@@ -14,8 +14,8 @@ use Rattle.pfc_types.specs.declared.types.TypeId.{TypeId}
 use Rattle.pfc_types.specs.declared.types.TypeForm.TheVariants.{Array, Record}
 use Rattle.pfc_types.specs.declared.scope.Meaning.{Meaning}
 use Rattle.pfc_types.specs.declared.scope.Meaning.TheVariants.{Variable, Predeclared}
-use Rattle.pfc_gen.specs.Cells.{element_type, type_behind}
-use Rattle.pfc_gen.specs.Phrases.{type_selected}
+use Rattle.pfc_relation.specs.code.Cells.{element_type, type_behind}
+use Rattle.pfc_relation.specs.code.Phrases.{type_selected}
 
 -- ## What selectors lead into
 

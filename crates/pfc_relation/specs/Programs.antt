@@ -1,8 +1,7 @@
 -- The program of a tree, as its code stands for it.
-use Rattle.std.specs.Prelude.{ℕ}
 use Rattle.pfc_tree.specs.trees.Parts.{ProgramTree}
 use Rattle.pfc_meaning.specs.Configurations.{main_env}
-use Rattle.pfc_gen.specs.Images.{main_code, main_strings, main_block}
+use Rattle.pfc_relation.specs.code.Images.{main_code, main_strings, main_block}
 use Rattle.pfc_machine.specs.Stacks.{own_cells}
 use Rattle.pfc_relation.specs.Standing.{Program}
 

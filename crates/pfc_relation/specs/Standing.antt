@@ -2,15 +2,12 @@
 --
 -- The code, the names in view, the word of main's first cell and the room for operands are told once, as `Program`. Everything else is said of a
 -- place of the code and of the operands that are held there, top first.
-use Rattle.std.specs.Prelude.{ℕ, zero, suc, ◌+◌, ◌^◌, ◌<◌, ◌≤◌, ◌≡◌, ℤ, pos, Bool, true, false, if◌then◌else◌, List, [], ◌∷◌, ◌++◌, length, reverse, Option, Some, None, Result, Ok, Err}
+use Rattle.std.specs.Prelude.{ℕ, suc, ◌+◌, ◌^◌, ◌<◌, ◌≤◌, ◌≡◌, ℤ, pos, Bool, true, false, if◌then◌else◌, List, [], ◌∷◌, ◌++◌, length, reverse, Some}
 use Rattle.std.specs.List.{slice_get}
-use Rattle.pfc_base.specs.declared.places.Place.{Place}
-use Rattle.pfc_base.specs.declared.faults.RunFault.{RunFault}
 use Rattle.pfc_code.specs.declared.instructions.Instr.{Instr}
-use Rattle.pfc_code.specs.declared.instructions.Instr.TheVariants.{ADDR, LOAD, STORE, NOT, JMP, JF, TURN, FORB, FORW, FORT, CERR, END, RAND, WRI, WRB, WRC, WRS, WRNL, RDI, RDC, RDNL, EOF, EOLN}
+use Rattle.pfc_code.specs.declared.instructions.Instr.TheVariants.{LOAD, STORE, NOT, JMP, JF, TURN, FORB, FORW, FORT, CERR, END, WRS}
 use Rattle.pfc_tree.specs.Symbols.{Text}
-use Rattle.pfc_tree.specs.trees.Exprs.{ExprTree, DesigTree, ExprTrees, SelectorTrees, ActualTrees}
-use Rattle.pfc_tree.specs.trees.Stmts.{StmtTree, StmtTrees, ArmTrees, while_do, repeat_until, repeat_forever, for_do}
+use Rattle.pfc_tree.specs.trees.Stmts.{StmtTree, StmtTrees, ArmTrees, while_do, repeat_until}
 use Rattle.pfc_types.specs.Types.{Forms, is_simple, cells_in}
 use Rattle.pfc_types.specs.Scopes.{Names, scope_at}
 use Rattle.pfc_types.specs.rules.Declarations.{scope_cells}
@@ -19,22 +16,25 @@ use Rattle.pfc_types.specs.declared.types.TypeId.{TypeId}
 use Rattle.pfc_types.specs.declared.scope.Meaning.TheVariants.{Variable}
 use Rattle.pfc_types.specs.declared.view.Found.{Found}
 use Rattle.pfc_values.specs.declared.simple.Simple.{Simple}
-use Rattle.pfc_values.specs.Pieces.{shown, padded}
-use Rattle.pfc_meaning.specs.Values.{Value, ordinal}
+use Rattle.pfc_values.specs.Pieces.{shown}
+use Rattle.pfc_meaning.specs.Values.{Value}
 use Rattle.pfc_meaning.specs.Store.{Location}
 use Rattle.pfc_meaning.specs.Operators.{Function, eof, eoln, simple_of}
-use Rattle.pfc_meaning.specs.Frames.{Part, Count, Rest, Use, Goal, Next, Task, ends, perform, turn, until, behind_pass, next_pass, store_whole, write_on, read_on, begin_sum, add_to, begin_product, multiply_by, compare_with, compare_to, invert, apply, index_into, store_at, choose, choose_arm, while_true, until_true, count_from, count_to, show, show_wide, pad, read_for, assign_to, copy_to, copy_from, input_to, reads, copies_from, writes, turns, prints, inputs, skips, asks_eof, asks_eoln, draws, faults, finishes, going, holding}
+use Rattle.pfc_meaning.specs.Frames.{Part, Count, Rest, Use, Goal, ends, perform, turn, until, behind_pass, next_pass, store_whole, write_on, read_on, begin_sum, add_to, begin_product, multiply_by, compare_with, compare_to, invert, apply, index_into, store_at, choose, choose_arm, while_true, until_true, count_from, count_to, show, show_wide, pad, read_for, assign_to, copy_to, copy_from, input_to}
 use Rattle.pfc_meaning.specs.Expressions.{Context, form_in}
 use Rattle.pfc_meaning.specs.Statements.{context, is_past}
 use Rattle.pfc_meaning.specs.Remainders.{loop_line}
-use Rattle.pfc_gen.specs.Cells.{type_cells, element_type, type_behind}
-use Rattle.pfc_gen.specs.Phrases.{Code, one, type_selected, add_instr, multiply_instr, relation_instr, sign_code, function_code, index_instr, summands_code, multipliers_code, simple_code, expr_code, desig_code, selectors_code, indices_code}
-use Rattle.pfc_gen.specs.Statements.{stmt_code, stmts_code, tests_code, arms_code, arms_size, label_count, writes_code, reads_code, strings_among, write_instr, read_instr, strings_in, strings_of, arms_strings}
-use Rattle.pfc_gen.specs.Images.{most_operands, instructions}
-use Rattle.pfc_machine.specs.Rows.{Alone, quiet, action, fault, more, alone}
+use Rattle.pfc_translation.specs.Addresses.{index_instr}
+use Rattle.pfc_translation.specs.Calls.{write_instr, read_instr}
+use Rattle.pfc_translation.specs.Expressions.{add_instr, multiply_instr, relation_instr}
+use Rattle.pfc_translation.specs.Statements.{label_count}
+use Rattle.pfc_relation.specs.code.Cells.{element_type, type_behind}
+use Rattle.pfc_relation.specs.code.Phrases.{Code, one, type_selected, sign_code, function_code, summands_code, multipliers_code, simple_code, expr_code, desig_code, selectors_code, indices_code}
+use Rattle.pfc_relation.specs.code.Statements.{stmt_code, stmts_code, tests_code, arms_code, arms_size, writes_code, reads_code, strings_among, strings_in, strings_of, arms_strings}
+use Rattle.pfc_relation.specs.code.Images.{most_operands, instructions}
 use Rattle.pfc_relation.specs.Cells.{IsSound, IsOf, AreCells, LiesAt, words_of}
 use Rattle.pfc_relation.specs.Numbers.{IsArray, AreNumericSummands, AreNumericMultipliers, IsNumericSimple, AreIndices, AreSelectors}
-use Rattle.pfc_relation.specs.Typed.{IsNumber, IsSimpleDesig, IsTyped, AreTyped, AreArmsTyped, AreWritten, AreRead}
+use Rattle.pfc_relation.specs.Typed.{IsNumber, IsTyped, AreTyped, AreArmsTyped, AreWritten, AreRead}
 
 -- what is told once
 pub record Program : Type 0 where

@@ -1,9 +1,9 @@
 -- Phrases whose parts have the types that a run needs: those of checked programs.
-use Rattle.std.specs.Prelude.{ℕ, ◌≡◌, true, List, [], ◌∷◌, Option, Some, None}
+use Rattle.std.specs.Prelude.{◌≡◌, true, List, [], ◌∷◌, Option, Some, None}
 use Rattle.pfc_tree.specs.Symbols.{Text}
 use Rattle.pfc_tree.specs.declared.tree.Constant.{Constant}
 use Rattle.pfc_tree.specs.trees.Exprs.{ExprTree, DesigTree, ActualTree, ActualTrees, actual, actual_width, no_actuals, more_actuals}
-use Rattle.pfc_tree.specs.trees.Stmts.{StmtTree, StmtTrees, BodyTree, ArmTrees, block, if_then, if_then_else, case_of, while_do, repeat_until, repeat_forever, for_do, assign, call, no_stmts, more_stmts, body, arm, no_arms, more_arms}
+use Rattle.pfc_tree.specs.trees.Stmts.{StmtTree, StmtTrees, ArmTrees, block, if_then, if_then_else, case_of, while_do, repeat_until, repeat_forever, for_do, assign, call, no_stmts, more_stmts, body, arm, no_arms, more_arms}
 use Rattle.pfc_types.specs.Types.{is_simple}
 use Rattle.pfc_types.specs.Scopes.{meaning_of}
 use Rattle.pfc_types.specs.rules.Kinds.{variable_type}
@@ -12,7 +12,7 @@ use Rattle.pfc_types.specs.rules.Expressions.{Env, find, as_desig, expr_type, de
 use Rattle.pfc_types.specs.declared.types.TypeId.{TypeId}
 use Rattle.pfc_meaning.specs.Operators.{Procedure, reader, writer, no_procedure}
 use Rattle.pfc_meaning.specs.Statements.{variable_in, as_string, item_of}
-use Rattle.pfc_gen.specs.Statements.{called}
+use Rattle.pfc_relation.specs.code.Statements.{called}
 
 -- an expression that gives a number
 pub record IsNumber (env : Env) (e : ExprTree) : Type 0 where

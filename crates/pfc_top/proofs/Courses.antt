@@ -1,5 +1,5 @@
 -- The run of an image is that of its tree, and what is written of it.
-use Rattle.std.proofs.Common.{◌≡◌, ◌⊎◌, inl, inr, ℕ, ◌-◌, List, ◌++◌, Option, Some, None, refl, sym, ap, ◌∙◌, subst, arith, length}
+use Rattle.std.proofs.Common.{◌≡◌, ◌⊎◌, inl, inr, ℕ, ◌-◌, ◌≤◌, List, ◌++◌, Option, Some, None, refl, sym, ap, ◌∙◌, subst, arith, length}
 use Rattle.std.proofs.lemmas.List.{length-map}
 use Rattle.std.specs.Io.KnownBytes.{Appends}
 use Rattle.std.proofs.KnownBytes.{Appends-trans}
@@ -9,7 +9,7 @@ use Rattle.pfc_state.specs.declared.endings.Ending.{Ending}
 use Rattle.pfc_state.specs.declared.endings.Ending.TheVariants.{Finished, Fault, Deadlock, Limit, Script, SinkFailed, Memory}
 use Rattle.pfc_code.specs.Images.{PlainImage}
 use Rattle.pfc_code.specs.declared.instructions.Instr.{Instr}
-use Rattle.pfc_gen.specs.Images.{main_code}
+use Rattle.pfc_relation.specs.code.Images.{main_code}
 use Rattle.pfc_tree.specs.trees.Parts.{ProgramTree}
 use Rattle.pfc_sched.specs.Picks.{Picking, first_picking}
 use Rattle.pfc_sched.specs.declared.picking.Policy.{Policy}
@@ -30,12 +30,16 @@ use Rattle.pfc_top.specs.Answers.{Gives, IsRunStatus}
 use Rattle.pfc_top.specs.Compiling.{IsImage}
 use Rattle.pfc_top.specs.Meanings.{run_of, source_meaning}
 use Rattle.pfc_top.specs.Running.{IsBegun, report_by}
+use Rattle.pfc_top.proofs.Images.{main_image}
 
 -- ## What the run asks for
 
 module _ (tree : ProgramTree) (image : PlainImage) (is : IsImage tree image) where
   pub image_program : IsProgram (program_of tree) image
-  image_program = subst (λ (i : PlainImage). IsProgram (program_of tree) i) (sym is.same) (tree_is_program tree is.runnable.few)
+  image_program =
+      let same = main_image tree image is in
+      subst (λ (i : PlainImage). IsProgram (program_of tree) i) (sym same)
+      (tree_is_program tree (subst (λ (i : PlainImage). length i.code ≤ 200000) (sym is.same ∙ same) is.runnable.few))
 
   pub image_checked : IsChecked (program_of tree)
   image_checked = tree_checked tree is.runnable.whole is.runnable.built
@@ -43,7 +47,7 @@ module _ (tree : ProgramTree) (image : PlainImage) (is : IsImage tree image) whe
   -- each instruction has its line
   pub image_lines : length image.lines ≡ length image.code
   image_lines =
-      subst (λ (i : PlainImage). length i.lines ≡ length i.code) (sym is.same)
+      subst (λ (i : PlainImage). length i.lines ≡ length i.code) (sym (main_image tree image is))
       (length-map (main_code (main_env tree) tree.body) (λ (c : Instr × ℕ). c.1) ∙ sym (length-map (main_code (main_env tree) tree.body) (λ (c : Instr × ℕ). c.0)))
 
 -- any other ending than these two has a report

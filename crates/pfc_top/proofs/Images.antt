@@ -1,5 +1,5 @@
 -- Images, and refusals, from a tree up to its text.
-use Rattle.std.proofs.Common.{◌≡◌, ℕ, ◌≤◌, length, false, List, Some, None, Result, Ok, Err, IfOk, IfErr, refl, subst, sym}
+use Rattle.std.proofs.Common.{◌≡◌, ℕ, ◌≤◌, length, false, List, Some, None, Result, Ok, Err, IfOk, IfErr, refl, ◌∙◌, subst, sym}
 use Rattle.pfc_base.specs.declared.places.Place.{Place}
 use Rattle.pfc_base.specs.declared.faults.Refusal.{Refusal}
 use Rattle.pfc_base.specs.declared.tokens.Token.{Token}
@@ -13,7 +13,9 @@ use Rattle.pfc_tree.specs.forget.Parts.{forget_program}
 use Rattle.pfc_grammar.specs.Outcomes.{IsTreeOf}
 use Rattle.pfc_types.specs.rules.Whole.{first_fault}
 use Rattle.pfc_meaning.specs.Unbuilt.{unbuilt}
-use Rattle.pfc_gen.specs.Images.{image_of}
+use Rattle.pfc_translation.specs.Images.{image_of}
+use Rattle.pfc_relation.specs.code.Images as main
+use Rattle.pfc_main_code.proofs.Images.{images_same}
 use Rattle.pfc_outcome.specs.Outcomes.{Outcome, IsLevel, IsOutcomeOfTokens, IsOutcomeOfTree, IsUnlisted, not_built_yet, no_fault, refused, static_fault, syntax_fault, syntax_refusal}
 use Rattle.pfc_outcome.specs.Requests.{Request}
 use Rattle.pfc_top.specs.Compiling.{IsImage, AreCompiled, IsCompiled, RefusedFor, IsUncompiled, AreUncompiled, IsWithout}
@@ -22,6 +24,10 @@ use Rattle.pfc_top.specs.declared.compiling.Uncompiled.{Uncompiled}
 use Rattle.pfc_top.specs.declared.compiling.Uncompiled.TheVariants.{Refused, NotBuilt, Memory}
 
 -- ## Images
+
+-- the image of a program that is run is the one over which runs of main bodies are proved
+pub main_image : (tree : ProgramTree) (image : PlainImage) → IsImage tree image → image ≡ main.image_of tree
+main_image tree image is = is.same ∙ images_same tree is.runnable.small.lawful is.runnable.whole is.runnable.built
 
 pub is_image : (tree : ProgramTree) (image : PlainImage) → IsSmall (forget_program tree) → first_fault tree ≡ None → unbuilt tree ≡ false → image ≡ image_of tree
     → length image.code ≤ 200000 → IsImage tree image

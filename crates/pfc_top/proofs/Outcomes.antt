@@ -8,7 +8,7 @@ use Rattle.pfc_io.specs.Writes.{AppendsFront}
 use Rattle.pfc_io.proofs.Written.{AppendsFront-after, AppendsFront-append, AppendsFront-none}
 use Rattle.pfc_code.specs.Images.{PlainImage}
 use Rattle.pfc_code.specs.Printing.{code_text}
-use Rattle.pfc_gen.specs.Images.{image_of}
+use Rattle.pfc_translation.specs.Images.{image_of}
 use Rattle.pfc_report.specs.Listings.{listing_text}
 use Rattle.pfc_sched.specs.declared.picking.Policy.{Policy}
 use Rattle.std.specs.Prelude.{if◌then◌else◌}

@@ -10,7 +10,7 @@ use Rattle.pfc_tree.specs.forget.Parts.{forget_program}
 use Rattle.pfc_grammar.specs.Outcomes.{IsTreeOf}
 use Rattle.pfc_types.specs.rules.Whole.{first_fault}
 use Rattle.pfc_meaning.specs.Unbuilt.{unbuilt}
-use Rattle.pfc_gen.specs.Images.{image_of}
+use Rattle.pfc_translation.specs.Images.{image_of}
 use Rattle.pfc_outcome.specs.Outcomes.{Outcome, IsLevel, IsOutcomeOfTokens, IsOutcomeOfTree, IsUnlisted, instruction_count, most_instructions, not_built_yet, refused}
 use Rattle.pfc_outcome.specs.Requests.{Request}
 use Rattle.pfc_top.specs.Meanings.{source_meaning}

@@ -3,7 +3,7 @@ use Rattle.pfc_tree.specs.trees.Parts.{ProgramTree}
 use Rattle.pfc_sched.specs.Picks.{first_picking}
 use Rattle.pfc_meaning.specs.Runs.{Final, run}
 use Rattle.pfc_meaning.specs.Unbuilt.{unbuilt}
-use Rattle.pfc_gen.specs.Images.{image_of}
+use Rattle.pfc_translation.specs.Images.{image_of}
 use Rattle.pfc_drive.specs.Standings.{standings_from}
 use Rattle.pfc_outcome.specs.Meanings.{Meaning, Run}
 use Rattle.pfc_outcome.specs.Requests.{Settings}

@@ -11,7 +11,7 @@ ghost use Rattle.pfc_top.specs.Compiling.{IsCompiled, IsUncompiled, AreCompiled,
 use pfc_base::{Place, Refusal, Token};
 use pfc_check::{CheckFault, check};
 use pfc_code::Image;
-use pfc_gen::{GenFault, generate};
+use pfc_generator::{GenFault, generate};
 use pfc_meaning::unbuilt;
 use pfc_parse::{SyntaxFault, parse};
 use pfc_scan::{ScanFault, scan};
@@ -59,7 +59,7 @@ fn compile_tokens(alloc: Global, tokens: &[Token], end: Place) -> Result<Image, 
     ensures none { IfErr result (λ why. AreUncompiled tokens.now end why) }
 {
     match parse(alloc, tokens) {
-        Ok(tree) => compile_tree(alloc, tree),
+        Ok(tree) => compile_tree(alloc, tree, tokens),
         Err(SyntaxFault::Unexpected { at }) => Err(refused_at(tokens, end, UNEXPECTED, at)),
         Err(SyntaxFault::Deep { at }) => Err(refused_at(tokens, end, TOO_DEEP, at)),
         Err(SyntaxFault::Memory) => Err(Uncompiled::Memory),
@@ -77,14 +77,14 @@ fn refused_at(tokens: &[Token], end: Place, code: u16, at: u32) -> Uncompiled
     Uncompiled::Refused(Refusal { code, place })
 }
 
-/// The image of a small tree.
-fn compile_tree(alloc: Global, tree: Tree) -> Result<Image, Uncompiled>
+/// The image of a small tree, which was read from these tokens.
+fn compile_tree(alloc: Global, tree: Tree, tokens: &[Token]) -> Result<Image, Uncompiled>
     requires { IsSmall (tree_shape tree) }
     ensures image { IfOk result (λ image. IsImage (tree_view tree) (plain_image image)) }
     ensures none { IfErr result (λ why. IsWithout (tree_view tree) why) }
 {
     match check(alloc, tree) {
-        Ok(checked) => compile_checked(alloc, &checked),
+        Ok(checked) => compile_checked(alloc, &checked, tokens),
         Err(
             CheckFault::Refused {
                 refusal,
@@ -95,15 +95,15 @@ fn compile_tree(alloc: Global, tree: Tree) -> Result<Image, Uncompiled>
     }
 }
 
-/// The image of a checked tree.
-fn compile_checked(alloc: Global, checked: &Checked) -> Result<Image, Uncompiled>
+/// The image of a checked tree, which was read from these tokens.
+fn compile_checked(alloc: Global, checked: &Checked, tokens: &[Token]) -> Result<Image, Uncompiled>
     ensures image { IfOk result (λ image. IsImage (tree_view checked.now.0) (plain_image image)) }
     ensures none { IfErr result (λ why. IsWithout (tree_view checked.now.0) why) }
 {
     if unbuilt(checked.tree()) {
         return Err(Uncompiled::NotBuilt);
     }
-    match generate(alloc, checked) {
+    match generate(alloc, checked, tokens) {
         Ok(image) => Ok(image),
         Err(GenFault::TooLarge) => Err(Uncompiled::Refused(Refusal {
             code: TOO_LARGE,

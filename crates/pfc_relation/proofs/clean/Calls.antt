@@ -17,7 +17,7 @@ use Rattle.pfc_types.specs.rules.Expressions.{Env, find, expr_place, as_desig, a
 use Rattle.pfc_types.specs.rules.Calls.{may_be_read, broken_read, broken_reads, written, broken_written, broken_writes, call_routine, call_name, call_part_of, broken_call}
 use Rattle.pfc_meaning.specs.Operators.{no_procedure, procedures, procedure_of}
 use Rattle.pfc_meaning.specs.Statements.{string_in, as_string, item_of}
-use Rattle.pfc_gen.specs.Statements.{procedure_meant, called}
+use Rattle.pfc_relation.specs.code.Statements.{procedure_meant, called}
 use Rattle.pfc_relation.specs.Typed.{IsSimpleDesig, IsItem, IsWritten, AreWritten, AreRead, IsCall}
 use Rattle.pfc_relation.proofs.Types.{none_is_some, some_alike, never}
 use Rattle.pfc_relation.proofs.clean.Faults.{IsClean, so}

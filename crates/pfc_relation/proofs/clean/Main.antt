@@ -27,9 +27,7 @@ use Rattle.pfc_types.proofs.Walking.{note_kept}
 use Rattle.pfc_types.proofs.WalkParts.{types_begin, constants_simple}
 use Rattle.pfc_meaning.specs.Configurations.{main_env}
 use Rattle.pfc_meaning.specs.Unbuilt.{unbuilt}
-use Rattle.pfc_relation.specs.Cells.{IsSound}
 use Rattle.pfc_relation.specs.Typed.{AreTyped}
-use Rattle.pfc_relation.specs.Standing.{Program, IsChecked}
 use Rattle.pfc_relation.proofs.Types.{none_is_some, some_alike, never}
 use Rattle.pfc_relation.proofs.clean.Faults.{IsClean, so, clean_from, clean_list, clean_all}
 use Rattle.pfc_relation.proofs.clean.Names.{IsOfMain, IsOfMainFound, IsMain}

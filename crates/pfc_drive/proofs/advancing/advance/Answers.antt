@@ -1,4 +1,4 @@
-use Rattle.std.proofs.Common.{ℕ, ◌<◌, length, subst, sym, ap, ◌∙◌, arith}
+use Rattle.std.proofs.Common.{◌≡◌, ℕ, ◌<◌, length, get_or, subst, sym, ap, ◌∙◌, arith}
 use Rattle.pfc_code.specs.Images.{plain_image}
 use Rattle.pfc_machine.specs.declared.instructed.Instructed.{Instructed}
 use Rattle.pfc_machine.specs.declared.instructed.Instructed.TheVariants.{Quiet}
@@ -31,10 +31,14 @@ loop-next-preserved c = record {
 }
 
 pub returns-in_default : goal.returns-in_default
-returns-in_default c = record {
-  who = c.run_instr.ensures.process ∙ c.loop-next.invariant.main;
-  reached = λ g values n program checked b.
-      subst (λ (k : ℕ). Reached g values n k c.run_instr.result c.run_instr.new.self) (sym c.line-line.ensures)
-      (reached_on (plain_image c.args.image.now) c.loop-next.store c.run_instr.new.self c.loop-next.r.number c.run_instr.result c.loop-next.invariant.main c.run_instr.ensures.row
-      (unquiet c.run_instr.result c.in_default.not-Quiet) g values n program checked (c.loop-next.invariant.all g values n program checked b));
-}
+returns-in_default c =
+    let line : c.line_at.result ≡ get_or c.args.image.now.lines.items (stack_of c.loop-next.store 0).at 0 =
+    c.line_at.ensures
+    ∙ ap (λ (a : ℕ). get_or c.args.image.now.lines.items a 0) (c.at-at.ensures ∙ ap (λ (p : ℕ). (stack_of c.loop-next.store p).at) (c.number.ensures ∙ c.loop-next.invariant.main)) in
+    record {
+      who = c.run_instr.ensures.process ∙ c.loop-next.invariant.main;
+      reached = λ g values n program checked b.
+          subst (λ (k : ℕ). Reached g values n k c.run_instr.result c.run_instr.new.self) (sym line)
+          (reached_on (plain_image c.args.image.now) c.loop-next.store c.run_instr.new.self c.loop-next.r.number c.run_instr.result c.loop-next.invariant.main c.run_instr.ensures.row
+          (unquiet c.run_instr.result c.in_default.not-Quiet) g values n program checked (c.loop-next.invariant.all g values n program checked b));
+    }

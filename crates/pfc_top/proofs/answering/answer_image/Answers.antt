@@ -11,6 +11,7 @@ use Rattle.pfc_outcome.specs.Requests.{settings_of}
 use Rattle.pfc_top.specs.Listings.{list_text}
 use Rattle.pfc_top.specs.Meanings.{source_meaning}
 use Rattle.pfc_top.specs.Running.{program_outcome}
+use Rattle.pfc_top.proofs.Images.{main_image}
 use Rattle.pfc_top.proofs.Outcomes.{program_as, stopped_written, written_as, written_behind}
 use Rattle.pfc_top.proofs.answering.answer_image.Goals as goal
 
@@ -27,6 +28,9 @@ returns-in_err-list-in-Ok-clause-written g c = λ tree is.
     (program_as c.args.text.now tree (plain_image c.args.image.now) (asks c.args.options.now c.args.loaded.now) (Ok c.in-Ok.policy) is.same c.in-Ok.ensures.picks)
     (AppendsFront-append _ _ _ _ c.in_err-list-in-Ok.ensures.front))
 
+pub start-requires : goal.start-requires
+start-requires g c = let (tree, is) = c.requires.image in record { tree = (tree, main_image tree (plain_image c.args.image.now) is) }
+
 pub run-requires-clause-begun : goal.run-requires-clause-begun
 run-requires-clause-begun g c =
     let (tree, is) = c.requires.image in (
@@ -36,7 +40,7 @@ run-requires-clause-begun g c =
         is = is;
         start =
             subst (λ (input : List ℕ). Stands (program_of tree) c.in_ok-session-in-Ok.session (start tree input c.args.options.now.seed)) c.bytes.ensures
-            (c.in_ok-session-in-Ok.ensures.stands tree is.same is.runnable.small is.runnable.whole is.runnable.built);
+            (c.in_ok-session-in-Ok.ensures.stands tree (main_image tree (plain_image c.args.image.now) is) is.runnable.small is.runnable.whole is.runnable.built);
         picks = refl;
         most = refl;
       },
@@ -53,7 +57,7 @@ returns-in_ok-list-in-Ok-clause-written g c = λ tree is.
       is = is;
       start =
           subst (λ (input : List ℕ). Stands (program_of tree) c.in_ok-session-in-Ok.session (start tree input c.args.options.now.seed)) c.bytes.ensures
-          (c.in_ok-session-in-Ok.ensures.stands tree is.same is.runnable.small is.runnable.whole is.runnable.built);
+          (c.in_ok-session-in-Ok.ensures.stands tree (main_image tree (plain_image c.args.image.now) is) is.runnable.small is.runnable.whole is.runnable.built);
       picks = refl;
       most = refl;
     })))

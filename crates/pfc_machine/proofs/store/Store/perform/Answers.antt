@@ -8,4 +8,4 @@ pub returns-in_default : goal.returns-in_default
 returns-in_default c =
     let d = c.in_default in
     subst (λ (r : Row). IsDone r c.args.self.now c.alone.result c.alone.new.self)
-    (sym (row-default c.args.i c.args.p c.args.self.now d.not-ADDR d.not-LOAD d.not-STORE d.not-FORW)) c.alone.ensures
+    (sym (row-default c.args.i.now c.args.p c.args.self.now d.not-ADDR d.not-LOAD d.not-STORE d.not-FORW)) c.alone.ensures

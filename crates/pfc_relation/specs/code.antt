@@ -1,0 +1,4 @@
+pub mod Cells
+pub mod Phrases
+pub mod Statements
+pub mod Images

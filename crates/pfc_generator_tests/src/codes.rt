@@ -223,7 +223,7 @@ fn shown(alloc: Global, image: &Image) -> Result<Vec<u8>, Memory> {
 }
 
 /// Whether a text has the code that its line of the table says.
-fn is_coded(alloc: Global, line: &str) -> Result<bool, Memory> {
+pub(super) fn is_coded(alloc: Global, line: &str) -> Result<bool, Memory> {
     let Some((text, owed)) = line.split_once('|') else {
         return Ok(false);
     };

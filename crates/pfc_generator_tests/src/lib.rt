@@ -6,4 +6,6 @@
 #[cfg(test)]
 mod codes;
 #[cfg(test)]
+mod constructs;
+#[cfg(test)]
 mod images;

@@ -3,6 +3,7 @@ use Rattle.std.proofs.Common.{◌≡◌, ℕ, ◌+◌, ◌<◌, ◌≤◌, ◌==
 use Rattle.std.specs.List.{All}
 use Rattle.std.specs.Option.{IfSome}
 use Rattle.std.proofs.lemmas.Bool.Decides.{nat_tests}
+use Rattle.std.proofs.lemmas.Option.{slice_get_within}
 use Rattle.std.proofs.lemmas.List.Elements.{All-nil, All-cons, All-head, All-tail, All-append}
 use Rattle.pfc_tree.specs.Symbols.{Text}
 use Rattle.pfc_tree.specs.trees.Parts.{PartTrees, no_parts, more_parts, ProgramTree}
@@ -22,7 +23,7 @@ use Rattle.pfc_types.specs.rules.Expressions.{Env, broken_expr}
 use Rattle.pfc_types.specs.rules.Statements.{broken_stmts}
 use Rattle.pfc_types.specs.rules.FaultyNames.{stands_faulty}
 use Rattle.pfc_types.specs.rules.Whole.{finished, broken, faults_in}
-use Rattle.pfc_semantics.specs.Layouts.{Layout, is_laid, sub_with, variable_place, sub_layout, sub_layout_at, layout_by}
+use Rattle.pfc_semantics.specs.Layouts.{Layout, is_laid, sub_with, variable_place, sub_layout}
 use Rattle.pfc_semantics.specs.Displays.{Spot}
 use Rattle.pfc_semantics.specs.Expressions.{spot_of, found_spot, named_spot, result_spot}
 use Rattle.pfc_semantics.specs.Objects.{module_number}
@@ -59,7 +60,7 @@ use Rattle.pfc_types.proofs.WalkParts.{scopes_sound}
 use Rattle.pfc_types.specs.rules.FaultyNames.{is_whole_head}
 use Rattle.pfc_types.specs.rules.Statements.{is_around}
 use Rattle.pfc_image_cells.proofs.Layouts.{IsAt, found_place, cells_within, AreLaid, laid_place}
-use Rattle.pfc_image_cells.proofs.Trees.{Fine, Holds, IsInitial, IsSubs, Placed, blocks_placed, initial_placed, main_cells_are, main_found, main_placed, mains_hold, mains_no_sub, own_sub, blocks_laid}
+use Rattle.pfc_image_cells.proofs.Trees.{Fine, Holds, IsInitial, IsLaidOut, IsBlocks, Placed, blocks_placed, initial_placed, main_cells_are, main_found, main_placed, mains_hold, mains_no_sub, own_sub, blocks_laid}
 
 -- ## One variable
 
@@ -237,13 +238,13 @@ module _ (g : Program) (known : AreNumbered g.state) (whole : g.state.blocks.not
         plain there fine true e =
             let c : reached_block (at v a l) (spot i k) ≡ g.main =
             ap (λ (n : ℕ). block_at g n) (links i there ∙ ap (λ (z : Bool). cond z 0 i) e) ∙ main_at in
-            let fits = mains i e k m is laid in
+            let fits = slice_get_within g.main.layout (variable_place g.state.blocks i k) m (mains i e k m is laid) in
             (omega (arith, fits), ap (λ (x : Block). x.layout) c, same_cells (reached_block (at v a l) (spot i k)) g.main c main_cells)
         plain there fine false e =
             let f = fine e in
             let c : reached_block (at v a l) (spot i k) ≡ block_at g i =
             ap (λ (n : ℕ). block_at g n) (links i there ∙ ap (λ (z : Bool). cond z 0 i) e) in
-            let fits = f.0 k m is laid in
+            let fits = slice_get_within (block_at g i).layout (variable_place g.state.blocks i k) m (f.0 k m is laid) in
             (omega (arith, fits), ap (λ (x : Block). x.layout) c, same_cells (reached_block (at v a l) (spot i k)) (block_at g i) c f.1)
 
         by : (sees b.env.view i ≡ true) ⊎ (is_accept b i ≡ true) → Reaches (at v a l) (spot i k) (is_accept b i) (is_mains g.state.blocks i)
@@ -253,7 +254,7 @@ module _ (g : Program) (known : AreNumbered g.state) (whole : g.state.blocks.not
         by (inr own) =
             let one = placed.accept i own in
             subst (λ (z : Bool). Reaches (at v a l) (spot i k) z (is_mains g.state.blocks i)) (sym own) (
-              one.fits k m is laid,
+              slice_get_within b.layout (before_accept (at v a l) i + variable_place g.state.blocks i k) m (one.stands k m is laid),
               ap (λ (x : Block). x.layout) one.links,
               same_cells (reached_block (at v a l) (spot i k)) b one.links r.cells,
             )
@@ -274,23 +275,19 @@ module _ (g : Program) (known : AreNumbered g.state) (whole : g.state.blocks.not
         not_none : sub_with g.state.blocks.subs (sub_at g.state.blocks n).scope ≡ None → ⊥
         not_none e = let both : Some (sub_at g.state.blocks n) ≡ None = sym (own n below) ∙ e in cc
 
-        in_layout : (x : Layout) → x ≡ sub_layout_at g.state.blocks (sub_at g.state.blocks n).scope → 0 + length (sub_at g.state.blocks n).formals < length x
-        in_layout x e =
-            let fits = room n below head function in
-            let long : length x ≡ length (sub_layout g.state.blocks (sub_at g.state.blocks n)) =
-            ap (λ (y : Layout). length y) e ∙ ap (λ (o : Option SubHead). length (layout_by g.state.blocks o)) (own n below) in
-            omega (arith, fits, long)
-
         of_layout : (c : reached_block (at v a l) (result_spot_of n) ≡ block_at g (sub_at g.state.blocks n).scope)
             → (block_at g (sub_at g.state.blocks n).scope).cells ≡ layout_cells g.state.forms (block_at g (sub_at g.state.blocks n).scope).layout
-            → IsSubs g (sub_at g.state.blocks n).scope (block_at g (sub_at g.state.blocks n).scope).layout
+            → IsBlocks g (sub_at g.state.blocks n).scope (block_at g (sub_at g.state.blocks n).scope).layout
             → Reaches (at v a l) (result_spot_of n) false false
-        of_layout c cells (inl e) = absurd (not_none e)
-        of_layout c cells (inr e) = (
-          in_layout (block_at g (sub_at g.state.blocks n).scope).layout e,
-          ap (λ (x : Block). x.layout) c,
-          subst (λ (z : Block). z.cells ≡ layout_cells g.state.forms z.layout) (sym c) cells,
-        )
+        of_layout c cells h =
+            let is : (block_at g (sub_at g.state.blocks n).scope).layout ≡ sub_layout g.state.blocks (sub_at g.state.blocks n) =
+            subst (λ (o : Option SubHead). IsLaidOut g (sub_at g.state.blocks n).scope o (block_at g (sub_at g.state.blocks n).scope).layout) (own n below) h in
+            let fits = room n below head function in
+            let long = ap (λ (y : Layout). length y) is in (
+              omega (arith, fits, long),
+              ap (λ (x : Block). x.layout) c,
+              subst (λ (z : Block). z.cells ≡ layout_cells g.state.forms z.layout) (sym c) cells,
+            )
 
         plain : sees b.env.view (sub_at g.state.blocks n).scope ≡ true → Fine g (sub_at g.state.blocks n).scope → (q : Bool)
             → is_mains g.state.blocks (sub_at g.state.blocks n).scope ≡ q → Reaches (at v a l) (result_spot_of n) false q
@@ -565,7 +562,7 @@ initials A s (b ∷ bs) qs h =
     let rest = initials A s bs qs (All-tail (IsRuledPiece A s) (an_initial b) (map an_initial bs ++ qs) h) in
     (All-cons (IsRuled A s) b bs (All-head (IsRuledPiece A s) (an_initial b) (map an_initial bs ++ qs) h) rest.0, rest.1)
 
-inits_ruled : (A : Type 0) (s : State) (n next : ℕ) (qs : PartTrees) → All (IsRuledPiece A s) (pieces s n next qs) → All (IsRuled A s) (parts_inits s n next qs)
+pub inits_ruled : (A : Type 0) (s : State) (n next : ℕ) (qs : PartTrees) → All (IsRuledPiece A s) (pieces s n next qs) → All (IsRuled A s) (parts_inits s n next qs)
 inits_ruled A s n next no_parts h = All-nil (IsRuled A s)
 inits_ruled A s n next (more_parts q qs) h =
     let further = passed_part (scope_at s.blocks.scopes 0) n q in

@@ -1,11 +1,12 @@
 -- A variable has a place in the layout of its block.
-use Rattle.std.proofs.Common.{◌≡◌, ℕ, ◌+◌, ◌-◌, ◌<◌, ◌≤◌, zero, suc, nat_lt, not, ◌||◌, Bool, true, false, List, [], ◌∷◌, ◌++◌, length, length-append, take, drop, get_or, option_map, bytes_eq, cond, if◌then◌else◌, Option, Some, None, refl, ap, sym, ◌∙◌, subst, arith}
+use Rattle.std.proofs.Common.{◌≡◌, ℕ, ◌+◌, ◌-◌, ◌<◌, ◌≤◌, zero, suc, nat_lt, not, ◌||◌, Bool, true, false, List, [], ◌∷◌, ◌++◌, length, length-append, take, drop, get_or, slice_get, option_map, bytes_eq, cond, if◌then◌else◌, Option, Some, None, refl, ap, sym, ◌∙◌, subst, arith}
 use Rattle.std.specs.List.{position_or_len}
 use Rattle.std.specs.Map.{keys_of}
 use Rattle.std.specs.Option.{option_or}
 use Rattle.std.proofs.lemmas.Bool.Decides.{nat_tests}
 use Rattle.std.proofs.lemmas.List.{get_or-drop}
-use Rattle.std.proofs.Math.Seq.{take-append_seam}
+use Rattle.std.proofs.Math.Seq.{take-append_seam, take-append-add}
+use Rattle.std.proofs.lemmas.List.{take-append-drop, append_assoc}
 use Rattle.std.proofs.lemmas.List.Sums.{sum_by-cons}
 use Rattle.pfc_tree.specs.Symbols.{Text}
 use Rattle.pfc_types.specs.Types.{Forms, cells_in}
@@ -111,105 +112,175 @@ first_are : (names : Names) (k : ℕ) (m : Meaning) → (h : IsAt names k m) →
 first_are names k m h =
     ap (λ n. take n names) (sym h.count) ∙ ap (λ (l : Names). take (length h.before) l) h.splits ∙ take-append_seam h.before (h.name ∷ h.after)
 
+-- ## Elements of joined lists
+
+pub get_behind : {X : Type 0} (a b : List X) (k : ℕ) → slice_get (a ++ b) (length a + k) ≡ slice_get b k
+get_behind [] b k = let same : 0 + k ≡ k = omega arith in ap (λ n. slice_get b n) same
+get_behind (x ∷ a) b k =
+    let next : suc (length a) + k ≡ suc (length a + k) = omega arith in ap (λ n. slice_get (x ∷ (a ++ b)) n) next ∙ get_behind a b k
+
+pub get_within : {X : Type 0} (a b : List X) (k : ℕ) (x : X) → slice_get a k ≡ Some x → slice_get (a ++ b) k ≡ Some x
+get_within [] b k x e = absurd (cc)
+get_within (y ∷ a) b zero x e = e
+get_within (y ∷ a) b (suc k) x e = get_within a b k x e
+
+get_first : {X : Type 0} (a b : List X) (k : ℕ) (x : X) → slice_get (a ++ b) k ≡ Some x → k < length a → slice_get a k ≡ Some x
+get_first [] b k x e h = absurd (omega (arith, h))
+get_first (y ∷ a) b zero x e h = e
+get_first (y ∷ a) b (suc k) x e h = get_first a b k x e (omega (arith, h))
+
+get_second : {X : Type 0} (a b : List X) (k : ℕ) (x : X) → slice_get (a ++ b) k ≡ Some x → length a ≤ k → slice_get b (k - length a) ≡ Some x
+get_second a b k x e h =
+    let same : length a + (k - length a) ≡ k = omega (arith, h) in
+    sym (get_behind a b (k - length a)) ∙ ap (λ n. slice_get (a ++ b) n) same ∙ e
+
+-- at another number that is the same
+pub get_there : {X : Type 0} (l : List X) (j k : ℕ) (x : X) → slice_get l j ≡ Some x → k ≡ j → slice_get l k ≡ Some x
+get_there l j k x e same = ap (λ n. slice_get l n) same ∙ e
+
 -- ## Names that are laid out
 
-pub laid_sum : (a b : Names) → length (laid_names (a ++ b)) ≡ length (laid_names a) + length (laid_names b)
-laid_sum [] b = omega arith
-laid_sum (x ∷ a) b = by (is_laid x.1) (laid_sum a b)
+laid_append : (a b : Names) → laid_names (a ++ b) ≡ laid_names a ++ laid_names b
+laid_append [] b = refl
+laid_append (x ∷ a) b = by (is_laid x.1) (laid_append a b)
   where
-    by : (r : Bool) → length (laid_names (a ++ b)) ≡ length (laid_names a) + length (laid_names b)
-        → length (if r then x.1 ∷ laid_names (a ++ b) else laid_names (a ++ b)) ≡ length (if r then x.1 ∷ laid_names a else laid_names a) + length
-        (laid_names b)
-    by true e = omega (arith, e)
+    by : (r : Bool) → laid_names (a ++ b) ≡ laid_names a ++ laid_names b
+        → (if r then x.1 ∷ laid_names (a ++ b) else laid_names (a ++ b)) ≡ (if r then x.1 ∷ laid_names a else laid_names a) ++ laid_names b
+    by true e = ap (λ (l : Layout). x.1 ∷ l) e
     by false e = e
 
-pub laid_before : (names : Names) (k : ℕ) (m : Meaning) → IsAt names k m → is_laid m ≡ true → length (laid_names (take k names)) < length (laid_names names)
-laid_before names k m h laid =
-    let first : length (laid_names (take k names)) ≡ length (laid_names h.before) = ap (λ (l : Names). length (laid_names l)) (first_are names k m h) in
-    let all : length (laid_names names) ≡ length (laid_names (h.before ++ h.name ∷ h.after)) = ap (λ (l : Names). length (laid_names l)) h.splits in
-    let sum = laid_sum h.before (h.name ∷ h.after) in
-    let one : length (laid_names (h.name ∷ h.after)) ≡ 1 + length (laid_names h.after) =
-    ap (λ (r : Bool). length (if r then h.name.1 ∷ laid_names h.after else laid_names h.after)) (ap (λ (n : Meaning). is_laid n) h.is ∙ laid)
-    ∙ omega arith in
-    omega (arith, first, all, sum, one)
+pub laid_stands : (names : Names) (k : ℕ) (m : Meaning) → IsAt names k m → is_laid m ≡ true
+    → slice_get (laid_names names) (length (laid_names (take k names))) ≡ Some m
+laid_stands names k m h laid =
+    let one : laid_names (h.name ∷ h.after) ≡ m ∷ laid_names h.after =
+    ap (λ (r : Bool). if r then h.name.1 ∷ laid_names h.after else laid_names h.after) (ap (λ (n : Meaning). is_laid n) h.is ∙ laid)
+    ∙ ap (λ (n : Meaning). n ∷ laid_names h.after) h.is in
+    let all : laid_names names ≡ laid_names h.before ++ m ∷ laid_names h.after =
+    ap laid_names h.splits ∙ laid_append h.before (h.name ∷ h.after) ∙ ap (λ (l : Layout). laid_names h.before ++ l) one in
+    let place : length (laid_names (take k names)) ≡ length (laid_names h.before) + 0 =
+    ap (λ (l : Names). length (laid_names l)) (first_are names k m h) ∙ omega arith in
+    ap (λ (l : Layout). slice_get l (length (laid_names (take k names)))) all
+    ∙ get_there (laid_names h.before ++ m ∷ laid_names h.after) (length (laid_names h.before) + 0) (length (laid_names (take k names))) m
+    (get_behind (laid_names h.before) (m ∷ laid_names h.after) 0) place
 
 -- ## A sub, a process and an accept
 
-laid_parts : (n : ℕ) (names : Names) → length (laid_names names) ≡ length (laid_names (take n names)) + length (laid_names (drop n names))
-laid_parts zero names = omega arith
-laid_parts (suc n) [] = omega arith
-laid_parts (suc n) (x ∷ names) = by (is_laid x.1) (laid_parts n names)
+pub laid_parts : (n : ℕ) (names : Names) → laid_names names ≡ laid_names (take n names) ++ laid_names (drop n names)
+laid_parts n names = ap laid_names (sym (take-append-drop n names)) ∙ laid_append (take n names) (drop n names)
+
+-- fewer names, no more variables
+laid_fewer : (names : Names) (n k : ℕ) → n ≤ k → length (laid_names (take n names)) ≤ length (laid_names (take k names))
+laid_fewer names zero k h = omega arith
+laid_fewer [] (suc n) zero h = absurd (omega (arith, h))
+laid_fewer [] (suc n) (suc k) h = omega arith
+laid_fewer (x ∷ names) (suc n) zero h = absurd (omega (arith, h))
+laid_fewer (x ∷ names) (suc n) (suc k) h = by (is_laid x.1) (laid_fewer names n k (omega (arith, h)))
   where
-    by : (r : Bool) → length (laid_names names) ≡ length (laid_names (take n names)) + length (laid_names (drop n names))
-        → length (if r then x.1 ∷ laid_names names else laid_names names) ≡ length
-        (if r then x.1 ∷ laid_names (take n names) else laid_names (take n names)) + length (laid_names (drop n names))
+    by : (r : Bool) → length (laid_names (take n names)) ≤ length (laid_names (take k names))
+        → length (if r then x.1 ∷ laid_names (take n names) else laid_names (take n names))
+        ≤ length (if r then x.1 ∷ laid_names (take k names) else laid_names (take k names))
     by true e = omega (arith, e)
     by false e = e
 
+laid_until : (names : Names) (k : ℕ) (m : Meaning) (h : IsAt names k m) → is_laid m ≡ true
+    → length (laid_names (take (k + 1) names)) ≡ length (laid_names (take k names)) + 1
+laid_until names k m h laid =
+    let both : take (k + 1) names ≡ h.before ++ h.name ∷ [] =
+    ap (λ n. take (n + 1) names) (sym h.count) ∙ ap (λ (l : Names). take (length h.before + 1) l) h.splits ∙ take-append-add h.before (h.name ∷ h.after) 1 in
+    let one : length (laid_names (h.name ∷ [])) ≡ 1 =
+    ap (λ (r : Bool). length (if r then h.name.1 ∷ [] else [])) (ap (λ (n : Meaning). is_laid n) h.is ∙ laid) in
+    let all = ap (λ (l : Layout). length l) (laid_append h.before (h.name ∷ [])) in
+    let sum = length-append (laid_names h.before) (laid_names (h.name ∷ [])) in
+    let first = ap (λ (l : Names). length (laid_names l)) (first_are names k m h) in
+    let whole = ap (λ (l : Names). length (laid_names l)) both in
+    omega (arith, one, all, sum, first, whole)
+
 pub sub_place : (b : Blocks) (head : SubHead) (k : ℕ) (m : Meaning) → IsAt (scope_at b.scopes head.scope) k m → is_laid m ≡ true
-    → length (laid_names (take k (scope_at b.scopes head.scope))) + behind_result (Some head) k < length (sub_layout b head)
-sub_place b head k m h laid =
-    let names = scope_at b.scopes head.scope in
-    let n = length head.formals in
-    let before = laid_before names k m h laid in
-    let parts = laid_parts n names in
-    let one = length-append (laid_names (take n names)) (result_laid head.sort ++ laid_names (drop n names)) in
-    let two = length-append (result_laid head.sort) (laid_names (drop n names)) in
-    let some : behind_result (Some head) k ≤ length (result_laid head.sort) = by (nat_lt k n) in
-    omega (arith, before, parts, one, two, some)
+    → slice_get (sub_layout b head) (length (laid_names (take k (scope_at b.scopes head.scope))) + behind_result (Some head) k) ≡ Some m
+sub_place b head k m h laid = by (nat_lt k n) refl
   where
-    by : (r : Bool) → (if r then 0 else length (result_laid head.sort)) ≤ length (result_laid head.sort)
-    by true = omega arith
-    by false = omega arith
+    names : Names
+    names = scope_at b.scopes head.scope
+
+    n : ℕ
+    n = length head.formals
+
+    first : Layout
+    first = laid_names (take n names)
+
+    result : Layout
+    result = result_laid head.sort
+
+    rest : Layout
+    rest = laid_names (drop n names)
+
+    p : ℕ
+    p = length (laid_names (take k names))
+
+    whole : slice_get (first ++ rest) p ≡ Some m
+    whole = ap (λ (l : Layout). slice_get l p) (sym (laid_parts n names)) ∙ laid_stands names k m h laid
+
+    by : (r : Bool) → nat_lt k n ≡ r → slice_get (first ++ (result ++ rest)) (p + (if r then 0 else length result)) ≡ Some m
+    by true e =
+        let few : k < n = grind (arith, nat_tests) in
+        let more = laid_fewer names (k + 1) n (omega (arith, few)) in
+        let until = laid_until names k m h laid in
+        let same : p + 0 ≡ p = omega arith in
+        get_there (first ++ (result ++ rest)) p (p + 0) m
+        (get_within first (result ++ rest) p m (get_first first rest p m whole (omega (arith, more, until)))) same
+    by false e =
+        let many : n ≤ k = grind (arith, nat_tests) in
+        let fewer = laid_fewer names n k many in
+        let same : p + length result ≡ length first + (length result + (p - length first)) = omega (arith, fewer) in
+        ap (λ j. slice_get (first ++ (result ++ rest)) j) same ∙ get_behind first (result ++ rest) (length result + (p - length first))
+        ∙ get_behind result rest (p - length first) ∙ get_second first rest p m whole fewer
 
 pub process_place : (own : Names) (accepts : List Names) (k : ℕ) (m : Meaning) → IsAt own k m → is_laid m ≡ true
-    → length (laid_names (take k own)) < length (process_layout own accepts)
+    → slice_get (process_layout own accepts) (length (laid_names (take k own))) ≡ Some m
 process_place own accepts k m h laid =
-    let before = laid_before own k m h laid in
-    let all = length-append (laid_names own) (accepts_laid accepts) in
-    omega (arith, before, all)
+    get_within (laid_names own) (accepts_laid accepts) (length (laid_names (take k own))) m (laid_stands own k m h laid)
 
-accepts_count : (ss : List Names) (a k : ℕ) → k < a
-    → length (accepts_laid (take k ss)) + length (laid_names (get_or ss k [])) ≤ length (accepts_laid (take a ss))
-accepts_count [] zero k h = absurd (omega (arith, h))
-accepts_count [] (suc a) zero h = omega arith
-accepts_count [] (suc a) (suc k) h = omega arith
-accepts_count (x ∷ ss) zero k h = absurd (omega (arith, h))
-accepts_count (x ∷ ss) (suc a) zero h = let both = length-append (laid_names x) (accepts_laid (take a ss)) in omega (arith, both)
-accepts_count (x ∷ ss) (suc a) (suc k) h =
-    let rest = accepts_count ss a k (omega (arith, h)) in
-    let all = length-append (laid_names x) (accepts_laid (take a ss)) in
-    let some = length-append (laid_names x) (accepts_laid (take k ss)) in
-    omega (arith, rest, all, some)
+accepts_stand : (ss : List Names) (a n p : ℕ) (m : Meaning) → n < a → slice_get (laid_names (get_or ss n [])) p ≡ Some m
+    → slice_get (accepts_laid (take a ss)) (length (accepts_laid (take n ss)) + p) ≡ Some m
+accepts_stand [] a n p m h e = absurd (cc)
+accepts_stand (x ∷ ss) zero n p m h e = absurd (omega (arith, h))
+accepts_stand (x ∷ ss) (suc a) zero p m h e =
+    let same : 0 + p ≡ p = omega arith in
+    get_there (laid_names x ++ accepts_laid (take a ss)) p (0 + p) m (get_within (laid_names x) (accepts_laid (take a ss)) p m e) same
+accepts_stand (x ∷ ss) (suc a) (suc n) p m h e =
+    let sum = length-append (laid_names x) (accepts_laid (take n ss)) in
+    let same : length (laid_names x ++ accepts_laid (take n ss)) + p ≡ length (laid_names x) + (length (accepts_laid (take n ss)) + p) = omega (arith, sum) in
+    ap (λ j. slice_get (laid_names x ++ accepts_laid (take a ss)) j) same
+    ∙ get_behind (laid_names x) (accepts_laid (take a ss)) (length (accepts_laid (take n ss)) + p) ∙ accepts_stand ss a n p m (omega (arith, h)) e
 
 -- the parameters of the accept with the scope i
 pub accept_place :
     (scopes : List Names) (own : Names) (next accepts i k : ℕ) (m : Meaning) → next ≤ i → i < next + accepts → IsAt (scope_at scopes i) k m → is_laid m ≡ true
-    → length (process_layout own (take (i - next) (drop next scopes))) + length (laid_names (take k (scope_at scopes i)))
-    < length (process_layout own (take accepts (drop next scopes)))
+    → slice_get (process_layout own (take accepts (drop next scopes)))
+    (length (process_layout own (take (i - next) (drop next scopes))) + length (laid_names (take k (scope_at scopes i)))) ≡ Some m
 accept_place scopes own next accepts i k m low high h laid =
     let n = i - next in
     let ss = drop next scopes in
-    let count = accepts_count ss accepts n (omega (arith, low, high)) in
+    let p = length (laid_names (take k (scope_at scopes i))) in
     let same : next + n ≡ i = omega (arith, low) in
-    let at : length (laid_names (get_or ss n [])) ≡ length (laid_names (scope_at scopes i)) =
-    ap (λ (l : Names). length (laid_names l)) (get_or-drop next scopes n [] ∙ ap (λ (j : ℕ). get_or scopes j []) same) in
-    let before = laid_before (scope_at scopes i) k m h laid in
+    let at : slice_get (laid_names (get_or ss n [])) p ≡ Some m =
+    ap (λ (l : Names). slice_get (laid_names l) p) (get_or-drop next scopes n [] ∙ ap (λ (j : ℕ). get_or scopes j []) same)
+    ∙ laid_stands (scope_at scopes i) k m h laid in
     let one = length-append (laid_names own) (accepts_laid (take n ss)) in
-    let two = length-append (laid_names own) (accepts_laid (take accepts ss)) in
-    omega (arith, count, at, before, one, two)
+    let place : length (laid_names own ++ accepts_laid (take n ss)) + p ≡ length (laid_names own) + (length (accepts_laid (take n ss)) + p) =
+    omega (arith, one) in
+    ap (λ j. slice_get (laid_names own ++ accepts_laid (take accepts ss)) j) place
+    ∙ get_behind (laid_names own) (accepts_laid (take accepts ss)) (length (accepts_laid (take n ss)) + p)
+    ∙ accepts_stand ss accepts n p m (omega (arith, low, high)) at
 
 -- ## Main's block
 
-main_sum : (b : Blocks) (x y : Names) → length (main_layout b (x ++ y)) ≡ length (main_layout b x) + length (main_layout b y)
-main_sum b [] y = omega arith
-main_sum b (n ∷ x) y =
-    let rest = main_sum b x y in
-    let one = length-append (laid_as b n.1) (main_layout b (x ++ y)) in
-    let two = length-append (laid_as b n.1) (main_layout b x) in
-    omega (arith, rest, one, two)
+main_append : (b : Blocks) (x y : Names) → main_layout b (x ++ y) ≡ main_layout b x ++ main_layout b y
+main_append b [] y = refl
+main_append b (n ∷ x) y =
+    ap (λ (l : Layout). laid_as b n.1 ++ l) (main_append b x y) ∙ sym (append_assoc (laid_as b n.1) (main_layout b x) (main_layout b y))
 
-laid_alone : (b : Blocks) (m : Meaning) → is_laid m ≡ true → length (laid_as b m) ≡ 1
+laid_alone : (b : Blocks) (m : Meaning) → is_laid m ≡ true → laid_as b m ≡ m ∷ []
 laid_alone b (Constant t v) e = absurd (cc)
 laid_alone b (Named t) e = absurd (cc)
 laid_alone b (Variable t r) e = refl
@@ -222,51 +293,60 @@ laid_alone b Faulty e = absurd (cc)
 
 -- a variable of the program
 pub main_place : (b : Blocks) (names : Names) (k : ℕ) (m : Meaning) → IsAt names k m → is_laid m ≡ true
-    → length (main_layout b (take k names)) < length (main_layout b names)
+    → slice_get (main_layout b names) (length (main_layout b (take k names))) ≡ Some m
 main_place b names k m h laid =
-    let first : length (main_layout b (take k names)) ≡ length (main_layout b h.before) =
-    ap (λ (l : Names). length (main_layout b l)) (first_are names k m h) in
-    let all : length (main_layout b names) ≡ length (main_layout b (h.before ++ h.name ∷ h.after)) =
-    ap (λ (l : Names). length (main_layout b l)) h.splits in
-    let sum = main_sum b h.before (h.name ∷ h.after) in
-    let more = length-append (laid_as b h.name.1) (main_layout b h.after) in
-    let one : length (laid_as b h.name.1) ≡ 1 = ap (λ (n : Meaning). length (laid_as b n)) h.is ∙ laid_alone b m laid in
-    omega (arith, first, all, sum, more, one)
+    let first = main_layout b h.before in
+    let more = main_layout b h.after in
+    let one : laid_as b h.name.1 ≡ m ∷ [] = ap (λ (n : Meaning). laid_as b n) h.is ∙ laid_alone b m laid in
+    let all : main_layout b names ≡ first ++ m ∷ more =
+    ap (λ (l : Names). main_layout b l) h.splits ∙ main_append b h.before (h.name ∷ h.after) ∙ ap (λ (l : Layout). first ++ (l ++ more)) one in
+    let place : length (main_layout b (take k names)) ≡ length first + 0 =
+    ap (λ (l : Names). length (main_layout b l)) (first_are names k m h) ∙ omega arith in
+    ap (λ (l : Layout). slice_get l (length (main_layout b (take k names)))) all
+    ∙ get_there (first ++ m ∷ more) (length first + 0) (length (main_layout b (take k names))) m (get_behind first (m ∷ more) 0) place
 
-module_laid : (b : Blocks) (n : ℕ) (m : Meaning) → is_module n m ≡ true → length (laid_as b m) ≡ length (laid_as b (Module n))
+module_laid : (b : Blocks) (n : ℕ) (m : Meaning) → is_module n m ≡ true → laid_as b m ≡ laid_as b (Module n)
 module_laid b n (Constant t v) e = absurd (cc)
 module_laid b n (Named t) e = absurd (cc)
 module_laid b n (Variable t r) e = absurd (cc)
 module_laid b n (Sub k) e = absurd (cc)
 module_laid b n (Module k) e =
-    let same : k ≡ n = grind (arith, nat_tests) in ap (λ (j : ℕ). length (laid_names (scope_at b.scopes (module_at b j).scope))) same
+    let same : k ≡ n = grind (arith, nat_tests) in ap (λ (j : ℕ). laid_names (scope_at b.scopes (module_at b j).scope)) same
 module_laid b n (Process k) e = absurd (cc)
 module_laid b n (Entry k) e = absurd (cc)
 module_laid b n (Predeclared k) e = absurd (cc)
 module_laid b n Faulty e = absurd (cc)
 
 -- the variables of a module lie together
-module_room : (b : Blocks) (n : ℕ) (names : Names) → names_module n names ≡ true
-    → before_module b n names + length (laid_as b (Module n)) ≤ length (main_layout b names)
-module_room b n [] e = absurd (cc)
-module_room b n (x ∷ names) e = by (is_module n x.1) refl e (λ q. module_room b n names q)
+module_stands : (b : Blocks) (n : ℕ) (names : Names) (p : ℕ) (m : Meaning) → names_module n names ≡ true → slice_get (laid_as b (Module n)) p ≡ Some m
+    → slice_get (main_layout b names) (before_module b n names + p) ≡ Some m
+module_stands b n [] p m e at = absurd (cc)
+module_stands b n (x ∷ names) p m e at = by (is_module n x.1) refl e (λ q. module_stands b n names p m q at)
   where
+    own : Layout
+    own = laid_as b x.1
+
+    others : Layout
+    others = main_layout b names
+
     by : (r : Bool) → is_module n x.1 ≡ r → (r || names_module n names) ≡ true
-        → (names_module n names ≡ true → before_module b n names + length (laid_as b (Module n)) ≤ length (main_layout b names))
-        → (if r then 0 else length (laid_as b x.1) + before_module b n names) + length (laid_as b (Module n)) ≤ length (main_layout b (x ∷ names))
+        → (names_module n names ≡ true → slice_get others (before_module b n names + p) ≡ Some m)
+        → slice_get (own ++ others) ((if r then 0 else length own + before_module b n names) + p) ≡ Some m
     by true same q rest =
-        let own = module_laid b n x.1 same in let all = length-append (laid_as b x.1) (main_layout b names) in omega (arith, own, all)
+        let none : 0 + p ≡ p = omega arith in
+        get_there (own ++ others) p (0 + p) m
+        (get_within own others p m (ap (λ (l : Layout). slice_get l p) (module_laid b n x.1 same) ∙ at)) none
     by false same q rest =
-        let more = rest q in let all = length-append (laid_as b x.1) (main_layout b names) in omega (arith, more, all)
+        let place : length own + before_module b n names + p ≡ length own + (before_module b n names + p) = omega arith in
+        ap (λ j. slice_get (own ++ others) j) place ∙ get_behind own others (before_module b n names + p) ∙ rest q
 
 pub module_place : (b : Blocks) (n k : ℕ) (m : Meaning) → names_module n (scope_at b.scopes 0) ≡ true → IsAt (scope_at b.scopes (module_at b n).scope) k m
     → is_laid m ≡ true
-    → before_module b n (scope_at b.scopes 0) + length (laid_names (take k (scope_at b.scopes (module_at b n).scope))) < length
-    (main_layout b (scope_at b.scopes 0))
+    → slice_get (main_layout b (scope_at b.scopes 0))
+    (before_module b n (scope_at b.scopes 0) + length (laid_names (take k (scope_at b.scopes (module_at b n).scope)))) ≡ Some m
 module_place b n k m named h laid =
-    let room = module_room b n (scope_at b.scopes 0) named in
-    let before = laid_before (scope_at b.scopes (module_at b n).scope) k m h laid in
-    omega (arith, room, before)
+    module_stands b n (scope_at b.scopes 0) (length (laid_names (take k (scope_at b.scopes (module_at b n).scope)))) m named
+    (laid_stands (scope_at b.scopes (module_at b n).scope) k m h laid)
 
 -- ## What is laid out
 

@@ -51,41 +51,36 @@ use Rattle.pfc_image_cells.specs.Subs.{part_subs, parts_subs, sub_subs, module_s
 abbrev pub sub_scopes_in : State → List ℕ
 sub_scopes_in s = map (λ (h : SubHead). h.scope) s.blocks.subs
 
--- with their parameters
-abbrev pub heads_in : State → List (ℕ × List Formal)
-heads_in s = map (λ (h : SubHead). (h.scope, h.formals)) s.blocks.subs
-
--- subs of the same scopes and parameters and the same modules, and no fewer rules noted
+-- subs of the same scopes and the same modules, and no fewer rules noted
 pub record Same (s t : State) : Type 0 where
   pub subs : sub_scopes_in t ≡ sub_scopes_in s
-  pub heads : heads_in t ≡ heads_in s
   pub modules : t.blocks.modules ≡ s.blocks.modules
   pub clean : t.blocks.noted ≡ [] → s.blocks.noted ≡ []
 
 same : {s : State} → Same s s
-same = record { subs = refl; heads = refl; modules = refl; clean = λ e. e }
+same = record { subs = refl; modules = refl; clean = λ e. e }
 
 infixr 55 ◌⊳◌
 -- the later behind the earlier
 pub ◌⊳◌ : {s t u : State} → Same t u → Same s t → Same s u
-(q ⊳ p) = record { subs = q.subs ∙ p.subs; heads = q.heads ∙ p.heads; modules = q.modules ∙ p.modules; clean = λ e. p.clean (q.clean e) }
+(q ⊳ p) = record { subs = q.subs ∙ p.subs; modules = q.modules ∙ p.modules; clean = λ e. p.clean (q.clean e) }
 
 -- a scope is opened, processes are counted, an entry is added
 pub open_same : (s : State) → Same s (open_scope s)
-open_same s = record { subs = refl; heads = refl; modules = refl; clean = λ e. e }
+open_same s = record { subs = refl; modules = refl; clean = λ e. e }
 
 count_same : (s : State) (n : ℕ) → Same s (set_population s n)
-count_same s n = record { subs = refl; heads = refl; modules = refl; clean = λ e. e }
+count_same s n = record { subs = refl; modules = refl; clean = λ e. e }
 
 entry_same : (s : State) (formals : List Formal) → Same s (add_entry s formals)
-entry_same s formals = record { subs = refl; heads = refl; modules = refl; clean = λ e. e }
+entry_same s formals = record { subs = refl; modules = refl; clean = λ e. e }
 
 form_same : (s : State) (form : TypeForm) → Same s (add_form s form)
-form_same s form = record { subs = refl; heads = refl; modules = refl; clean = λ e. e }
+form_same s form = record { subs = refl; modules = refl; clean = λ e. e }
 
 pub note_same : (s : State) (fs : Faults) → Same s (note s fs)
-note_same s none = record { subs = refl; heads = refl; modules = refl; clean = λ e. e }
-note_same s (one f) = record { subs = refl; heads = refl; modules = refl; clean = λ e. none_before s.blocks.noted (f ∷ []) e }
+note_same s none = record { subs = refl; modules = refl; clean = λ e. e }
+note_same s (one f) = record { subs = refl; modules = refl; clean = λ e. none_before s.blocks.noted (f ∷ []) e }
 note_same s (fs ⨾ gs) = note_same (note s fs) gs ⊳ note_same s fs
 
 pub declare_same : (s : State) (i : ℕ) (x : Text × Place) (m : Meaning) → Same s (declare s i x m)
@@ -93,22 +88,22 @@ declare_same s i x m = by (is_some (meaning_in (scope_at s.blocks.scopes i) x.0)
   where
     by : (b : Bool) → Same s (if b then note s (unless false x.1 302) else add_name s i x.0 m)
     by true = note_same s (unless false x.1 302)
-    by false = record { subs = refl; heads = refl; modules = refl; clean = λ e. e }
+    by false = record { subs = refl; modules = refl; clean = λ e. e }
 
 -- ## Types as they are written
 
 added_unless_same : (fault : Option TypeFault) (s : State) (form : TypeForm) (p : Place) → Same s (added_unless fault s form p).state
-added_unless_same None s form p = record { subs = refl; heads = refl; modules = refl; clean = λ e. e }
-added_unless_same (Some Bounds) s form p = record { subs = refl; heads = refl; modules = refl; clean = λ e. e }
+added_unless_same None s form p = record { subs = refl; modules = refl; clean = λ e. e }
+added_unless_same (Some Bounds) s form p = record { subs = refl; modules = refl; clean = λ e. e }
 added_unless_same (Some Cells) s form p = note_same s (unless false p 304)
-added_unless_same (Some Memory) s form p = record { subs = refl; heads = refl; modules = refl; clean = λ e. e }
+added_unless_same (Some Memory) s form p = record { subs = refl; modules = refl; clean = λ e. e }
 
 added_same : (s : State) (form : Option TypeForm) (p : Place) → Same s (added s form p).state
-added_same s None p = record { subs = refl; heads = refl; modules = refl; clean = λ e. e }
+added_same s None p = record { subs = refl; modules = refl; clean = λ e. e }
 added_same s (Some form) p = added_unless_same (refusal_of s.forms form) s form p
 
 arrays_same : (m : Made) (rs : List (Option Extent)) (p : Place) → Same m.state (made_arrays m rs p).state
-arrays_same m [] p = record { subs = refl; heads = refl; modules = refl; clean = λ e. e }
+arrays_same m [] p = record { subs = refl; modules = refl; clean = λ e. e }
 arrays_same m (r ∷ rs) p = added_same (made_arrays m rs p).state (array_of r (made_arrays m rs p).t) p ⊳ arrays_same m rs p
 
 field_same : (t : TypeId) (r : MadeFields) (x : Text × Place) → Same r.state (made_field t r x).state
@@ -118,10 +113,10 @@ field_same t r x = by (is_some (type_named r.list x.0))
         → Same r.state
         (if b then record { state = note r.state (unless false x.1 302); list = r.list; whole = false } else record r { list = r.list ++ (x.0, t) ∷ [] }).state
     by true = note_same r.state (unless false x.1 302)
-    by false = record { subs = refl; heads = refl; modules = refl; clean = λ e. e }
+    by false = record { subs = refl; modules = refl; clean = λ e. e }
 
 names_same : (t : TypeId) (r : MadeFields) (xs : List (Text × Place)) → Same r.state (made_names t r xs).state
-names_same t r [] = record { subs = refl; heads = refl; modules = refl; clean = λ e. e }
+names_same t r [] = record { subs = refl; modules = refl; clean = λ e. e }
 names_same t r (x ∷ xs) = names_same t (made_field t r x) xs ⊳ field_same t r x
 
 group_same : (r : MadeFields) (t : Option TypeId) (xs : List (Text × Place)) → Same r.state (made_group r t xs).state
@@ -143,7 +138,7 @@ mutual
       let r = made_items view (fields_begun s) vs in added_same r.state (record_form r) p ⊳ items_same view (fields_begun s) vs
 
   items_same : (view : List Level) (r : MadeFields) (vs : VarTrees) → Same r.state (made_items view r vs).state
-  items_same view r no_vars = record { subs = refl; heads = refl; modules = refl; clean = λ e. e }
+  items_same view r no_vars = record { subs = refl; modules = refl; clean = λ e. e }
   items_same view r (more_vars v vs) = items_same view (made_item view r v) vs ⊳ item_same view r v
 
   item_same : (view : List Level) (r : MadeFields) (v : VarTree) → Same r.state (made_item view r v).state
@@ -153,7 +148,7 @@ mutual
 -- ## Constants, types and variables
 
 pub consts_same : (s : State) (i : ℕ) (outer : List Level) (cs : List ConstItem) → Same s (consts_state s i outer cs)
-consts_same s i outer [] = record { subs = refl; heads = refl; modules = refl; clean = λ e. e }
+consts_same s i outer [] = record { subs = refl; modules = refl; clean = λ e. e }
 consts_same s i outer (c ∷ cs) =
     let view = here s.blocks.scopes i outer in
     let fault = broken_constant s.blocks.scopes view c.value in
@@ -161,7 +156,7 @@ consts_same s i outer (c ∷ cs) =
     ⊳ (declare_same (note s fault) i (c.name, c.place) (constant_meaning (constant_value s.blocks.scopes view c.value)) ⊳ note_same s fault)
 
 pub types_same : (s : State) (i : ℕ) (outer : List Level) (ds : List TypeItemTree) → Same s (types_state s i outer ds)
-types_same s i outer [] = record { subs = refl; heads = refl; modules = refl; clean = λ e. e }
+types_same s i outer [] = record { subs = refl; modules = refl; clean = λ e. e }
 types_same s i outer (d ∷ ds) =
     types_same (type_state s i outer d) i outer ds ⊳ (declare_same _ i _ _ ⊳ made_same false s (here s.blocks.scopes i outer) d.form)
 
@@ -188,11 +183,11 @@ var_name_same s i t x = by (is_some (meaning_in (scope_at s.blocks.scopes i) x.0
     by false = populated_same s i (brought s.forms t) x (variable_meaning false t)
 
 var_names_same : (s : State) (i : ℕ) (t : Option TypeId) (xs : List (Text × Place)) → Same s (var_names_state s i t xs)
-var_names_same s i t [] = record { subs = refl; heads = refl; modules = refl; clean = λ e. e }
+var_names_same s i t [] = record { subs = refl; modules = refl; clean = λ e. e }
 var_names_same s i t (x ∷ xs) = var_names_same (var_name_state s i t x) i t xs ⊳ var_name_same s i t x
 
 pub vars_same : (owner : Owner) (s : State) (i : ℕ) (outer : List Level) (vs : VarTrees) → Same s (vars_state owner s i outer vs)
-vars_same owner s i outer no_vars = record { subs = refl; heads = refl; modules = refl; clean = λ e. e }
+vars_same owner s i outer no_vars = record { subs = refl; modules = refl; clean = λ e. e }
 vars_same owner s i outer (more_vars (var_item xs t) vs) =
     let m = made false s (here s.blocks.scopes i outer) t in
     let noted = note m.state (owner_rules owner m.state.forms m.t (type_place t)) in
@@ -204,7 +199,7 @@ vars_same owner s i outer (more_vars (var_item xs t) vs) =
 
 pub formals_same : (i : ℕ) (reference : Bool) (t : Option TypeId) (h : Heading) (xs : List (Text × Place))
     → Same h.state (formals_heading i reference t h xs).state
-formals_same i reference t h [] = record { subs = refl; heads = refl; modules = refl; clean = λ e. e }
+formals_same i reference t h [] = record { subs = refl; modules = refl; clean = λ e. e }
 formals_same i reference t h (x ∷ xs) =
     formals_same i reference t (formal_heading i reference t h x) xs ⊳ declare_same h.state i x (variable_meaning reference t)
 
@@ -212,26 +207,26 @@ group_viewed_same : (i : ℕ) (view : List Level) (h : Heading) (g : GroupTree) 
 group_viewed_same i view h g = formals_same i g.reference (group_type h.state view g) _ g.names ⊳ note_same h.state (broken_group h.state view g)
 
 pub groups_same : (i : ℕ) (outer : List Level) (h : Heading) (gs : List GroupTree) → Same h.state (groups_heading i outer h gs).state
-groups_same i outer h [] = record { subs = refl; heads = refl; modules = refl; clean = λ e. e }
+groups_same i outer h [] = record { subs = refl; modules = refl; clean = λ e. e }
 groups_same i outer h (g ∷ gs) = groups_same i outer (group_heading i outer h g) gs ⊳ group_viewed_same i (here h.state.blocks.scopes i outer) h g
 
 accept_groups_same : (i : ℕ) (view : List Level) (h : Heading) (gs : List GroupTree) → Same h.state (accept_groups i view h gs).state
-accept_groups_same i view h [] = record { subs = refl; heads = refl; modules = refl; clean = λ e. e }
+accept_groups_same i view h [] = record { subs = refl; modules = refl; clean = λ e. e }
 accept_groups_same i view h (g ∷ gs) = accept_groups_same i view (group_viewed i view h g) gs ⊳ group_viewed_same i view h g
 
 entry_formals_same : (reference : Bool) (t : Option TypeId) (h : EntryHeading) (xs : List (Text × Place)) → Same h.state (entry_formals reference t h xs).state
-entry_formals_same reference t h [] = record { subs = refl; heads = refl; modules = refl; clean = λ e. e }
+entry_formals_same reference t h [] = record { subs = refl; modules = refl; clean = λ e. e }
 entry_formals_same reference t h (x ∷ xs) =
     entry_formals_same reference t (entry_formal reference t h x) xs ⊳ note_same h.state (unless (not (is_some (meaning_in h.own x.0))) x.1 302)
 
 entry_groups_same : (view : List Level) (h : EntryHeading) (gs : List GroupTree) → Same h.state (entry_groups view h gs).state
-entry_groups_same view h [] = record { subs = refl; heads = refl; modules = refl; clean = λ e. e }
+entry_groups_same view h [] = record { subs = refl; modules = refl; clean = λ e. e }
 entry_groups_same view h (g ∷ gs) =
     entry_groups_same view (entry_group view h g) gs
     ⊳ (entry_formals_same g.reference (group_type h.state view g) _ g.names ⊳ note_same h.state (broken_group h.state view g))
 
 pub entries_same : (s : State) (i : ℕ) (outer : List Level) (k : ℕ) (es : List EntryTree) → Same s (entries_state s i outer k es)
-entries_same s i outer k [] = record { subs = refl; heads = refl; modules = refl; clean = λ e. e }
+entries_same s i outer k [] = record { subs = refl; modules = refl; clean = λ e. e }
 entries_same s i outer k (e ∷ es) =
     let h = entry_groups (here s.blocks.scopes i outer) (record { state = s; own = []; formals = []; whole = true }) e.formals in
     entries_same (entry_state s i outer k e) i outer (k + 1) es
@@ -244,14 +239,10 @@ entries_same s i outer k (e ∷ es) =
 exported_same : (s : State) (n : ℕ) → Same s (export_sub s n)
 exported_same s n =
     let scope : SubHead → ℕ = λ h. h.scope in
-    let both : SubHead → ℕ × List Formal = λ h. (h.scope, h.formals) in
     record {
       subs = map-set scope s.blocks.subs n (record (sub_at s.blocks n) { exported = true })
           ∙ ap (λ (k : ℕ). set (map (λ (h : SubHead). h.scope) s.blocks.subs) n k) (sym (get_or-map scope s.blocks.subs n no_sub))
           ∙ set-get_or (map (λ (h : SubHead). h.scope) s.blocks.subs) n 0;
-      heads = map-set both s.blocks.subs n (record (sub_at s.blocks n) { exported = true })
-          ∙ ap (λ (k : ℕ × List Formal). set (map (λ (h : SubHead). (h.scope, h.formals)) s.blocks.subs) n k) (sym (get_or-map both s.blocks.subs n no_sub))
-          ∙ set-get_or (map (λ (h : SubHead). (h.scope, h.formals)) s.blocks.subs) n (0, []);
       modules = refl;
       clean = λ e. e;
     }
@@ -270,15 +261,15 @@ export_same s (Some (Module n)) p = note_same s (unless false p 409)
 export_same s (Some (Process n)) p = note_same s (unless false p 409)
 export_same s (Some (Entry n)) p = note_same s (unless false p 409)
 export_same s (Some (Predeclared k)) p = note_same s (unless false p 409)
-export_same s (Some Faulty) p = record { subs = refl; heads = refl; modules = refl; clean = λ e. e }
+export_same s (Some Faulty) p = record { subs = refl; modules = refl; clean = λ e. e }
 
 export_list_same : (s : State) (i : ℕ) (xs : List (Text × Place)) → Same s (export_list s i xs)
-export_list_same s i [] = record { subs = refl; heads = refl; modules = refl; clean = λ e. e }
+export_list_same s i [] = record { subs = refl; modules = refl; clean = λ e. e }
 export_list_same s i (x ∷ xs) =
     let m = meaning_in (scope_at s.blocks.scopes i) x.0 in export_list_same (export_state s m x.1) i xs ⊳ export_same s m x.1
 
 pub exports_same : (s : State) (i : ℕ) (lists : List (List (Text × Place))) → Same s (exports_state s i lists)
-exports_same s i [] = record { subs = refl; heads = refl; modules = refl; clean = λ e. e }
+exports_same s i [] = record { subs = refl; modules = refl; clean = λ e. e }
 exports_same s i (xs ∷ lists) = exports_same (export_list s i xs) i lists ⊳ export_list_same s i xs
 
 process_named_same : (s : State) (i : ℕ) (many whole : Bool) (x : Text × Place) (n : ℕ) → Same s (process_named s i many whole x n)
@@ -300,23 +291,23 @@ accepted_same s view x gs p =
     ⊳ accept_groups_same (length s.blocks.scopes) view (record { state = open_scope s; formals = []; whole = true }) gs ⊳ open_same s
 
 label_same : (c : Option Ordinal) (p : Place) (r : Labels) → Same r.state (label_noted c p r).state
-label_same None p r = record { subs = refl; heads = refl; modules = refl; clean = λ e. e }
+label_same None p r = record { subs = refl; modules = refl; clean = λ e. e }
 label_same (Some c) p r = by (list_any (same_ordinal c) r.seen)
   where
     by : (b : Bool) → Same r.state (if b then record r { state = note r.state (unless false p 320) } else record r { seen = r.seen ++ c ∷ [] }).state
     by true = note_same r.state (unless false p 320)
-    by false = record { subs = refl; heads = refl; modules = refl; clean = λ e. e }
+    by false = record { subs = refl; modules = refl; clean = λ e. e }
 
 labels_same : (view : List Level) (r : Labels) (cs : List Constant) → Same r.state (labels_noted view r cs).state
-labels_same view r [] = record { subs = refl; heads = refl; modules = refl; clean = λ e. e }
+labels_same view r [] = record { subs = refl; modules = refl; clean = λ e. e }
 labels_same view r (c ∷ cs) =
     let x = constant_value r.state.blocks.scopes view c in
     labels_same view (label_noted x (constant_place c) r) cs ⊳ label_same x (constant_place c) r
 
 mutual
   stmt_same : (s : State) (view : List Level) (t : StmtTree) → Same s (stmt_state s view t)
-  stmt_same s view empty = record { subs = refl; heads = refl; modules = refl; clean = λ e. e }
-  stmt_same s view (null p) = record { subs = refl; heads = refl; modules = refl; clean = λ e. e }
+  stmt_same s view empty = record { subs = refl; modules = refl; clean = λ e. e }
+  stmt_same s view (null p) = record { subs = refl; modules = refl; clean = λ e. e }
   stmt_same s view (block b p) = body_same s view b
   stmt_same s view (if_then e t p) = stmt_same s view t
   stmt_same s view (if_then_else e t u p) = stmt_same (stmt_state s view t) view u ⊳ stmt_same s view t
@@ -327,23 +318,23 @@ mutual
   stmt_same s view (for_do x from down to t p q) = stmt_same s view t
   stmt_same s view (cobegin ts last p) = stmts_same s view ts
   stmt_same s view (accepting a p) = accept_same s view a
-  stmt_same s view (requeue x args p) = record { subs = refl; heads = refl; modules = refl; clean = λ e. e }
+  stmt_same s view (requeue x args p) = record { subs = refl; modules = refl; clean = λ e. e }
   stmt_same s view (select pri alts p q) = alts_same s view alts
   stmt_same s view (select_else pri alts ts p q r) = stmts_same (alts_state s view alts) view ts ⊳ alts_same s view alts
-  stmt_same s view (assign d e p q) = record { subs = refl; heads = refl; modules = refl; clean = λ e. e }
-  stmt_same s view (send d e p q) = record { subs = refl; heads = refl; modules = refl; clean = λ e. e }
-  stmt_same s view (receive d v p q) = record { subs = refl; heads = refl; modules = refl; clean = λ e. e }
-  stmt_same s view (call d args p) = record { subs = refl; heads = refl; modules = refl; clean = λ e. e }
+  stmt_same s view (assign d e p q) = record { subs = refl; modules = refl; clean = λ e. e }
+  stmt_same s view (send d e p q) = record { subs = refl; modules = refl; clean = λ e. e }
+  stmt_same s view (receive d v p q) = record { subs = refl; modules = refl; clean = λ e. e }
+  stmt_same s view (call d args p) = record { subs = refl; modules = refl; clean = λ e. e }
 
   stmts_same : (s : State) (view : List Level) (ts : StmtTrees) → Same s (stmts_state s view ts)
-  stmts_same s view no_stmts = record { subs = refl; heads = refl; modules = refl; clean = λ e. e }
+  stmts_same s view no_stmts = record { subs = refl; modules = refl; clean = λ e. e }
   stmts_same s view (more_stmts t ts) = stmts_same (stmt_state s view t) view ts ⊳ stmt_same s view t
 
   pub body_same : (s : State) (view : List Level) (b : BodyTree) → Same s (body_state s view b)
   body_same s view (body ts from to) = stmts_same s view ts
 
   arms_same : (view : List Level) (r : Labels) (arms : ArmTrees) → Same r.state (arms_state view r arms).state
-  arms_same view r no_arms = record { subs = refl; heads = refl; modules = refl; clean = λ e. e }
+  arms_same view r no_arms = record { subs = refl; modules = refl; clean = λ e. e }
   arms_same view r (more_arms a arms) = arms_same view (arm_state view r a) arms ⊳ arm_same view r a
 
   arm_same : (view : List Level) (r : Labels) (a : ArmTree) → Same r.state (arm_state view r a).state
@@ -356,7 +347,7 @@ mutual
       stmt_same opened (here opened.blocks.scopes (length s.blocks.scopes) view) t ⊳ accepted_same s view x gs p
 
   alts_same : (s : State) (view : List Level) (alts : AltTrees) → Same s (alts_state s view alts)
-  alts_same s view no_alts = record { subs = refl; heads = refl; modules = refl; clean = λ e. e }
+  alts_same s view no_alts = record { subs = refl; modules = refl; clean = λ e. e }
   alts_same s view (more_alts a alts) = alts_same (alt_state s view a) view alts ⊳ alt_same s view a
 
   alt_same : (s : State) (view : List Level) (a : AltTree) → Same s (alt_state s view a)
@@ -364,13 +355,13 @@ mutual
 
   comm_same : (s : State) (view : List Level) (c : CommTree) → Same s (comm_state s view c)
   comm_same s view (comm_accept a p) = accept_same s view a
-  comm_same s view (comm_send d e p) = record { subs = refl; heads = refl; modules = refl; clean = λ e. e }
-  comm_same s view (comm_receive d v p) = record { subs = refl; heads = refl; modules = refl; clean = λ e. e }
-  comm_same s view (timeout e p) = record { subs = refl; heads = refl; modules = refl; clean = λ e. e }
-  comm_same s view (terminate p) = record { subs = refl; heads = refl; modules = refl; clean = λ e. e }
+  comm_same s view (comm_send d e p) = record { subs = refl; modules = refl; clean = λ e. e }
+  comm_same s view (comm_receive d v p) = record { subs = refl; modules = refl; clean = λ e. e }
+  comm_same s view (timeout e p) = record { subs = refl; modules = refl; clean = λ e. e }
+  comm_same s view (terminate p) = record { subs = refl; modules = refl; clean = λ e. e }
 
 pub init_same : (s : State) (view : List Level) (b : Option BodyTree) → Same s (init_state s view b)
-init_same s view None = record { subs = refl; heads = refl; modules = refl; clean = λ e. e }
+init_same s view None = record { subs = refl; modules = refl; clean = λ e. e }
 init_same s view (Some b) = body_same s view b
 
 -- ## Parts
@@ -440,7 +431,7 @@ process_headed_same s i outer many x gs =
     let around = here s.blocks.scopes i outer in
     let h = heading (open_scope s) own around gs in
     let head : ProcessHead = record { formals = h.formals; entries = length s.blocks.entries; scope = own } in
-    let added : Same h.state (add_process h.state head) = record { subs = refl; heads = refl; modules = refl; clean = λ e. e } in
+    let added : Same h.state (add_process h.state head) = record { subs = refl; modules = refl; clean = λ e. e } in
     process_named_same (add_process h.state head) i many h.whole x (length s.blocks.processes) ⊳ added
     ⊳ groups_same own around (record { state = open_scope s; formals = []; whole = true }) gs ⊳ open_same s
 

@@ -1,5 +1,5 @@
 -- Each variable that is in view in a body has a place in the block that holds it: by induction over the parts.
-use Rattle.std.proofs.Common.{◌≡◌, ℕ, ◌+◌, ◌-◌, ◌<◌, ◌≤◌, suc, ◌==◌, nat_lt, nat_le, not, ◌||◌, ◌&&◌, ◌⊎◌, inl, inr, zero, Bool, true, false, List, [], ◌∷◌, ◌++◌, length, take, drop, get_or, map, position, is_some, unwrap_or, cond, if◌then◌else◌, Option, Some, None, refl, ap, sym, ◌∙◌, subst, arith}
+use Rattle.std.proofs.Common.{◌≡◌, ℕ, ◌+◌, ◌-◌, ◌<◌, ◌≤◌, suc, ◌==◌, nat_lt, nat_le, not, ◌||◌, ◌&&◌, zero, Bool, true, false, List, [], ◌∷◌, ◌++◌, length, take, drop, get_or, slice_get, map, position, is_some, unwrap_or, cond, if◌then◌else◌, Option, Some, None, refl, ap, sym, ◌∙◌, subst, arith}
 use Rattle.std.specs.List.{All, position_or_len}
 use Rattle.std.specs.Option.{IfSome}
 use Rattle.pfc_types.specs.rules.Expressions.{Env}
@@ -25,7 +25,7 @@ use Rattle.pfc_image_laws.proofs.Modules.{program_modules}
 use Rattle.pfc_image_numbers.proofs.Rules.{and_left, and_right}
 use Rattle.pfc_image_cells.specs.Subs.{part_subs, parts_subs, sub_subs, module_subs, process_subs}
 use Rattle.pfc_image_cells.proofs.Subs.{program_subs}
-use Rattle.pfc_image_cells.proofs.Layouts.{IsAt, sub_place, process_place, accept_place, main_place, module_place, AreLaid, process_is_laid, main_is_laid, sub_is_laid}
+use Rattle.pfc_image_cells.proofs.Layouts.{IsAt, get_there, sub_place, process_place, accept_place, main_place, module_place, AreLaid, process_is_laid, main_is_laid, sub_is_laid}
 use Rattle.pfc_image_cells.specs.Cells.{AreNamed}
 use Rattle.std.proofs.lemmas.List.Quantifiers.{position-Some}
 use Rattle.pfc_types.specs.rules.Whole.{finished}
@@ -36,7 +36,7 @@ abbrev pub among : ℕ → List ℕ → Bool
 among i [] = false
 among i (j ∷ js) = j == i || among i js
 
-among_append : (i : ℕ) (a b : List ℕ) → among i (a ++ b) ≡ (among i a || among i b)
+pub among_append : (i : ℕ) (a b : List ℕ) → among i (a ++ b) ≡ (among i a || among i b)
 among_append i [] b = refl
 among_append i (j ∷ a) b = by (j == i) (among_append i a b)
   where
@@ -48,17 +48,17 @@ or_false : (x y : Bool) → y ≡ false → (x || y) ≡ x
 or_false true y e = refl
 or_false false y e = e
 
-same_number : (n : ℕ) → (n == n) ≡ true
+pub same_number : (n : ℕ) → (n == n) ≡ true
 same_number n = grind (arith, nat_tests)
 
-other_number : (m n : ℕ) → (m ≡ n → ⊥) → (m == n) ≡ false
+pub other_number : (m n : ℕ) → (m ≡ n → ⊥) → (m == n) ≡ false
 other_number m n h = by (m == n) refl
   where
     by : (r : Bool) → (m == n) ≡ r → r ≡ false
     by true e = absurd (h (grind (arith, nat_tests)))
     by false e = refl
 
-equal_number : (m n : ℕ) → (m == n) ≡ true → m ≡ n
+pub equal_number : (m n : ℕ) → (m == n) ≡ true → m ≡ n
 equal_number m n e = grind (arith, nat_tests)
 
 pub sub_there : (heads : List SubHead) (i : ℕ) → among i (map (λ (h : SubHead). h.scope) heads) ≡ true
@@ -129,16 +129,16 @@ found_append : (a b : List Block) (j : ℕ) (d : Block) → found_block (a ++ b)
 found_append [] b j d = refl
 found_append (x ∷ a) b j d = ap (λ (y : Block). if x.scope == j then x else y) (found_append a b j d)
 
-found_self : (b d : Block) → found_block (b ∷ []) b.scope d ≡ b
+pub found_self : (b d : Block) → found_block (b ∷ []) b.scope d ≡ b
 found_self b d = ap (λ (r : Bool). if r then b else d) (same_number b.scope)
 
 found_other : (b d : Block) (j : ℕ) → (b.scope ≡ j → ⊥) → found_block (b ∷ []) j d ≡ d
 found_other b d j h = ap (λ (r : Bool). if r then b else d) (other_number b.scope j h)
 
 -- the scope j is of none of these
-record Out (j : ℕ) (is : List ℕ) (bs : List Block) : Type 0 where
-  subs : among j is ≡ false
-  blocks : (d : Block) → found_block bs j d ≡ d
+pub record Out (j : ℕ) (is : List ℕ) (bs : List Block) : Type 0 where
+  pub subs : among j is ≡ false
+  pub blocks : (d : Block) → found_block bs j d ≡ d
 
 out_nil : (j : ℕ) → Out j [] []
 out_nil j = record { subs = refl; blocks = λ d. refl }
@@ -158,7 +158,7 @@ out_push j is a b p other =
     }
 
 mutual
-  part_out :
+  pub part_out :
       (s : State) (in_process : Bool) (i n : ℕ) (outer : List Level) (next : ℕ) (q : PartTree) (j : ℕ) → (next ≤ j → j < next + part_scopes q → ⊥)
       → Out j (part_subs next q) (part_blocks s in_process i n outer next q)
   part_out s in_process i n outer next (consts items) j h = out_nil j
@@ -169,7 +169,7 @@ mutual
   part_out s in_process i n outer next (resource m) j h = module_out s i n outer next m j h
   part_out s in_process i n outer next (process_part p) j h = process_out s i n outer next p j h
 
-  parts_out :
+  pub parts_out :
       (s : State) (in_process : Bool) (i n : ℕ) (outer : List Level) (next : ℕ) (qs : PartTrees) (j : ℕ)
       → (next ≤ j → j < next + parts_scopes qs → ⊥) → Out j (parts_subs next qs) (parts_blocks s in_process i n outer next qs)
   parts_out s in_process i n outer next no_parts j h = out_nil j
@@ -245,27 +245,33 @@ agrees_own g is js a b h out =
 
 -- ## Places
 
--- each variable of the scope i has a place in this layout
+-- each variable of the scope i stands at its place in this layout
 abbrev pub Holds : Program → ℕ → Layout → Type 0
 Holds g i layout =
-    (k : ℕ) (m : Meaning) → IsAt (scope_at g.state.blocks.scopes i) k m → is_laid m ≡ true → variable_place g.state.blocks i k < length layout
+    (k : ℕ) (m : Meaning) → IsAt (scope_at g.state.blocks.scopes i) k m → is_laid m ≡ true
+    → slice_get layout (variable_place g.state.blocks i k) ≡ Some m
 
--- no sub has the scope i, or the layout is that sub's
-abbrev pub IsSubs : Program → ℕ → Layout → Type 0
-IsSubs g i layout = (sub_with g.state.blocks.subs i ≡ None) ⊎ (layout ≡ sub_layout_at g.state.blocks i)
+-- the layout is that of the sub with the scope i, or else of a process
+abbrev pub IsLaidOut : Program → ℕ → Option SubHead → Layout → Type 0
+IsLaidOut g i None layout = (accepts : List Names) × (layout ≡ process_layout (scope_at g.state.blocks.scopes i) accepts)
+IsLaidOut g i (Some head) layout = layout ≡ sub_layout g.state.blocks head
+
+abbrev pub IsBlocks : Program → ℕ → Layout → Type 0
+IsBlocks g i layout = IsLaidOut g i (sub_with g.state.blocks.subs i) layout
 
 -- where the scope is not main's, its variables have places in its own block
 abbrev pub Fine : Program → ℕ → Type 0
 Fine g i =
     is_mains g.state.blocks i ≡ false
-    → Holds g i (block_at g i).layout × ((block_at g i).cells ≡ layout_cells g.state.forms (block_at g i).layout) × IsSubs g i (block_at g i).layout
+    → Holds g i (block_at g i).layout × ((block_at g i).cells ≡ layout_cells g.state.forms (block_at g i).layout) × IsBlocks g i (block_at g i).layout
 
--- the variables of the accept with the scope i have places in the block, to which no link leads
+-- the variables of the accept with the scope i stand at their places in the block, to which no link leads
 pub record InAccept (g : Program) (b : Block) (i : ℕ) : Type 0 where
-  pub fits :
+  pub stands :
       (k : ℕ) (m : Meaning) → IsAt (scope_at g.state.blocks.scopes i) k m → is_laid m ≡ true
-      → length (process_layout (scope_at g.state.blocks.scopes b.scope) (take (i - b.next) (drop b.next g.state.blocks.scopes)))
-      + variable_place g.state.blocks i k < length b.layout
+      → slice_get b.layout
+      (length (process_layout (scope_at g.state.blocks.scopes b.scope) (take (i - b.next) (drop b.next g.state.blocks.scopes)))
+      + variable_place g.state.blocks i k) ≡ Some m
   pub links : block_at g (links_up g (links_from g.state.blocks b i) b.scope) ≡ b
   pub none : sub_with g.state.blocks.subs i ≡ None
 
@@ -303,22 +309,25 @@ sub_holds g i apart has k m h laid =
     let head = found.0 in
     let e : sub_with b.subs i ≡ Some head = found.1 in
     let at : head.scope ≡ i = found.2 in
-    let fits = sub_place b head k m (subst (λ j. IsAt (scope_at b.scopes j) k m) (sym at) h) laid in
+    let stands = sub_place b head k m (subst (λ j. IsAt (scope_at b.scopes j) k m) (sym at) h) laid in
     let place = place_own b i k apart in
-    let layout : length (sub_layout_at b i) ≡ length (sub_layout b head) = ap (λ (o : Option SubHead). length (layout_by b o)) e in
+    let layout : sub_layout_at b i ≡ sub_layout b head = ap (λ (o : Option SubHead). layout_by b o) e in
+    let own = length (laid_names (take k (scope_at b.scopes head.scope))) + behind_result (Some head) k in
     let behind : behind_result (sub_with b.subs i) k ≡ behind_result (Some head) k = ap (λ (o : Option SubHead). behind_result o k) e in
     let names : length (laid_names (take k (scope_at b.scopes head.scope))) ≡ length (laid_names (take k (scope_at b.scopes i))) =
     ap (λ (j : ℕ). length (laid_names (take k (scope_at b.scopes j)))) at in
-    omega (arith, fits, place, layout, behind, names)
+    let same : variable_place b i k ≡ own = omega (arith, place, behind, names) in
+    ap (λ (l : Layout). slice_get l (variable_place b i k)) layout ∙ get_there (sub_layout b head) own (variable_place b i k) m stands same
 
 process_holds : (g : Program) (i : ℕ) (accepts : List Names) → is_mains g.state.blocks i ≡ false
     → among i (map (λ (h : SubHead). h.scope) g.state.blocks.subs) ≡ false → Holds g i (process_layout (scope_at g.state.blocks.scopes i) accepts)
 process_holds g i accepts apart none k m h laid =
     let b = g.state.blocks in
-    let fits = process_place (scope_at b.scopes i) accepts k m h laid in
+    let own = scope_at b.scopes i in
     let place = place_own b i k apart in
     let behind : behind_result (sub_with b.subs i) k ≡ 0 = ap (λ (o : Option SubHead). behind_result o k) (sub_none b.subs i none) in
-    omega (arith, fits, place, behind)
+    get_there (process_layout own accepts) (length (laid_names (take k own))) (variable_place b i k) m (process_place own accepts k m h laid)
+    (omega (arith, place, behind))
 
 fine_mains : (g : Program) (i : ℕ) → is_mains g.state.blocks i ≡ true → Fine g i
 fine_mains g i e = λ apart. let both : true ≡ false = sym e ∙ apart in absurd (cc)
@@ -414,8 +423,8 @@ mutual
       let has : among next (map (λ (h : SubHead). h.scope) g.state.blocks.subs) ≡ true =
       at.subs ∙ ap (λ (r : Bool). r || among next is) (same_number next) in
       let mine : Fine g next =
-      λ e. subst (λ (x : Block). Holds g next x.layout × (x.cells ≡ layout_cells g.state.forms x.layout) × IsSubs g next x.layout) (sym me)
-      (sub_holds g next e has, refl, inr refl) in
+      λ e. subst (λ (x : Block). Holds g next x.layout × (x.cells ≡ layout_cells g.state.forms x.layout) × IsBlocks g next x.layout) (sym me)
+      (sub_holds g next e has, refl, its_layout (sub_with g.state.blocks.subs next) refl (sub_there g.state.blocks.subs next has)) in
       let all : (j : ℕ) → (next == j || (i == j || sees outer j)) ≡ true → Fine g j =
       λ j. fine_more g next j (i == j || sees outer j) mine (fine j) in
       All-append (Placed g) inner (b ∷ [])
@@ -430,6 +439,12 @@ mutual
         accept = λ j q. let both : true ≡ false = sym q ∙ none_accepted (next + 1 + parts_scopes ps) j in absurd (cc);
         guard = guard_sees (env_at g.state (level next count ∷ level i n ∷ outer) (around_guard i)) kind (here g.state.blocks.scopes next around) (λ j q. q);
       }) (All-nil (Placed g)))
+    where
+      its_layout :
+          (o : Option SubHead) → sub_with g.state.blocks.subs next ≡ o
+          → (head : SubHead) × (sub_with g.state.blocks.subs next ≡ Some head) × (head.scope ≡ next) → IsLaidOut g next o (layout_by g.state.blocks o)
+      its_layout None e h = let both : None ≡ Some h.0 = sym e ∙ h.1 in absurd (cc)
+      its_layout (Some head) e h = refl
 
 process_placed :
     (g : Program) (n next : ℕ) (q : ProcessTree) → IsLawfulProcess (forget_process q)
@@ -451,10 +466,11 @@ process_placed g n next (process many x gs es ps (body ss from to) p) lawful apa
     let at : Agrees g next is (inner ++ b ∷ []) = agree next (omega arith) (omega arith) in
     let me : block_at g next ≡ b = agrees_own g is is inner b at free in
     let mine : Fine g next =
-    λ e. subst (λ (x : Block). Holds g next x.layout × (x.cells ≡ layout_cells g.state.forms x.layout) × IsSubs g next x.layout) (sym me) (
+    λ e. subst (λ (x : Block). Holds g next x.layout × (x.cells ≡ layout_cells g.state.forms x.layout) × IsBlocks g next x.layout) (sym me) (
       process_holds g next (take (body_scopes stmts) (drop first scopes)) e (at.subs ∙ free.subs),
       refl,
-      inl (sub_none g.state.blocks.subs next (at.subs ∙ free.subs)),
+      subst (λ (o : Option SubHead). IsLaidOut g next o b.layout) (sym (sub_none g.state.blocks.subs next (at.subs ∙ free.subs)))
+          (take (body_scopes stmts) (drop first scopes), refl),
     ) in
     let all : (j : ℕ) → (next == j || (0 == j || false)) ≡ true → Fine g j = λ j. fine_more g next j (0 == j || false) mine (fine_program g j) in
     let accepted : (j : ℕ) → first ≤ j → j < first + body_scopes stmts → InAccept g b j =
@@ -470,11 +486,12 @@ process_placed g n next (process many x gs es ps (body ss from to) p) lawful apa
     ∙ ap (λ (r : Bool). unwrap_or (cond (nat_lt (cond (not r) (1 + 0) 0) 1) (Some (cond (not r) (1 + 0) 0)) None) 0)
     (other_number next j (λ e. omega (arith, low, e))) in
     record {
-      fits = λ k m h laid.
-          let fits = accept_place scopes own first (body_scopes stmts) j k m low high h laid in
+      stands = λ k m h laid.
           let place = place_own g.state.blocks j k e in
           let none = behind k in
-          omega (arith, fits, place, none);
+          let before = length (process_layout own (take (j - first) (drop first scopes))) in
+          get_there b.layout (before + length (laid_names (take k (scope_at scopes j)))) (before + variable_place g.state.blocks j k) m
+          (accept_place scopes own first (body_scopes stmts) j k m low high h laid) (omega (arith, place, none));
       links = ap (λ (l : ℕ). block_at g (links_up g l next)) links
           ∙ ap (λ (r : Bool). block_at g (cond r 0 next)) (apart next (omega arith) (omega arith)) ∙ me;
       none = nobody;
@@ -512,13 +529,13 @@ module_placed g h n next (the_module x exports ps b last p) home lawful mains ap
 
 -- ## The parts of a program
 
-abbrev mods : ℕ → PartTrees → List ℕ
+abbrev pub mods : ℕ → PartTrees → List ℕ
 mods next qs = map (λ (m : ModuleHead). m.scope) (modules_from next qs)
 
-module_opens : (m : ModuleTree) → 0 < module_scopes m
+pub module_opens : (m : ModuleTree) → 0 < module_scopes m
 module_opens (the_module x exports ps b last p) = omega arith
 
-mods_behind : (next : ℕ) (qs : PartTrees) (j : ℕ) → j < next → among j (mods next qs) ≡ false
+pub mods_behind : (next : ℕ) (qs : PartTrees) (j : ℕ) → j < next → among j (mods next qs) ≡ false
 mods_behind next no_parts j h = refl
 mods_behind next (more_parts (consts items) qs) j h = mods_behind (next + 0) qs j (omega (arith, h))
 mods_behind next (more_parts (types items) qs) j h = mods_behind (next + 0) qs j (omega (arith, h))
@@ -817,20 +834,25 @@ mains_hold t lawful named i mains = by (i == 0) refl
     b : Blocks
     b = (finished t).blocks
 
-    layout : length (program_of t).main.layout ≡ length (main_layout b (scope_at b.scopes 0))
-    layout = ap (λ (l : Layout). length l) (main_block t).0
+    whole : Layout
+    whole = main_layout b (scope_at b.scopes 0)
+
+    in_main : (p q : ℕ) (d : Meaning) → slice_get whole q ≡ Some d → p ≡ q → slice_get (program_of t).main.layout p ≡ Some d
+    in_main p q d e same = ap (λ (l : Layout). slice_get l p) (main_block t).0 ∙ get_there whole q p d e same
 
     of_module : (i == 0) ≡ false → (o : Option ℕ) → module_of b i ≡ o → ((i == 0) || is_some o) ≡ true → Holds (program_of t) i (program_of t).main.layout
     of_module e None m h = let both : (false || false) ≡ true = sym (ap (λ (r : Bool). r || false) e) ∙ h in absurd (cc)
     of_module e (Some n) m h = λ k d at laid.
         let found = module_found b i n m in
-        let fits = module_place b n k d (named n found.0) (subst (λ (j : ℕ). IsAt (scope_at b.scopes j) k d) (sym found.1) at) laid in
+        let own = before_module b n (scope_at b.scopes 0) + length (laid_names (take k (scope_at b.scopes (module_at b n).scope))) in
         let some : 0 < i = positive i e in
         let none : behind_result (sub_with b.subs i) k ≡ 0 = ap (λ (o : Option SubHead). behind_result o k) (no_sub_of_module t lawful i some mains) in
         let place = place_of_module b i k n e m in
         let names : length (laid_names (take k (scope_at b.scopes (module_at b n).scope))) ≡ length (laid_names (take k (scope_at b.scopes i))) =
         ap (λ (j : ℕ). length (laid_names (take k (scope_at b.scopes j)))) found.1 in
-        omega (arith, fits, none, place, names, layout)
+        in_main (variable_place b i k) own d
+        (module_place b n k d (named n found.0) (subst (λ (j : ℕ). IsAt (scope_at b.scopes j) k d) (sym found.1) at) laid)
+        (omega (arith, none, place, names))
       where
         positive : (i : ℕ) → (i == 0) ≡ false → 0 < i
         positive i e = grind (arith, nat_tests)
@@ -838,11 +860,11 @@ mains_hold t lawful named i mains = by (i == 0) refl
     by : (r : Bool) → (i == 0) ≡ r → Holds (program_of t) i (program_of t).main.layout
     by true e = λ k d at laid.
         let same : i ≡ 0 = equal_number i 0 e in
-        let fits = main_place b (scope_at b.scopes 0) k d (subst (λ (j : ℕ). IsAt (scope_at b.scopes j) k d) same at) laid in
         let place : variable_place b i k ≡ length (main_layout b (take k (scope_at b.scopes 0))) =
         ap (λ (r : Bool). if r then length (main_layout b (take k (scope_at b.scopes 0))) else before_scope b (module_of b i)
         + (length (laid_names (take k (scope_at b.scopes i))) + behind_result (sub_with b.subs i) k)) e in
-        omega (arith, fits, place, layout)
+        in_main (variable_place b i k) (length (main_layout b (take k (scope_at b.scopes 0)))) d
+        (main_place b (scope_at b.scopes 0) k d (subst (λ (j : ℕ). IsAt (scope_at b.scopes j) k d) same at) laid) place
     by false e = of_module e (module_of b i) refl mains
 
 -- ## Subs have scopes of their own

@@ -50,7 +50,7 @@ module _ (s : State) (v : List Level) (c d : Around) (alike : AreAlike c d) wher
       ∙ ap (λ (t : Option TypeId). if guard_allows d.guard (Some f) then t else None) (plain_same f.meaning lone bare part fit first)
 
   mutual
-    expr_same : (e : ExprTree) → expr_type one e ≡ expr_type other e
+    pub expr_same : (e : ExprTree) → expr_type one e ≡ expr_type other e
     expr_same (plain a p) = simple_same a
     expr_same (related a r u p) =
         ap (λ (t : Option TypeId). related_type t (simple_type one u)) (simple_same a)

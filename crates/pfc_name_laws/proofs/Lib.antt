@@ -1,4 +1,5 @@
 pub mod Numbers
+pub mod Headings
 pub mod Unused
 pub mod Steps
 pub mod Parts

@@ -401,7 +401,7 @@ process_numbered s head h is =
       types = forms_then s.blocks t.blocks s.forms g h.types;
       subs = h.subs;
       modules = h.modules;
-      processes = each_push (λ n (x : ProcessHead). x.scope < length s.blocks.scopes) s.blocks.processes head no_process h.processes is.opened;
+      processes = each_push (λ n (x : ProcessHead). x.scope < length s.blocks.scopes) s.blocks.processes head no_process h.processes is.heading.opened;
       own = each_push (λ n (x : ProcessHead). 0 < x.scope) s.blocks.processes head no_process h.own is.own;
       apart = λ m n before below.
           each_push (λ k (x : ProcessHead). m < k → (process_at t.blocks m).scope < x.scope) s.blocks.processes head no_process
@@ -444,11 +444,11 @@ numbered s at_begin = begun_numbered
 numbered s (noted {s = r} f p) = nothing_new r s (numbered r p) refl refl refl refl refl refl (λ e. none_before r.blocks.noted (f ∷ []) e)
 numbered s (opened {s = r} p) = opened_numbered r (numbered r p)
 numbered s (named {s = r} i x m p below fresh is) = named_numbered r i x m (numbered r p) below is
-numbered s (a_sub {s = r} head p below) = sub_numbered r head (numbered r p) below
-numbered s (exported {s = r} n p) = export_numbered r n (numbered r p)
+numbered s (a_sub {s = r} head p is) = sub_numbered r head (numbered r p) is.heading.opened
+numbered s (exported {s = r} n p is) = export_numbered r n (numbered r p)
 numbered s (a_module {s = r} head p below) = module_numbered r head (numbered r p) below
 numbered s (a_process {s = r} head p is) = process_numbered r head (numbered r p) is
-numbered s (an_entry {s = r} formals p some) = entry_numbered r formals (numbered r p)
+numbered s (an_entry {s = r} formals p some typed) = entry_numbered r formals (numbered r p)
 numbered s (a_type {s = r} form p fits is) = type_numbered r form (numbered r p) is
 numbered s (counted {s = r} n p) = nothing_new r s (numbered r p) refl refl refl refl refl refl (λ e. e)
 

@@ -183,7 +183,7 @@ entry_groups_same view h (g ∷ gs) =
     entry_groups_same view (entry_group view h g) gs
     ∙ (entry_formals_same g.reference (group_type h.state view g) _ g.names ∙ note_same h.state (broken_group h.state view g))
 
-entries_same : (s : State) (i : ℕ) (outer : List Level) (k : ℕ) (es : List EntryTree) → Same s (entries_state s i outer k es)
+pub entries_same : (s : State) (i : ℕ) (outer : List Level) (k : ℕ) (es : List EntryTree) → Same s (entries_state s i outer k es)
 entries_same s i outer k [] = refl
 entries_same s i outer k (e ∷ es) =
     let h = entry_groups (here s.blocks.scopes i outer) (record { state = s; own = []; formals = []; whole = true }) e.formals in
@@ -351,7 +351,7 @@ mutual
   part_same h owner s i outer (resource m) apart lawful = absurd (apart lawful.0)
   part_same h owner s i outer (process_part p) apart lawful = absurd (apart lawful.0)
 
-  parts_same :
+  pub parts_same :
       (h : Home) (owner : Owner) (s : State) (i : ℕ) (outer : List Level) (qs : PartTrees) → (HoldsModules h → ⊥) → AreLawfulParts h (forget_parts qs)
       → Same s (parts_state owner s i outer qs)
   parts_same h owner s i outer no_parts apart lawful = refl

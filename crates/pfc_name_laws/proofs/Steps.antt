@@ -1,7 +1,7 @@
 -- Declarations are made of steps: those in which no heading is added, and statements.
-use Rattle.std.proofs.Common.{◌≡◌, ℕ, ◌+◌, ◌<◌, ◌≤◌, Bool, true, false, not, ◌&&◌, if◌then◌else◌, is_some, List, [], ◌∷◌, ◌++◌, length, length-append, length-set, Option, Some, None, refl, ap, sym, ◌∙◌, subst, ◌≢◌, ◌⊎◌, inl, inr, arith}
+use Rattle.std.proofs.Common.{◌≡◌, ℕ, ◌+◌, ◌<◌, ◌≤◌, Bool, true, false, not, ◌&&◌, if◌then◌else◌, is_some, List, [], ◌∷◌, ◌++◌, length, length-append, length-set, get_or-set_same, map, Option, Some, None, refl, ap, sym, ◌∙◌, subst, ◌≢◌, ◌⊎◌, inl, inr, arith}
 use Rattle.std.specs.List.{list_any}
-use Rattle.std.proofs.lemmas.List.{append-nil, append_assoc}
+use Rattle.std.proofs.lemmas.List.{append-nil, append_assoc, map-append}
 use Rattle.std.specs.Option.{IfSome}
 use Rattle.pfc_base.specs.declared.places.Place.{Place}
 use Rattle.pfc_tree.specs.Symbols.{Text}
@@ -12,7 +12,7 @@ use Rattle.pfc_tree.specs.trees.Stmts.{StmtTree, StmtTrees, BodyTree, ArmTree, A
 use Rattle.pfc_types.specs.Faults.{Faults, none, one, ◌⨾◌, unless, listed}
 use Rattle.pfc_types.specs.Types.{Forms, integer, is_object, refusal_of, most_processes}
 use Rattle.pfc_types.specs.Fields.{type_named}
-use Rattle.pfc_types.specs.Scopes.{Level, scope_at, here, meaning_in, look}
+use Rattle.pfc_types.specs.Scopes.{Names, Level, scope_at, here, meaning_in, look}
 use Rattle.pfc_types.specs.Blocks.{Blocks, State, note, declare, add_form, add_name, set_population, open_scope}
 use Rattle.pfc_types.specs.declared.types.TypeId.{TypeId}
 use Rattle.pfc_types.specs.declared.types.TypeForm.{TypeForm}
@@ -20,18 +20,19 @@ use Rattle.pfc_types.specs.declared.types.TypeForm.TheVariants.{Channel, Record}
 use Rattle.pfc_types.specs.declared.table.TypeFault.{TypeFault}
 use Rattle.pfc_types.specs.declared.table.TypeFault.TheVariants.{Bounds, Cells, Memory}
 use Rattle.pfc_types.specs.declared.scope.Meaning.{Meaning}
+use Rattle.pfc_types.specs.declared.heads.Formal.{Formal}
 use Rattle.pfc_types.specs.declared.scope.Meaning.TheVariants.{Faulty}
 use Rattle.pfc_types.specs.rules.Kinds.{where_so, type_name_rules, has_object, type_meaning, variable_meaning}
 use Rattle.pfc_types.specs.rules.Constants.{Ordinal, Extent, same_ordinal, constant_place, constant_value, broken_constant, broken_ranges, range_extents, Made, added_unless, added, channel_form, array_of, made_arrays, MadeFields, made_field, made_names, made_group, record_form, fields_begun, made, made_items, made_item, type_place}
 use Rattle.pfc_types.specs.rules.Declarations.{shared_fits, condition_fits, constant_meaning, const_state, consts_state, type_state, types_state, Owner, owner_rules, owned_type, passes_most, populated, brought, var_name_state, var_names_state, var_state, vars_state, group_type, broken_group, Heading, formal_heading, formals_heading, group_viewed, group_heading, groups_heading, accept_groups, accept_heading, accept_rule, accepted, Labels, label_noted, labels_noted, stmt_state, stmts_state, body_state, arms_state, arm_state, accept_state, alts_state, alt_state, comm_state, init_state}
-use Rattle.pfc_name_laws.specs.Reached.{IsNumbered, IsOfProcess, Reached, noted, opened, named as a_name, a_type, counted}
+use Rattle.pfc_name_laws.specs.Reached.{IsNumbered, IsOfProcess, formal_meaning, meanings_of, Reached, noted, opened, named as a_name, a_type, counted}
 use Rattle.pfc_name_laws.proofs.Numbers.{still, numbered_then, numbered, none_before, none_behind, no_faulty, simple_constants}
 use Rattle.pfc_name_laws.proofs.Unused.{clash, clean_list, constant_unused, type_unused}
 use Rattle.pfc_name_laws.specs.Numbers.{AreNumbered}
 use Rattle.pfc_types.proofs.Clean.{clean}
 use Rattle.pfc_types.proofs.FaultyConstants.{constant_exact, constant_simple, IsSimpleValue, group_exact}
 use Rattle.pfc_types.proofs.FaultyTypes.{written_exactly}
-use Rattle.pfc_types.specs.rules.FaultyNames.{constant_uses_faulty, type_uses_faulty, group_uses_faulty}
+use Rattle.pfc_types.specs.rules.FaultyNames.{all_typed, constant_uses_faulty, type_uses_faulty, group_uses_faulty}
 use Rattle.pfc_base.specs.declared.faults.Refusal.{Refusal}
 
 -- ## Steps without a heading
@@ -386,12 +387,65 @@ vars_plain owner s i outer (more_vars (var_item xs t) vs) below r =
 abbrev pub IsWhole : Heading → Type 0
 IsWhole h = h.state.blocks.noted ≡ [] → h.whole ≡ true
 
-pub record Headed (h k : Heading) : Type 0 where
+-- the names of a scope are these parameters
+abbrev pub AreFormals : Names → List Formal → Type 0
+AreFormals names formals = meanings_of names ≡ map formal_meaning formals
+
+-- a heading whose parameters are declared in the scope i, with some parameters more
+pub record Headed (i : ℕ) (h k : Heading) : Type 0 where
   pub steps : Stepped h.state k.state
   pub whole : IsWhole h → IsWhole k
+  pub typed : k.state.blocks.noted ≡ [] → all_typed h.formals ≡ true → all_typed k.formals ≡ true
+  pub names :
+      k.state.blocks.noted ≡ [] → AreFormals (scope_at h.state.blocks.scopes i) h.formals → AreFormals (scope_at k.state.blocks.scopes i) k.formals
 
-headed_then : {h k l : Heading} → Headed h k → Headed k l → Headed h l
-headed_then p q = record { steps = stepped_then p.steps q.steps; whole = λ w. q.whole (p.whole w) }
+headed_then : {i : ℕ} {h k l : Heading} → Headed i h k → Headed i k l → Headed i h l
+headed_then p q =
+    record {
+      steps = stepped_then p.steps q.steps;
+      whole = λ w. q.whole (p.whole w);
+      typed = λ e w. q.typed e (p.typed (q.steps.clean e) w);
+      names = λ e w. q.names e (p.names (q.steps.clean e) w);
+    }
+
+same_headed : {i : ℕ} {h : Heading} → Reached h.state → Headed i h h
+same_headed r = record { steps = same r; whole = λ w. w; typed = λ e w. w; names = λ e w. w }
+
+-- a name that is declared is the last of its scope, unless a rule is noted
+declared_last :
+    (s : State) (i : ℕ) (x : Text × Place) (m : Meaning) → i < length s.blocks.scopes → (declare s i x m).blocks.noted ≡ []
+    → scope_at (declare s i x m).blocks.scopes i ≡ scope_at s.blocks.scopes i ++ (x.0, m) ∷ []
+declared_last s i x m below e = by (is_some (meaning_in (scope_at s.blocks.scopes i) x.0)) e
+  where
+    by : (r : Bool) → (if r then note s (unless false x.1 302) else add_name s i x.0 m).blocks.noted ≡ []
+        → scope_at (if r then note s (unless false x.1 302) else add_name s i x.0 m).blocks.scopes i ≡ scope_at s.blocks.scopes i ++ (x.0, m) ∷ []
+    by true q = absurd (never_noted s x.1 302 q)
+    by false q = get_or-set_same s.blocks.scopes i (scope_at s.blocks.scopes i ++ (x.0, m) ∷ []) [] below
+
+one_formal :
+    (names more : Names) (formals : List Formal) (x : Text) (f : Formal) → more ≡ names ++ (x, formal_meaning f) ∷ [] → AreFormals names formals
+    → AreFormals more (formals ++ f ∷ [])
+one_formal names more formals x f e h =
+    ap meanings_of e ∙ map-append (λ (y : Text × Meaning). y.1) names ((x, formal_meaning f) ∷ [])
+    ∙ ap (λ (l : List Meaning). l ++ formal_meaning f ∷ []) h ∙ sym (map-append formal_meaning formals (f ∷ []))
+
+pub both_true : (a b : Bool) → a ≡ true → b ≡ true → (a && b) ≡ true
+both_true true true p q = refl
+both_true true false p q = absurd (cc)
+both_true false b p q = absurd (cc)
+
+pub typed_more : (fs : List Formal) (f : Formal) → all_typed fs ≡ true → is_some f.t ≡ true → all_typed (fs ++ f ∷ []) ≡ true
+typed_more [] f h k = both_true (is_some f.t) true k refl
+typed_more (g ∷ fs) f h k = by (is_some g.t) (all_typed fs) h (λ q. typed_more fs f q k)
+  where
+    by : (a b : Bool) → (a && b) ≡ true → (b ≡ true → all_typed (fs ++ f ∷ []) ≡ true) → (a && all_typed (fs ++ f ∷ [])) ≡ true
+    by true true p q = q refl
+    by true false p q = absurd (cc)
+    by false b p q = absurd (cc)
+
+pub some_type : (t : Option TypeId) → (t ≡ None → ⊥) → is_some t ≡ true
+some_type None h = absurd (h refl)
+some_type (Some t) h = refl
 
 fresh_declared :
     (s : State) (i : ℕ) (x : Text × Place) (m : Meaning) → (declare s i x m).blocks.noted ≡ []
@@ -406,17 +460,21 @@ fresh_declared s i x m e = by (is_some (meaning_in (scope_at s.blocks.scopes i) 
 
 formals_plain :
     (i : ℕ) (reference : Bool) (t : Option TypeId) (h : Heading) (xs : List (Text × Place)) → i < length h.state.blocks.scopes
-    → (h.state.blocks.noted ≡ [] → t ≡ None → ⊥) → Reached h.state → Headed h (formals_heading i reference t h xs)
-formals_plain i reference t h [] below is r = record { steps = same r; whole = λ w. w }
+    → (h.state.blocks.noted ≡ [] → t ≡ None → ⊥) → Reached h.state → Headed i h (formals_heading i reference t h xs)
+formals_plain i reference t h [] below is r = same_headed r
 formals_plain i reference t h (x ∷ xs) below is r =
     let step = declare_plain h.state i x (variable_meaning reference t) below (variable_known h.state.blocks i reference t is) r in
     let a = step.count in
     let k = formal_heading i reference t h x in
-    let one_more : Headed h k =
+    let f : Formal = record { t = t; reference = reference } in
+    let one_more : Headed i h k =
     record {
       steps = step;
       whole = λ w q. whole_and h.whole (is_some (meaning_in (scope_at h.state.blocks.scopes i) x.0)) (w (step.clean q))
           (fresh_declared h.state i x (variable_meaning reference t) q);
+      typed = λ q w. typed_more h.formals f w (some_type t (is (step.clean q)));
+      names = λ q w. one_formal (scope_at h.state.blocks.scopes i) (scope_at k.state.blocks.scopes i) h.formals x.0 f
+          (declared_last h.state i x (variable_meaning reference t) below q) w;
     } in
     headed_then one_more
     (formals_plain i reference t k xs (omega (arith, below, a)) (λ q e. is (step.clean q) e) step.reached)
@@ -428,47 +486,49 @@ formals_plain i reference t h (x ∷ xs) below is r =
 
 group_viewed_plain :
     (i : ℕ) (view : List Level) (h : Heading) (g : GroupTree) → i < length h.state.blocks.scopes → Reached h.state
-    → Headed h (group_viewed i view h g)
+    → Headed i h (group_viewed i view h g)
 group_viewed_plain i view h g below r =
     let t = group_type h.state view g in
-    let first = note_plain h.state (broken_group h.state view g) r in
+    let faults = broken_group h.state view g in
+    let first = note_plain h.state faults r in
     let a = first.count in
-    let k : Heading = record { state = note h.state (broken_group h.state view g); formals = h.formals; whole = h.whole && is_some t } in
-    let one_more : Headed h k =
-    record { steps = first; whole = λ w q. whole_some t h.whole (w (first.clean q)) (λ e. group_known h.state view g r q e) } in
+    let k : Heading = record { state = note h.state faults; formals = h.formals; whole = h.whole && is_some t } in
+    let one_more : Headed i h k =
+    record {
+      steps = first;
+      whole = λ w q. both_true h.whole (is_some t) (w (first.clean q)) (some_type t (λ e. group_known h.state view g r q e));
+      typed = λ q w. w;
+      names = λ q w. subst (λ (l : List Names). AreFormals (scope_at l i) h.formals) (sym (note_scopes h.state faults)) w;
+    } in
     headed_then one_more (formals_plain i g.reference t k g.names (omega (arith, below, a)) (λ q e. group_known h.state view g r q e) first.reached)
-  where
-    whole_some : (t : Option TypeId) (a : Bool) → a ≡ true → (t ≡ None → ⊥) → (a && is_some t) ≡ true
-    whole_some None a p h = absurd (h refl)
-    whole_some (Some t) true p h = refl
-    whole_some (Some t) false p h = absurd (cc)
 
 pub groups_plain :
     (i : ℕ) (outer : List Level) (h : Heading) (gs : List GroupTree) → i < length h.state.blocks.scopes → Reached h.state
-    → Headed h (groups_heading i outer h gs)
-groups_plain i outer h [] below r = record { steps = same r; whole = λ w. w }
+    → Headed i h (groups_heading i outer h gs)
+groups_plain i outer h [] below r = same_headed r
 groups_plain i outer h (g ∷ gs) below r =
     let step = group_viewed_plain i (here h.state.blocks.scopes i outer) h g below r in
     let a = step.steps.count in
     headed_then step (groups_plain i outer (group_heading i outer h g) gs (omega (arith, below, a)) step.steps.reached)
 
-accept_groups_plain :
-    (i : ℕ) (view : List Level) (h : Heading) (gs : List GroupTree) → i < length h.state.blocks.scopes → Plain h.state (accept_groups i view h gs).state
-accept_groups_plain i view h [] below r = same r
+pub accept_groups_plain :
+    (i : ℕ) (view : List Level) (h : Heading) (gs : List GroupTree) → i < length h.state.blocks.scopes → Reached h.state
+    → Headed i h (accept_groups i view h gs)
+accept_groups_plain i view h [] below r = same_headed r
 accept_groups_plain i view h (g ∷ gs) below r =
     let step = group_viewed_plain i view h g below r in
     let a = step.steps.count in
-    stepped_then step.steps (accept_groups_plain i view (group_viewed i view h g) gs (omega (arith, below, a)) step.steps.reached)
+    headed_then step (accept_groups_plain i view (group_viewed i view h g) gs (omega (arith, below, a)) step.steps.reached)
 
 -- ## Statements
 
-accepted_plain : (s : State) (view : List Level) (x : Text) (gs : List GroupTree) (p : Place) → Plain s (accepted s view x gs p)
+pub accepted_plain : (s : State) (view : List Level) (x : Text) (gs : List GroupTree) (p : Place) → Plain s (accepted s view x gs p)
 accepted_plain s view x gs p =
     let own = length s.blocks.scopes in
     let h = accept_heading (open_scope s) own view gs in
     let more = length-append s.blocks.scopes ([] ∷ []) in
     note_plain h.state (accept_rule h.state.blocks (look s.blocks.scopes view x) h.formals p)
-    ⊳ accept_groups_plain own view (record { state = open_scope s; formals = []; whole = true }) gs (omega (arith, more)) ⊳ open_plain s
+    ⊳ (λ r. (accept_groups_plain own view (record { state = open_scope s; formals = []; whole = true }) gs (omega (arith, more)) r).steps) ⊳ open_plain s
 
 label_plain : (c : Option Ordinal) (p : Place) (r : Labels) → Plain r.state (label_noted c p r).state
 label_plain None p r = same
@@ -478,14 +538,14 @@ label_plain (Some c) p r = by (list_any (same_ordinal c) r.seen)
     by true = note_plain r.state (unless false p 320)
     by false = same
 
-labels_plain : (view : List Level) (r : Labels) (cs : List Constant) → Plain r.state (labels_noted view r cs).state
+pub labels_plain : (view : List Level) (r : Labels) (cs : List Constant) → Plain r.state (labels_noted view r cs).state
 labels_plain view r [] = same
 labels_plain view r (c ∷ cs) =
     let x = constant_value r.state.blocks.scopes view c in
     labels_plain view (label_noted x (constant_place c) r) cs ⊳ label_plain x (constant_place c) r
 
 mutual
-  stmt_plain : (s : State) (view : List Level) (t : StmtTree) → Plain s (stmt_state s view t)
+  pub stmt_plain : (s : State) (view : List Level) (t : StmtTree) → Plain s (stmt_state s view t)
   stmt_plain s view empty = same
   stmt_plain s view (null p) = same
   stmt_plain s view (block b p) = body_plain s view b
@@ -506,18 +566,18 @@ mutual
   stmt_plain s view (receive d v p q) = same
   stmt_plain s view (call d args p) = same
 
-  stmts_plain : (s : State) (view : List Level) (ts : StmtTrees) → Plain s (stmts_state s view ts)
+  pub stmts_plain : (s : State) (view : List Level) (ts : StmtTrees) → Plain s (stmts_state s view ts)
   stmts_plain s view no_stmts = same
   stmts_plain s view (more_stmts t ts) = stmts_plain (stmt_state s view t) view ts ⊳ stmt_plain s view t
 
   pub body_plain : (s : State) (view : List Level) (b : BodyTree) → Plain s (body_state s view b)
   body_plain s view (body ts from to) = stmts_plain s view ts
 
-  arms_plain : (view : List Level) (r : Labels) (arms : ArmTrees) → Plain r.state (arms_state view r arms).state
+  pub arms_plain : (view : List Level) (r : Labels) (arms : ArmTrees) → Plain r.state (arms_state view r arms).state
   arms_plain view r no_arms = same
   arms_plain view r (more_arms a arms) = arms_plain view (arm_state view r a) arms ⊳ arm_plain view r a
 
-  arm_plain : (view : List Level) (r : Labels) (a : ArmTree) → Plain r.state (arm_state view r a).state
+  pub arm_plain : (view : List Level) (r : Labels) (a : ArmTree) → Plain r.state (arm_state view r a).state
   arm_plain view r (arm cs t) = stmt_plain (labels_noted view r cs).state view t ⊳ labels_plain view r cs
 
   accept_plain : (s : State) (view : List Level) (a : AcceptTree) → Plain s (accept_state s view a)
@@ -526,14 +586,14 @@ mutual
       let opened = accepted s view x gs p in
       stmt_plain opened (here opened.blocks.scopes (length s.blocks.scopes) view) t ⊳ accepted_plain s view x gs p
 
-  alts_plain : (s : State) (view : List Level) (alts : AltTrees) → Plain s (alts_state s view alts)
+  pub alts_plain : (s : State) (view : List Level) (alts : AltTrees) → Plain s (alts_state s view alts)
   alts_plain s view no_alts = same
   alts_plain s view (more_alts a alts) = alts_plain (alt_state s view a) view alts ⊳ alt_plain s view a
 
-  alt_plain : (s : State) (view : List Level) (a : AltTree) → Plain s (alt_state s view a)
+  pub alt_plain : (s : State) (view : List Level) (a : AltTree) → Plain s (alt_state s view a)
   alt_plain s view (alt spread guard c ts) = stmts_plain (comm_state s view c) view ts ⊳ comm_plain s view c
 
-  comm_plain : (s : State) (view : List Level) (c : CommTree) → Plain s (comm_state s view c)
+  pub comm_plain : (s : State) (view : List Level) (c : CommTree) → Plain s (comm_state s view c)
   comm_plain s view (comm_accept a p) = accept_plain s view a
   comm_plain s view (comm_send d e p) = same
   comm_plain s view (comm_receive d v p) = same

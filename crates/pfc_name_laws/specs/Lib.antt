@@ -1,3 +1,4 @@
 pub mod Reached
 pub mod Numbers
+pub mod Headings
 pub mod Processes

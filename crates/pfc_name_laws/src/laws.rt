@@ -12,6 +12,7 @@ ghost use Rattle.pfc_types.specs.rules.FaultyNames.{stands_faulty};
 ghost use Rattle.pfc_types.specs.rules.Whole.{finished, broken, scopes_of};
 ghost use Rattle.pfc_name_laws.specs.Reached.{Reached};
 ghost use Rattle.pfc_name_laws.specs.Numbers.{AreNumbered};
+ghost use Rattle.pfc_name_laws.specs.Headings.{AreHeaded};
 
 /// What the declarations of a program make, lawful or not, is made step by step: what holds before the first declaration, and is kept by each
 /// step, holds of every program.
@@ -23,6 +24,13 @@ pub fn declarations_are_steps()
 pub fn names_are_numbered()
     ensures so_far { (s : State) → Reached s → AreNumbered s }
     ensures finished { (t : ProgramTree) → AreNumbered (finished t) }
+{}
+
+/// Each heading of a sub or a process has its scope, whose first names are the parameters, and each parameter has a type, as each parameter of an
+/// entry has one, unless a rule is noted. A function gives a value of a simple type, and none is exported.
+pub fn headings_are_whole()
+    ensures so_far { (s : State) → Reached s → AreHeaded s }
+    ensures finished { (t : ProgramTree) → AreHeaded (finished t) }
 {}
 
 /// A name is faulty only where a rule is noted. So in a program in which no static rule is broken no name is, whatever is in view.

@@ -7,5 +7,6 @@
 mod laws;
 
 pub use laws::{
-    declarations_are_steps, names_are_numbered, no_name_is_faulty, processes_are_numbered,
+    declarations_are_steps, headings_are_whole, names_are_numbered, no_name_is_faulty,
+    processes_are_numbered,
 };

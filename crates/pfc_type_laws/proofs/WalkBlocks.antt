@@ -1,5 +1,5 @@
 -- Through all declarations of a tree each type stands behind those that it is made of.
-use Rattle.std.proofs.Common.{◌≡◌, ℕ, zero, suc, ◌+◌, Bool, true, false, not, ◌&&◌, if◌then◌else◌, is_some, List, [], ◌∷◌, ◌++◌, length, get_or, Option, Some, None, refl, arith, length-append}
+use Rattle.std.proofs.Common.{◌≡◌, ℕ, zero, suc, ◌+◌, Bool, true, false, not, ◌&&◌, if◌then◌else◌, is_some, List, [], ◌∷◌, ◌++◌, length, get_or, Option, Some, None, refl, sym, subst, arith, length-append}
 use Rattle.std.specs.List.{list_any}
 use Rattle.pfc_base.specs.declared.places.Place.{Place}
 use Rattle.pfc_tree.specs.Symbols.{Text}
@@ -11,7 +11,7 @@ use Rattle.pfc_tree.specs.trees.Parts.{KindTree, EntryTree, PartTree, PartTrees,
 use Rattle.pfc_types.specs.Faults.{unless}
 use Rattle.pfc_types.specs.Types.{Forms, predeclared_forms, most_processes}
 use Rattle.pfc_types.specs.Scopes.{Level, scope_at, here, meaning_in, look}
-use Rattle.pfc_types.specs.Blocks.{State, no_blocks, note, declare, add_form, add_sub, add_module, add_process, add_entry, open_scope, set_population, sub_at, export_sub}
+use Rattle.pfc_types.specs.Blocks.{State, no_blocks, note, declare, add_name, add_form, add_sub, add_module, add_process, add_entry, open_scope, set_population, sub_at, export_sub}
 use Rattle.pfc_types.specs.declared.types.TypeId.{TypeId}
 use Rattle.pfc_types.specs.declared.types.TypeForm.{TypeForm}
 use Rattle.pfc_types.specs.declared.types.TypeForm.TheVariants.{Process as AProcess}
@@ -19,13 +19,13 @@ use Rattle.pfc_types.specs.declared.heads.SubHead.{SubHead}
 use Rattle.pfc_types.specs.declared.heads.ProcessHead.{ProcessHead}
 use Rattle.pfc_types.specs.declared.scope.Meaning.{Meaning}
 use Rattle.pfc_types.specs.declared.scope.Meaning.TheVariants.{Named, Sub, Module, Process, Faulty}
-use Rattle.pfc_types.specs.rules.Kinds.{type_meaning, variable_meaning}
+use Rattle.pfc_types.specs.rules.Kinds.{where_so, named_type, type_meaning, variable_meaning}
 use Rattle.pfc_types.specs.rules.Constants.{Ordinal, same_ordinal, constant_value, constant_place, broken_constant, made, type_place}
-use Rattle.pfc_types.specs.rules.Declarations.{constant_meaning, const_state, consts_state, type_state, types_state, Owner, in_program, elsewhere, owner_rules, owned_type, passes_most, populated, brought, var_name_state, var_names_state, var_state, vars_state, group_type, broken_group, Heading, heading, accept_heading, formal_heading, formals_heading, group_viewed, group_heading, groups_heading, accept_groups, EntryHeading, entry_formal, entry_formals, entry_group, entry_groups, entry_meaning, entry_state, entries_state, accept_rule, accepted, Labels, label_noted, labels_noted, stmt_state, stmts_state, body_state, arms_state, arm_state, accept_state, alts_state, alt_state, comm_state, broken_sort, sort_of, whole_sort, sub_meaning, sub_headed, may_export, export_state, export_list, exports_state, module_owner, module_closed, init_state, process_named, process_headed, process_cells, cells_rule, scope_cells, result_cells, part_state, parts_state, sub_state, module_state, process_state}
-use Rattle.pfc_types.specs.rules.Whole.{begun, declared_parts, declared_all, finished, types_of, main_cells}
+use Rattle.pfc_types.specs.rules.Declarations.{constant_meaning, const_state, consts_state, type_state, types_state, Owner, in_program, elsewhere, owner_rules, shared_fits, condition_fits, owned_type, passed_fits, parameter_fits, parameter_type, passes_most, populated, brought, var_name_state, var_names_state, var_state, vars_state, group_type, broken_group, Heading, heading, accept_heading, formal_heading, formals_heading, group_viewed, group_heading, groups_heading, accept_groups, EntryHeading, entry_formal, entry_formals, entry_group, entry_groups, entry_meaning, entry_state, entries_state, accept_rule, accepted, Labels, label_noted, labels_noted, stmt_state, stmts_state, body_state, arms_state, arm_state, accept_state, alts_state, alt_state, comm_state, broken_sort, sort_of, whole_sort, sub_meaning, sub_headed, may_export, export_state, export_list, exports_state, module_owner, module_closed, init_state, process_named, process_headed, process_cells, cells_rule, scope_cells, result_cells, part_state, parts_state, sub_state, module_state, process_state}
+use Rattle.pfc_types.specs.rules.Whole.{begun, declared_parts, declared_all, finished, types_of, scopes_of, main_cells}
 use Rattle.pfc_types.proofs.Prefixes.{begins_same}
 use Rattle.pfc_type_laws.specs.Tables.{IsBuiltUp}
-use Rattle.pfc_type_laws.proofs.WalkTypes.{IsPlaced, HasPlace, Holds, add_form_holds, note_holds, open_holds, declare_holds, type_made}
+use Rattle.pfc_type_laws.proofs.WalkTypes.{IsPlaced, HasPlace, NoSignal, Holds, add_form_holds, note_holds, note_forms, open_holds, declare_holds, look_placed, named_placed, named_no_signal, type_made, type_no_signal}
 
 -- ## What names are declared to stand for
 
@@ -37,9 +37,72 @@ type_placed : (forms : Forms) (t : Option TypeId) → HasPlace forms t → IsPla
 type_placed forms None h = tt
 type_placed forms (Some t) h = h
 
-variable_placed : (forms : Forms) (reference : Bool) (t : Option TypeId) → IsPlaced forms (Some (variable_meaning reference t))
-variable_placed forms reference None = tt
-variable_placed forms reference (Some t) = tt
+variable_placed : (forms : Forms) (reference : Bool) (t : Option TypeId) → HasPlace forms t → NoSignal t → IsPlaced forms (Some (variable_meaning reference t))
+variable_placed forms reference None h value = tt
+variable_placed forms reference (Some t) h value = (h, value)
+
+-- ## The table stays as it is while names are declared
+
+declare_forms : (s : State) (i : ℕ) (x : Text × Place) (m : Meaning) → (declare s i x m).forms ≡ s.forms
+declare_forms s i x m = by (is_some (meaning_in (scope_at s.blocks.scopes i) x.0))
+  where
+    by : (b : Bool) → (if b then note s (unless false x.1 302) else add_name s i x.0 m).forms ≡ s.forms
+    by true = refl
+    by false = refl
+
+populated_forms : (s : State) (i more : ℕ) (x : Text × Place) (m : Meaning) → (populated s i more x m).forms ≡ s.forms
+populated_forms s i more x m = by (passes_most s.blocks.population more)
+  where
+    counted : State
+    counted = set_population s (most_processes (s.blocks.population + more))
+
+    by : (b : Bool) → (if b then declare (note counted (unless false x.1 424)) i x Faulty else declare counted i x m).forms ≡ s.forms
+    by true = declare_forms (note counted (unless false x.1 424)) i x Faulty
+    by false = declare_forms counted i x m
+
+var_name_forms : (s : State) (i : ℕ) (t : Option TypeId) (x : Text × Place) → (var_name_state s i t x).forms ≡ s.forms
+var_name_forms s i t x = by (is_some (meaning_in (scope_at s.blocks.scopes i) x.0))
+  where
+    by : (b : Bool) → (if b then declare s i x Faulty else populated s i (brought s.forms t) x (variable_meaning false t)).forms ≡ s.forms
+    by true = declare_forms s i x Faulty
+    by false = populated_forms s i (brought s.forms t) x (variable_meaning false t)
+
+has_place : (forms forms' : Forms) (t : Option TypeId) → forms' ≡ forms → HasPlace forms t → HasPlace forms' t
+has_place forms forms' t same h = subst (λ (f : Forms). HasPlace f t) (sym same) h
+
+-- of the types that a rule lets pass the same is true
+where_placed : (forms : Forms) (b : Bool) (t : TypeId) → HasPlace forms (Some t) → HasPlace forms (where_so b t)
+where_placed forms true t h = h
+where_placed forms false t h = tt
+
+where_no_signal : (b : Bool) (t : TypeId) → NoSignal (Some t) → NoSignal (where_so b t)
+where_no_signal true t h = h
+where_no_signal false t h = tt
+
+owned_placed : (owner : Owner) (forms forms' : Forms) (t : Option TypeId) → HasPlace forms t → HasPlace forms (owned_type owner forms' t)
+owned_placed owner forms forms' None h = tt
+owned_placed owner forms forms' (Some t) h = where_placed forms (shared_fits owner forms' t && condition_fits owner forms' t) t h
+
+owned_no_signal : (owner : Owner) (forms : Forms) (t : Option TypeId) → NoSignal t → NoSignal (owned_type owner forms t)
+owned_no_signal owner forms None h = tt
+owned_no_signal owner forms (Some t) h = where_no_signal (shared_fits owner forms t && condition_fits owner forms t) t h
+
+parameter_placed : (reference : Bool) (forms : Forms) (t : Option TypeId) → HasPlace forms t → HasPlace forms (parameter_type reference forms t)
+parameter_placed reference forms None h = tt
+parameter_placed reference forms (Some t) h = where_placed forms (passed_fits reference forms t && parameter_fits forms t) t h
+
+parameter_no_signal : (reference : Bool) (forms : Forms) (t : Option TypeId) → NoSignal t → NoSignal (parameter_type reference forms t)
+parameter_no_signal reference forms None h = tt
+parameter_no_signal reference forms (Some t) h = where_no_signal (passed_fits reference forms t && parameter_fits forms t) t h
+
+group_placed : (s : State) (view : List Level) (g : GroupTree) → Holds s → HasPlace s.forms (group_type s view g)
+group_placed s view g h =
+    let m = look s.blocks.scopes view g.form.0 in
+    parameter_placed g.reference s.forms (named_type false m) (named_placed s.forms false m (look_placed s h view g.form.0))
+
+group_no_signal : (s : State) (view : List Level) (g : GroupTree) → NoSignal (group_type s view g)
+group_no_signal s view g =
+    let m = look s.blocks.scopes view g.form.0 in parameter_no_signal g.reference s.forms (named_type false m) (named_no_signal m)
 
 entry_placed : (forms : Forms) (whole : Bool) (k : ℕ) → IsPlaced forms (Some (entry_meaning whole k))
 entry_placed forms true k = tt
@@ -79,16 +142,19 @@ populated_holds s i more x m h placed = by (passes_most s.blocks.population more
         (note_holds (set_population s (most_processes (s.blocks.population + more))) (unless false x.1 424) (population_holds s (most_processes (s.blocks.population + more)) h)) tt
     by false = declare_holds (set_population s (most_processes (s.blocks.population + more))) i x m (population_holds s (most_processes (s.blocks.population + more)) h) placed
 
-var_name_holds : (s : State) (i : ℕ) (t : Option TypeId) (x : Text × Place) → Holds s → Holds (var_name_state s i t x)
-var_name_holds s i t x h = by (is_some (meaning_in (scope_at s.blocks.scopes i) x.0))
+var_name_holds : (s : State) (i : ℕ) (t : Option TypeId) (x : Text × Place) → Holds s → HasPlace s.forms t → NoSignal t → Holds (var_name_state s i t x)
+var_name_holds s i t x h place value = by (is_some (meaning_in (scope_at s.blocks.scopes i) x.0))
   where
     by : (b : Bool) → Holds (if b then declare s i x Faulty else populated s i (brought s.forms t) x (variable_meaning false t))
     by true = declare_holds s i x Faulty h tt
-    by false = populated_holds s i (brought s.forms t) x (variable_meaning false t) h (variable_placed s.forms false t)
+    by false = populated_holds s i (brought s.forms t) x (variable_meaning false t) h (variable_placed s.forms false t place value)
 
-var_names_hold : (s : State) (i : ℕ) (t : Option TypeId) (xs : List (Text × Place)) → Holds s → Holds (var_names_state s i t xs)
-var_names_hold s i t [] h = h
-var_names_hold s i t (x ∷ xs) h = var_names_hold (var_name_state s i t x) i t xs (var_name_holds s i t x h)
+var_names_hold : (s : State) (i : ℕ) (t : Option TypeId) (xs : List (Text × Place)) → Holds s → HasPlace s.forms t → NoSignal t
+    → Holds (var_names_state s i t xs)
+var_names_hold s i t [] h place value = h
+var_names_hold s i t (x ∷ xs) h place value =
+    var_names_hold (var_name_state s i t x) i t xs (var_name_holds s i t x h place value)
+    (has_place s.forms (var_name_state s i t x).forms t (var_name_forms s i t x) place) value
 
 vars_hold : (owner : Owner) (s : State) (i : ℕ) (outer : List Level) (vs : VarTrees) → Holds s → Holds (vars_state owner s i outer vs)
 vars_hold owner s i outer no_vars h = h
@@ -97,27 +163,42 @@ vars_hold owner s i outer (more_vars (var_item xs t) vs) h =
     let m = type_made false s view t h in
     vars_hold owner (var_state owner s i outer (var_item xs t)) i outer vs
     (var_names_hold (note (made false s view t).state (owner_rules owner (made false s view t).state.forms (made false s view t).t (type_place t))) i (owned_type owner (made false s view t).state.forms (made false s view t).t) xs
-    (note_holds (made false s view t).state (owner_rules owner (made false s view t).state.forms (made false s view t).t (type_place t)) m.holds))
+    (note_holds (made false s view t).state (owner_rules owner (made false s view t).state.forms (made false s view t).t (type_place t)) m.holds)
+    (has_place (made false s view t).state.forms
+    (note (made false s view t).state (owner_rules owner (made false s view t).state.forms (made false s view t).t (type_place t))).forms
+    (owned_type owner (made false s view t).state.forms (made false s view t).t)
+    (note_forms (made false s view t).state (owner_rules owner (made false s view t).state.forms (made false s view t).t (type_place t)))
+    (owned_placed owner (made false s view t).state.forms (made false s view t).state.forms (made false s view t).t m.place))
+    (owned_no_signal owner (made false s view t).state.forms (made false s view t).t (type_no_signal s view t h)))
 
 -- ## Headings and entries
 
-formals_hold : (i : ℕ) (reference : Bool) (t : Option TypeId) (h : Heading) (xs : List (Text × Place)) → Holds h.state → Holds (formals_heading i reference t h xs).state
-formals_hold i reference t h [] held = held
-formals_hold i reference t h (x ∷ xs) held =
-    formals_hold i reference t (formal_heading i reference t h x) xs (declare_holds h.state i x (variable_meaning reference t) held (variable_placed h.state.forms reference t))
+formals_hold : (i : ℕ) (reference : Bool) (t : Option TypeId) (h : Heading) (xs : List (Text × Place)) → Holds h.state → HasPlace h.state.forms t → NoSignal t
+    → Holds (formals_heading i reference t h xs).state
+formals_hold i reference t h [] held place value = held
+formals_hold i reference t h (x ∷ xs) held place value =
+    formals_hold i reference t (formal_heading i reference t h x) xs
+    (declare_holds h.state i x (variable_meaning reference t) held (variable_placed h.state.forms reference t place value))
+    (has_place h.state.forms (formal_heading i reference t h x).state.forms t (declare_forms h.state i x (variable_meaning reference t)) place) value
 
 groups_hold : (i : ℕ) (outer : List Level) (h : Heading) (gs : List GroupTree) → Holds h.state → Holds (groups_heading i outer h gs).state
 groups_hold i outer h [] held = held
 groups_hold i outer h (g ∷ gs) held =
     let view = here h.state.blocks.scopes i outer in
     groups_hold i outer (group_heading i outer h g) gs
-    (formals_hold i g.reference (group_type h.state view g) _ g.names (note_holds h.state (broken_group h.state view g) held))
+    (formals_hold i g.reference (group_type h.state view g) _ g.names (note_holds h.state (broken_group h.state view g) held)
+    (has_place h.state.forms (note h.state (broken_group h.state view g)).forms (group_type h.state view g) (note_forms h.state (broken_group h.state view g))
+    (group_placed h.state view g held))
+    (group_no_signal h.state view g))
 
 accept_groups_hold : (i : ℕ) (view : List Level) (h : Heading) (gs : List GroupTree) → Holds h.state → Holds (accept_groups i view h gs).state
 accept_groups_hold i view h [] held = held
 accept_groups_hold i view h (g ∷ gs) held =
     accept_groups_hold i view (group_viewed i view h g) gs
-    (formals_hold i g.reference (group_type h.state view g) _ g.names (note_holds h.state (broken_group h.state view g) held))
+    (formals_hold i g.reference (group_type h.state view g) _ g.names (note_holds h.state (broken_group h.state view g) held)
+    (has_place h.state.forms (note h.state (broken_group h.state view g)).forms (group_type h.state view g) (note_forms h.state (broken_group h.state view g))
+    (group_placed h.state view g held))
+    (group_no_signal h.state view g))
 
 heading_holds : (s : State) (view : List Level) (gs : List GroupTree) → Holds s → Holds (heading (open_scope s) (length s.blocks.scopes) view gs).state
 heading_holds s view gs h = groups_hold (length s.blocks.scopes) view (record { state = open_scope s; formals = []; whole = true }) gs (open_holds s h)
@@ -164,7 +245,8 @@ exports_hold s i (xs ∷ lists) h = exports_hold (export_list s i xs) i lists (e
 process_named_holds : (s : State) (i : ℕ) (many whole : Bool) (x : Text × Place) (n : ℕ) → Holds s → Holds (process_named s i many whole x n)
 process_named_holds s i many false x n h = declare_holds s i x Faulty h tt
 process_named_holds s i true true x n h =
-    declare_holds (add_form s (AProcess n)) i x (Named (record { place = length s.forms })) (add_form_holds s (AProcess n) h tt refl) (omega (arith, length-append s.forms (Some (AProcess n) ∷ [])))
+    declare_holds (add_form s (AProcess n)) i x (Named (record { place = length s.forms })) (add_form_holds s (AProcess n) h tt tt refl)
+    (omega (arith, length-append s.forms (Some (AProcess n) ∷ [])))
 process_named_holds s i false true x n h = by (is_some (meaning_in (scope_at s.blocks.scopes i) x.0))
   where
     by : (b : Bool) → Holds (if b then declare s i x Faulty else populated s i 1 x (Process n))
@@ -327,7 +409,15 @@ begun_holds : Holds begun
 begun_holds =
     open_holds (record { forms = predeclared_forms; blocks = no_blocks })
     (record {
-      built = record { predeclared = begins_same predeclared_forms; behind = λ t form e. absurd (predeclared_formless t.place form e); bounds = λ t form e. absurd (predeclared_formless t.place form e) };
+      built = record {
+        predeclared = begins_same predeclared_forms;
+        made = λ t past within. absurd (omega (arith, past, within));
+        parts = λ t form e. absurd
+            (predeclared_formless t.place form e);
+        behind = λ t form e. absurd (predeclared_formless t.place form e);
+        bounds = λ t form e. absurd
+            (predeclared_formless t.place form e);
+      };
       placed = λ i x. tt;
     })
 
@@ -341,3 +431,7 @@ finished_holds t =
 -- the table of types of a tree is built up
 pub types_built : (t : ProgramTree) → IsBuiltUp (types_of t)
 types_built t = (finished_holds t).built
+
+-- a variable that is in view has a type of the table
+pub variable_placed_in : (t : ProgramTree) (view : List Level) (x : Text) → IsPlaced (types_of t) (look (scopes_of t).scopes view x)
+variable_placed_in t view x = look_placed (finished t) (finished_holds t) view x

@@ -1,5 +1,5 @@
 -- What each declaration does to the table of types: a type is added behind those that it is made of, and each name of a type has its place.
-use Rattle.std.proofs.Common.{◌≡◌, ℕ, zero, suc, ◌<◌, ◌≤◌, ◌⊎◌, inl, inr, Bool, true, false, not, cond, if◌then◌else◌, nat_le, nat_lt, ◌&&◌, ◌||◌, is_some, List, [], ◌∷◌, ◌++◌, length, get_or, set, bytes_eq, Option, Some, None, option_map, refl, sym, ap, ◌∙◌, subst, arith, length-append}
+use Rattle.std.proofs.Common.{◌≡◌, ℕ, zero, suc, ◌<◌, ◌≤◌, ◌⊎◌, inl, inr, Bool, true, false, not, ◌==◌, cond, if◌then◌else◌, nat_le, nat_lt, ◌&&◌, ◌||◌, is_some, List, [], ◌∷◌, ◌++◌, length, get_or, set, bytes_eq, Option, Some, None, option_map, refl, sym, ap, ◌∙◌, subst, arith, length-append}
 use Rattle.std.specs.Option.{option_or}
 use Rattle.std.proofs.lemmas.Bool.Decides.{nat_tests}
 use Rattle.pfc_base.specs.declared.places.Place.{Place}
@@ -17,19 +17,20 @@ use Rattle.pfc_types.specs.declared.types.TypeForm.TheVariants.{Channel, Record}
 use Rattle.pfc_types.specs.declared.table.TypeFault.{TypeFault}
 use Rattle.pfc_types.specs.declared.table.TypeFault.TheVariants.{Bounds, Cells, Memory}
 use Rattle.pfc_types.specs.declared.scope.Meaning.{Meaning}
-use Rattle.pfc_types.specs.declared.scope.Meaning.TheVariants.{Named}
+use Rattle.pfc_types.specs.declared.scope.Meaning.TheVariants.{Named, Variable}
 use Rattle.pfc_types.specs.rules.Kinds.{type_name_rules, named_type, where_so, has_object}
 use Rattle.pfc_types.specs.rules.Constants.{Extent, broken_ranges, range_extents, Made, added_unless, added, channel_form, made_channel, array_of, made_arrays, MadeFields, made_field, made_names, made_group, record_form, fields_begun, made, made_items, made_item, type_place}
 use Rattle.pfc_types.proofs.Clean.{and-left, and-right}
 use Rattle.pfc_types.proofs.Prefixes.{begins_length, begins_push, begins_trans}
 use Rattle.pfc_types.proofs.WalkDeclarations.{made_kept}
-use Rattle.pfc_type_laws.specs.Tables.{AreBefore, IsBefore, IsBuiltUp}
+use Rattle.pfc_type_laws.specs.Tables.{AreBefore, IsBefore, IsNoSignal, AreNoSignals, HasNoSignal, IsOfVariables, IsBuiltUp}
 
 -- ## Names of types
 
--- a name of a type stands for one that has its place in the table
+-- a name of a type stands for one that has its place in the table, and so does the type of a variable
 abbrev pub IsPlaced : Forms → Option Meaning → Type 0
 IsPlaced forms (Some (Named t)) = t.place < length forms
+IsPlaced forms (Some (Variable t reference)) = IsOfVariables forms t
 IsPlaced forms m = Unit {0}
 
 -- a type, if there is one, has its place in the table
@@ -37,10 +38,15 @@ abbrev pub HasPlace : Forms → Option TypeId → Type 0
 HasPlace forms None = Unit {0}
 HasPlace forms (Some t) = t.place < length forms
 
+-- nor is it `synchronous`
+abbrev pub NoSignal : Option TypeId → Type 0
+NoSignal None = Unit {0}
+NoSignal (Some t) = IsNoSignal t
+
 -- what a type would be made of stands in the table
 abbrev pub IsBehind : Forms → Option TypeForm → Type 0
 IsBehind forms None = Unit {0}
-IsBehind forms (Some form) = IsBefore (length forms) form
+IsBehind forms (Some form) = IsBefore (length forms) form × HasNoSignal form
 
 -- what holds of the declarations so far
 pub record Holds (s : State) : Type 0 where
@@ -51,6 +57,7 @@ pub record Holds (s : State) : Type 0 where
 
 placed_grown : (forms more : Forms) (m : Option Meaning) → IsPlaced forms m → IsPlaced (forms ++ more) m
 placed_grown forms more (Some (Named t)) h = omega (arith, h, length-append forms more)
+placed_grown forms more (Some (Variable t reference)) h = (omega (arith, h.0, length-append forms more), h.1)
 placed_grown forms more m h = tt
 
 form_pushed : (forms : Forms) (f : TypeForm) (n : ℕ) (form : TypeForm) → get_or (forms ++ Some f ∷ []) n None ≡ Some form → (get_or forms n None ≡ Some form) ⊎ ((n ≡ length forms) × (f ≡ form))
@@ -63,12 +70,22 @@ form_pushed (g ∷ forms) f (suc n) form e = by (form_pushed forms f n form e)
     by (inl h) = inl h
     by (inr h) = inr (ap suc h.0, h.1)
 
+made_pushed : (forms : Forms) (f : TypeForm) (n : ℕ) → n < length (forms ++ Some f ∷ []) → (n < length forms → is_some (get_or forms n None) ≡ true)
+    → is_some (get_or (forms ++ Some f ∷ []) n None) ≡ true
+made_pushed [] f zero below h = refl
+made_pushed [] f (suc n) below h = absurd (omega (arith, below))
+made_pushed (g ∷ forms) f zero below h = h (omega arith)
+made_pushed (g ∷ forms) f (suc n) below h = made_pushed forms f n (omega (arith, below)) (λ within. h (omega (arith, within)))
+
 -- a type that is made of what stands in the table is added to it
-pub built_push : (forms : Forms) (f : TypeForm) → IsBuiltUp forms → IsBefore (length forms) f → has_bounds f ≡ true → IsBuiltUp (forms ++ Some f ∷ [])
-built_push forms f built before good =
+pub built_push : (forms : Forms) (f : TypeForm) → IsBuiltUp forms → IsBefore (length forms) f → HasNoSignal f → has_bounds f ≡ true
+    → IsBuiltUp (forms ++ Some f ∷ [])
+built_push forms f built before value good =
     record {
       predeclared = begins_trans predeclared_forms forms (forms ++ Some f ∷ []) built.predeclared (begins_push forms (Some f ∷ []));
       behind = λ t form e. behind t form (form_pushed forms f t.place form e);
+      made = λ t past within. made_pushed forms f t.place within (λ below. built.made t past below);
+      parts = λ t form e. parts t form (form_pushed forms f t.place form e);
       bounds = λ t form e. bounds t form (form_pushed forms f t.place form e);
     }
   where
@@ -76,15 +93,19 @@ built_push forms f built before good =
     behind t form (inl e) = built.behind t form e
     behind t form (inr e) = subst (λ n. IsBefore n form) (sym e.0) (subst (λ g. IsBefore (length forms) g) e.1 before)
 
+    parts : (t : TypeId) (form : TypeForm) → (form_of forms t ≡ Some form) ⊎ ((t.place ≡ length forms) × (f ≡ form)) → HasNoSignal form
+    parts t form (inl e) = built.parts t form e
+    parts t form (inr e) = subst (λ g. HasNoSignal g) e.1 value
+
     bounds : (t : TypeId) (form : TypeForm) → (form_of forms t ≡ Some form) ⊎ ((t.place ≡ length forms) × (f ≡ form)) → has_bounds form ≡ true
     bounds t form (inl e) = built.bounds t form e
     bounds t form (inr e) = subst (λ g. has_bounds g ≡ true) e.1 good
 
 -- so is the state with it
-pub add_form_holds : (s : State) (f : TypeForm) → Holds s → IsBefore (length s.forms) f → has_bounds f ≡ true → Holds (add_form s f)
-add_form_holds s f h before good =
+pub add_form_holds : (s : State) (f : TypeForm) → Holds s → IsBefore (length s.forms) f → HasNoSignal f → has_bounds f ≡ true → Holds (add_form s f)
+add_form_holds s f h before value good =
     record {
-      built = built_push s.forms f h.built before good;
+      built = built_push s.forms f h.built before value good;
       placed = λ i x. placed_grown s.forms (Some f ∷ []) (meaning_in (scope_at s.blocks.scopes i) x) (h.placed i x);
     }
 
@@ -188,6 +209,7 @@ look_is P scopes x outermost h (level ∷ view) = by (position_in (scope_at scop
 -- a name of one of the six predeclared types, or of no type
 abbrev is_early : Meaning → Bool
 is_early (Named t) = nat_lt t.place 6
+is_early (Variable t reference) = false
 is_early m = true
 
 early_placed : (forms : Forms) → BeginsPredeclared forms → (m : Meaning) → is_early m ≡ true → IsPlaced forms (Some m)
@@ -195,16 +217,17 @@ early_placed forms b (Named t) h = omega (arith, below t.place h, begins_length 
   where
     below : (n : ℕ) → nat_lt n 6 ≡ true → n < 6
     below n e = grind (arith, nat_tests)
+early_placed forms b (Variable t reference) h = absurd (cc)
 early_placed forms b m h = tt
 
 -- a name of a type that is in view stands for one that has its place
-look_placed : (s : State) → Holds s → (view : List Level) (x : Text) → IsPlaced s.forms (look s.blocks.scopes view x)
+pub look_placed : (s : State) → Holds s → (view : List Level) (x : Text) → IsPlaced s.forms (look s.blocks.scopes view x)
 look_placed s h view x =
     look_is (IsPlaced s.forms) s.blocks.scopes x
     (name_is (IsPlaced s.forms) (λ e. is_early e.1) x predeclared_names tt refl (λ e early same. early_placed s.forms h.built.predeclared e.1 early))
     (λ i. h.placed i x) view
 
-named_placed : (forms : Forms) (carried : Bool) (m : Option Meaning) → IsPlaced forms m → HasPlace forms (named_type carried m)
+pub named_placed : (forms : Forms) (carried : Bool) (m : Option Meaning) → IsPlaced forms m → HasPlace forms (named_type carried m)
 named_placed forms carried (Some (Named t)) h = by (carried || not (is_same t synchronous))
   where
     by : (b : Bool) → HasPlace forms (where_so b t)
@@ -232,7 +255,11 @@ added_made s None p h behind = record { holds = h; place = tt }
 added_made s (Some form) p h behind = by (refusal_of s.forms form) refl
   where
     by : (fault : Option TypeFault) → refusal_of s.forms form ≡ fault → IsMade (added_unless fault s form p)
-    by None e = record { holds = add_form_holds s form h behind (accepted_bounds s.forms form e); place = omega (arith, length-append s.forms (Some form ∷ [])) }
+    by None e = record {
+      holds = add_form_holds s form h behind.0 behind.1 (accepted_bounds s.forms form e);
+      place = omega
+          (arith, length-append s.forms (Some form ∷ []));
+    }
     by (Some Bounds) e = record { holds = h; place = tt }
     by (Some Cells) e = record { holds = note_holds s (unless false p 304) h; place = tt }
     by (Some Memory) e = record { holds = h; place = tt }
@@ -243,12 +270,34 @@ channel_behind forms (Some t) h = by (is_object forms t)
   where
     by : (b : Bool) → IsBehind forms (if b then None else Some (Channel t))
     by true = tt
-    by false = h
+    by false = (h, tt)
 
-array_behind : (forms : Forms) (r : Option Extent) (t : Option TypeId) → HasPlace forms t → IsBehind forms (array_of r t)
-array_behind forms None t h = tt
-array_behind forms (Some r) None h = tt
-array_behind forms (Some r) (Some t) h = h
+array_behind : (forms : Forms) (r : Option Extent) (t : Option TypeId) → HasPlace forms t → NoSignal t → IsBehind forms (array_of r t)
+array_behind forms None t h value = tt
+array_behind forms (Some r) None h value = tt
+array_behind forms (Some r) (Some t) h value = (h, value)
+
+-- what is added has a place behind the predeclared types
+added_no_signal : (s : State) (form : Option TypeForm) (p : Place) → Holds s → NoSignal (added s form p).t
+added_no_signal s None p h = tt
+added_no_signal s (Some form) p h = by (refusal_of s.forms form)
+  where
+    by : (fault : Option TypeFault) → NoSignal (added_unless fault s form p).t
+    by None = λ same. absurd (omega (arith, same, begins_length predeclared_forms s.forms h.built.predeclared))
+    by (Some Bounds) = tt
+    by (Some Cells) = tt
+    by (Some Memory) = tt
+
+pub named_no_signal : (m : Option Meaning) → NoSignal (named_type false m)
+named_no_signal (Some (Named t)) = by (is_same t synchronous) refl
+  where
+    by : (b : Bool) → is_same t synchronous ≡ b → NoSignal (where_so (false || not b) t)
+    by true e = tt
+    by false e = λ same. absurd (differs t.place same e)
+      where
+        differs : (n : ℕ) → n ≡ 5 → (n == 5) ≡ false → ⊥
+        differs n same e = grind (arith, nat_tests)
+named_no_signal m = tt
 
 channel_made : (m : Made) (carried p : Place) → IsMade m → IsMade (made_channel m carried p)
 channel_made m carried p h =
@@ -256,16 +305,29 @@ channel_made m carried p h =
     added_made (note m.state fs) (channel_form m.state.forms m.t) p (note_holds m.state fs h.holds)
     (subst (λ (forms : Forms). IsBehind forms (channel_form m.state.forms m.t)) (sym (note_forms m.state fs)) (channel_behind m.state.forms m.t h.place))
 
-arrays_made : (m : Made) (rs : List (Option Extent)) (p : Place) → IsMade m → IsMade (made_arrays m rs p)
-arrays_made m [] p h = h
-arrays_made m (r ∷ rs) p h =
-    let inner = arrays_made m rs p h in
-    added_made (made_arrays m rs p).state (array_of r (made_arrays m rs p).t) p inner.holds (array_behind (made_arrays m rs p).state.forms r (made_arrays m rs p).t inner.place)
+mutual
+  arrays_made : (m : Made) (rs : List (Option Extent)) (p : Place) → IsMade m → NoSignal m.t → IsMade (made_arrays m rs p)
+  arrays_made m [] p h value = h
+  arrays_made m (r ∷ rs) p h value =
+      let inner = arrays_made m rs p h value in
+      let t = (made_arrays m rs p).t in
+      added_made (made_arrays m rs p).state (array_of r t) p inner.holds
+      (array_behind (made_arrays m rs p).state.forms r t inner.place (arrays_no_signal m rs p h value))
+
+  arrays_no_signal : (m : Made) (rs : List (Option Extent)) (p : Place) → IsMade m → NoSignal m.t → NoSignal (made_arrays m rs p).t
+  arrays_no_signal m [] p h value = value
+  arrays_no_signal m (r ∷ rs) p h value =
+      added_no_signal (made_arrays m rs p).state (array_of r (made_arrays m rs p).t) p (arrays_made m rs p h value).holds
 
 -- the fields of a record so far stand in the table
 record AreMade (r : MadeFields) : Type 0 where
   holds : Holds r.state
   before : AreBefore (length r.state.forms) r.list
+  values : AreNoSignals r.list
+
+no_signal_push : (list : FieldList) (x : Text) (t : TypeId) → AreNoSignals list → IsNoSignal t → AreNoSignals (list ++ (x, t) ∷ [])
+no_signal_push [] x t h value = (value, tt)
+no_signal_push (f ∷ list) x t h value = (h.0, no_signal_push list x t h.1 value)
 
 before_push : (n : ℕ) (list : FieldList) (x : Text) (t : TypeId) → AreBefore n list → t.place < n → AreBefore n (list ++ (x, t) ∷ [])
 before_push n [] x t h below = (below, tt)
@@ -276,33 +338,44 @@ before_later n m [] le h = tt
 before_later n m (f ∷ list) le h = (omega (arith, le, h.0), before_later n m list le h.1)
 
 -- the table stays as it is while names of fields are listed
-field_made : (t : TypeId) (r : MadeFields) (x : Text × Place) → AreMade r → t.place < length r.state.forms → AreMade (made_field t r x) × (t.place < length (made_field t r x).state.forms)
-field_made t r x h below = by (is_some (type_named r.list x.0))
+field_made : (t : TypeId) (r : MadeFields) (x : Text × Place) → AreMade r → t.place < length r.state.forms → IsNoSignal t
+    → AreMade (made_field t r x) × (t.place < length (made_field t r x).state.forms)
+field_made t r x h below value = by (is_some (type_named r.list x.0))
   where
     next : Bool → MadeFields
     next b = if b then record { state = note r.state (unless false x.1 302); list = r.list; whole = false } else record r { list = r.list ++ (x.0, t) ∷ [] }
 
     by : (b : Bool) → AreMade (next b) × (t.place < length (next b).state.forms)
-    by true = (record { holds = note_holds r.state (unless false x.1 302) h.holds; before = h.before }, below)
-    by false = (record { holds = h.holds; before = before_push (length r.state.forms) r.list x.0 t h.before below }, below)
+    by true = (record { holds = note_holds r.state (unless false x.1 302) h.holds; before = h.before; values = h.values }, below)
+    by false = (
+      record {
+        holds = h.holds;
+        before = before_push
+            (length r.state.forms) r.list x.0 t h.before below;
+        values = no_signal_push r.list x.0 t h.values value;
+      },
+      below,
+    )
 
-names_made : (t : TypeId) (r : MadeFields) (xs : List (Text × Place)) → AreMade r → t.place < length r.state.forms → AreMade (made_names t r xs)
-names_made t r [] h below = h
-names_made t r (x ∷ xs) h below = let one = field_made t r x h below in names_made t (made_field t r x) xs one.0 one.1
+names_made : (t : TypeId) (r : MadeFields) (xs : List (Text × Place)) → AreMade r → t.place < length r.state.forms → IsNoSignal t → AreMade (made_names t r xs)
+names_made t r [] h below value = h
+names_made t r (x ∷ xs) h below value = let one = field_made t r x h below value in names_made t (made_field t r x) xs one.0 one.1 value
 
 -- a table holds the type integer
 integer_placed : (s : State) → Holds s → integer.place < length s.forms
 integer_placed s h = omega (arith, begins_length predeclared_forms s.forms h.built.predeclared)
 
-group_made : (r : MadeFields) (t : Option TypeId) (xs : List (Text × Place)) → AreMade r → HasPlace r.state.forms t → AreMade (made_group r t xs)
-group_made r None xs h place = names_made integer (record r { whole = false }) xs (record { holds = h.holds; before = h.before }) (integer_placed r.state h.holds)
-group_made r (Some t) xs h place = names_made t r xs h place
+group_made : (r : MadeFields) (t : Option TypeId) (xs : List (Text × Place)) → AreMade r → HasPlace r.state.forms t → NoSignal t → AreMade (made_group r t xs)
+group_made r None xs h place value =
+    names_made integer (record r { whole = false }) xs (record { holds = h.holds; before = h.before; values = h.values }) (integer_placed r.state h.holds)
+    (λ same. absurd (omega (arith, same)))
+group_made r (Some t) xs h place value = names_made t r xs h place value
 
 record_behind : (r : MadeFields) → AreMade r → IsBehind r.state.forms (record_form r)
 record_behind r h = by r.whole
   where
     by : (b : Bool) → IsBehind r.state.forms (if b then Some (Record r.list) else None)
-    by true = h.before
+    by true = (h.before, h.values)
     by false = tt
 
 mutual
@@ -317,9 +390,26 @@ mutual
   type_made carried s view (array rs t p) h =
       arrays_made (made false (note s (broken_ranges s.blocks.scopes view rs)) view t) (range_extents s.blocks.scopes view rs) p
       (type_made false (note s (broken_ranges s.blocks.scopes view rs)) view t (note_holds s (broken_ranges s.blocks.scopes view rs) h))
+      (type_no_signal (note s (broken_ranges s.blocks.scopes view rs)) view t (note_holds s (broken_ranges s.blocks.scopes view rs) h))
   type_made carried s view (fields vs last p) h =
-      let r = items_made view (fields_begun s) vs (record { holds = h; before = tt }) in
+      let r = items_made view (fields_begun s) vs (record { holds = h; before = tt; values = tt }) in
       added_made (made_items view (fields_begun s) vs).state (record_form (made_items view (fields_begun s) vs)) p r.holds (record_behind (made_items view (fields_begun s) vs) r)
+
+  -- and one that does not stand directly after `channel of` is not `synchronous`
+  pub type_no_signal : (s : State) (view : List Level) (t : TypeTree) → Holds s → NoSignal (made false s view t).t
+  type_no_signal s view (named x p) h = named_no_signal (look s.blocks.scopes view x)
+  type_no_signal s view (channel t p) h =
+      let m = made true s view t in
+      let fs : Faults = unless (not (has_object m.state.forms m.t)) (type_place t) 406 in
+      added_no_signal (note m.state fs) (channel_form m.state.forms m.t) p (note_holds m.state fs (type_made true s view t h).holds)
+  type_no_signal s view (array rs t p) h =
+      let noted : State = note s (broken_ranges s.blocks.scopes view rs) in
+      let held = note_holds s (broken_ranges s.blocks.scopes view rs) h in
+      arrays_no_signal (made false noted view t) (range_extents s.blocks.scopes view rs) p (type_made false noted view t held)
+      (type_no_signal noted view t held)
+  type_no_signal s view (fields vs last p) h =
+      let r = items_made view (fields_begun s) vs (record { holds = h; before = tt; values = tt }) in
+      added_no_signal (made_items view (fields_begun s) vs).state (record_form (made_items view (fields_begun s) vs)) p r.holds
 
   items_made : (view : List Level) (r : MadeFields) (vs : VarTrees) → AreMade r → AreMade (made_items view r vs)
   items_made view r no_vars h = h
@@ -329,5 +419,10 @@ mutual
   item_made view r (var_item xs t) h =
       let m = type_made false r.state view t h.holds in
       group_made (record r { state = (made false r.state view t).state }) (made false r.state view t).t xs
-      (record { holds = m.holds; before = before_later (length r.state.forms) (length (made false r.state view t).state.forms) r.list (begins_length r.state.forms (made false r.state view t).state.forms (made_kept false r.state view t).forms) h.before })
-      m.place
+      (record {
+        holds = m.holds;
+        before = before_later (length r.state.forms) (length (made false r.state view t).state.forms) r.list
+            (begins_length r.state.forms (made false r.state view t).state.forms (made_kept false r.state view t).forms) h.before;
+        values = h.values;
+      })
+      m.place (type_no_signal r.state view t h.holds)

@@ -13,13 +13,15 @@ use Rattle.pfc_types.specs.rules.Routines.{wants_for}
 use Rattle.pfc_types.specs.rules.Expressions.{find, desig_type, selected, actual_count, broken_desig, broken_expr, broken_selectors, broken_actuals}
 use Rattle.pfc_types.proofs.Clean.{clean, and-right, clean-listed, listed-clean}
 use Rattle.pfc_semantics.specs.Expressions.{spot_of}
-use Rattle.pfc_translation.specs.Sites.{Site}
+use Rattle.pfc_translation.specs.Sites.{Site, forms_of}
 use Rattle.pfc_standing_code.specs.Typed.{IsDesig, AreSelectors, IsDeclared}
 use Rattle.pfc_typed_phrases.specs.Names.{AreKnown}
 use Rattle.pfc_typed_phrases.specs.Phrases.{ExpressionsAreTyped, VariablesAreTyped, SelectorsAreTyped, ArgumentsAreTyped, ArgumentsAreWanted}
 use Rattle.pfc_typed_phrases.proofs.Rules.{never}
 use Rattle.pfc_typed_phrases.proofs.Names.{asked_formals, wanted_arguments}
 use Rattle.pfc_typed_phrases.proofs.Phrases.{expr_typed, selectors_typed, actuals_typed}
+use Rattle.pfc_type_laws.specs.Tables.{IsOfVariables}
+use Rattle.pfc_typed_phrases.proofs.Values.{selected_of}
 
 -- what is true with the program's own types and blocks
 abbrev with_state : Site → State → Site
@@ -60,12 +62,13 @@ arguments_typed s known ending formals args whole count h =
 -- a variable that stands alone
 pub desig_part :
     (s : Site) (known : AreKnown s) (d : DesigTree) → clean (broken_desig s.env d) ≡ true
-    → (t : TypeId) × (desig_type s.env d ≡ Some t) × IsDesig s d (Some t)
+    → (t : TypeId) × (desig_type s.env d ≡ Some t) × IsDesig s d (Some t) × IsOfVariables (forms_of s) t
 desig_part s known (desig x ss p) h = by (meaning_of (find s.env x)) refl h
   where
     by : (m : Option Meaning) → meaning_of (find s.env x) ≡ m
         → clean (name_rules a_variable m p) && clean (broken_selectors s.env (variable_type m) ss) ≡ true
-        → (t : TypeId) × (selected s.env (variable_type (meaning_of (find s.env x))) ss ≡ Some t) × IsDesig s (desig x ss p) (Some t)
+        → (t : TypeId) × (selected s.env (variable_type (meaning_of (find s.env x))) ss ≡ Some t) × IsDesig s (desig x ss p) (Some t) × IsOfVariables
+        (forms_of s) t
     by None e h = never h
     by (Some (Constant t n)) e h = never h
     by (Some (Named t)) e h = never h
@@ -85,7 +88,8 @@ desig_part s known (desig x ss p) h = by (meaning_of (find s.env x)) refl h
             subst (λ (o : Option TypeId). IsDeclared s v.spot o) (sym laid.typed) laid.declared,
             subst (λ (o : Option TypeId). AreSelectors s o ss (Some part.0)) (sym laid.typed) part.2,
           ),
+          selected_of s known ss t part.0 part.2 (known.of_variables x t r e),
         )
 
 pub variables_typed : (s : Site) → AreKnown s → VariablesAreTyped s
-variables_typed s known d h = desig_part s known d (listed-clean (broken_desig s.env d) h)
+variables_typed s known d h = let part = desig_part s known d (listed-clean (broken_desig s.env d) h) in (part.0, part.1, part.2)

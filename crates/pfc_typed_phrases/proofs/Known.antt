@@ -9,18 +9,21 @@ use Rattle.pfc_types.specs.Blocks.{Blocks, State, sub_at}
 use Rattle.pfc_types.specs.rules.Expressions.{find}
 use Rattle.pfc_types.specs.rules.FaultyNames.{all_typed, is_whole_head, is_faulty, is_faulty_found, stands_faulty}
 use Rattle.pfc_types.specs.rules.Declarations.{whole_sort}
-use Rattle.pfc_types.specs.rules.Whole.{finished, broken, scopes_of}
+use Rattle.pfc_types.specs.rules.Whole.{finished, broken, scopes_of, types_of}
 use Rattle.pfc_types.specs.declared.types.TypeId.{TypeId}
 use Rattle.pfc_types.specs.declared.types.TypeForm.{TypeForm}
 use Rattle.pfc_types.specs.declared.view.Found.{Found}
-use Rattle.pfc_types.specs.declared.scope.Meaning.TheVariants.{Constant, Sub}
+use Rattle.pfc_types.specs.declared.scope.Meaning.{Meaning}
+use Rattle.pfc_types.specs.declared.scope.Meaning.TheVariants.{Constant, Variable, Sub}
 use Rattle.pfc_types.proofs.Clean.{and-left}
 use Rattle.pfc_types.proofs.Looks.{look_simple}
 use Rattle.pfc_types.proofs.WalkParts.{constants_simple, names_faulty}
 use Rattle.pfc_name_laws.proofs.Numbers.{numbered, no_faulty, none_noted}
 use Rattle.pfc_name_laws.proofs.Parts.{finished_reached}
-use Rattle.pfc_type_laws.proofs.WalkBlocks.{types_built}
-use Rattle.pfc_translation.specs.Sites.{Site, blocks_of}
+use Rattle.pfc_type_laws.specs.Tables.{IsOfVariables, IsBuiltUp}
+use Rattle.pfc_type_laws.proofs.WalkTypes.{IsPlaced}
+use Rattle.pfc_type_laws.proofs.WalkBlocks.{types_built, variable_placed_in}
+use Rattle.pfc_translation.specs.Sites.{Site, forms_of, blocks_of}
 use Rattle.pfc_typed_phrases.specs.Names.{HavePlaces, AreKnown}
 use Rattle.pfc_typed_phrases.proofs.Rules.{never}
 use Rattle.pfc_typed_phrases.proofs.Seen.{variable_laid}
@@ -55,13 +58,22 @@ module _ (t : ProgramTree) (s : Site) (lawful : broken t ≡ []) (program : s.pr
       subst (λ (k : State). all_typed (sub_at k.blocks n).formals ≡ true) (state ∙ sym program)
       (found_whole s.env.state.blocks (find s.env x) n e (exactly ∙ none_faulty x))
 
+  variable_of_table : (x : Text) (u : TypeId) (r : Bool) → meaning_of (find s.env x) ≡ Some (Variable u r) → IsOfVariables (forms_of s) u
+  variable_of_table x u r e =
+      let seen : look (scopes_of t).scopes s.env.view x ≡ Some (Variable u r) = subst
+      (λ (k : State). look k.blocks.scopes s.env.view x ≡ Some (Variable u r)) state e in
+      subst (λ (k : State). IsOfVariables k.forms u) (sym program)
+      (subst (λ (m : Option Meaning). IsPlaced (types_of t) m) seen (variable_placed_in t s.env.view x))
+
   pub names_known : HavePlaces s → AreKnown s
   names_known places =
       record {
         state = state ∙ sym program;
+        table = subst (λ (k : State). IsBuiltUp k.forms) (sym program) (types_built t);
+        of_variables = variable_of_table;
         bounds = subst (λ (k : State). (u : TypeId) (form : TypeForm) → form_of k.forms u ≡ Some form → has_bounds form ≡ true) (sym program) (types_built t).bounds;
         constants = constant_simple;
-        variables = λ x u r e. variable_laid s x u r e (places.variables x u r e);
+        variables = λ x u r e. variable_laid s x u r (state ∙ sym program) e (places.variables x u r e);
         subs = λ x n e. record { formals = sub_whole x n e; block = places.subs x n e };
         faulty = λ x e. never (sym (none_faulty x) ∙ ap stands_faulty e);
       }

@@ -1,5 +1,6 @@
 pub mod Rules
 pub mod Names
+pub mod Values
 pub mod Phrases
 pub mod Anywhere
 pub mod Seen

@@ -24,12 +24,14 @@ use Rattle.pfc_types.proofs.Clean.{clean, and-left, and-right}
 use Rattle.pfc_semantics.specs.Predeclared.{Function as AFunction, abs, sqr, odd, ord, chr, succ, pred, eof, eoln, empty, clock, random, no_function, functions, function_of}
 use Rattle.pfc_semantics.specs.Programs.{Block, Program}
 use Rattle.pfc_semantics.specs.Expressions.{spot_of}
-use Rattle.pfc_translation.specs.Sites.{Site}
+use Rattle.pfc_translation.specs.Sites.{Site, forms_of}
 use Rattle.pfc_standing_code.specs.Shapes.{Shape, a_number, shape_of}
 use Rattle.pfc_standing_code.specs.Typed.{IsDeclared, LeavesCells, IsSub, Either, IsFunction, IsUse, IsGiven, IsGivenFirst, IsLent, IsLentFirst, AreArguments, AreSelectors}
-use Rattle.pfc_typed_phrases.specs.Names.{GivesSimple, left_behind, IsWhole, AreKnown}
+use Rattle.pfc_name_laws.specs.Reached.{GivesSimple}
+use Rattle.pfc_typed_phrases.specs.Names.{left_behind, IsWhole, AreKnown}
 use Rattle.pfc_typed_phrases.specs.Phrases.{IsWanted, AreWanted, IsAsked, AreAsked}
 use Rattle.pfc_typed_phrases.proofs.Rules.{holds, never, where_true, simple_shape, both}
+use Rattle.pfc_standing_code.specs.ValueTypes.{IsValueType}
 
 -- ## Wants
 
@@ -51,11 +53,11 @@ wanted_arguments s (f ∷ formals) no_actuals h = absurd h
 wanted_arguments s (f ∷ formals) (more_actuals a rest) h = (one f.t f.reference h.0, wanted_arguments s formals rest h.1)
   where
     one : (t : Option TypeId) (r : Bool) → IsWanted s (if r then a_variable_of t else a_value t) a
-        → Either r (IsLent s a t) ((u : TypeId) × (t ≡ Some u) × IsGiven s a (shape_of u))
+        → Either r (IsLent s a t) ((u : TypeId) × (t ≡ Some u) × IsGiven s a (shape_of u) × IsValueType (forms_of s) u)
     one None true h = absurd h
     one None false h = absurd h
     one (Some t) true h = h
-    one (Some t) false h = (t, refl, h)
+    one (Some t) false h = (t, refl, h.0, h.1)
 
 -- ## Predeclared functions
 
@@ -156,7 +158,7 @@ Fit s args =
 -- the first argument, where one is wanted
 first_given : (s : Site) (args : ActualTrees) (wants : List Want) → AreWanted s (a_value (Some integer) ∷ wants) args → IsGivenFirst s args
 first_given s no_actuals wants h = absurd h
-first_given s (more_actuals a rest) wants h = h.0
+first_given s (more_actuals a rest) wants h = h.0.0
 
 first_simple : (s : Site) (args : ActualTrees) (wants : List Want) → AreWanted s (a_simple_value ∷ wants) args → IsGivenFirst s args
 first_simple s no_actuals wants h = absurd h
@@ -228,7 +230,7 @@ sub_called s args p head whole is fit count actuals = by head.sort is whole.bloc
     by Guarded is value leaves count actuals = never is
     by (Function t) is value leaves count actuals =
         let a = fit (wants_for head.formals) (asked_formals head.formals whole.formals) (holds _ p 316 count) actuals in
-        (value.0, called_type _ t value.0 (both _ _ a.1 refl) value.1, (simple_shape value.0 value.2, record { taken = whole.block.taken; leaves = leaves }, wanted_arguments s head.formals args a.0))
+        (value.0, called_type _ t value.0 (both _ _ a.1 refl) value.1, (simple_shape value.0 value.2, record { headed = whole.block.headed; taken = whole.block.taken; leaves = leaves }, wanted_arguments s head.formals args a.0))
 
 -- ## A name
 

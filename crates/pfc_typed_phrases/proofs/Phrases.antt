@@ -4,7 +4,7 @@ use Rattle.std.proofs.lemmas.Bool.Decides.{nat_tests}
 use Rattle.pfc_base.specs.declared.places.Place.{Place}
 use Rattle.pfc_tree.specs.trees.Exprs.{ExprTree, SimpleTree, SummandTrees, TermTree, MultiplierTrees, FactorTree, SelectorTrees, ExprTrees, ActualTrees, plain, related, sum, no_summands, more_summands, product, no_multipliers, more_multipliers, number, literal, negation, paren, applied, desig, index, field, no_selectors, more_selectors, no_exprs, more_exprs, actual, actual_width, no_actuals, more_actuals}
 use Rattle.pfc_types.specs.Faults.{◌⨾◌, unless}
-use Rattle.pfc_types.specs.Types.{integer, boolean, char, condition, array_form, is_same, is_simple}
+use Rattle.pfc_types.specs.Types.{integer, boolean, char, condition, array_form, is_same, is_simple, is_object}
 use Rattle.pfc_types.specs.Scopes.{Level, meaning_of}
 use Rattle.pfc_types.specs.declared.types.TypeId.{TypeId}
 use Rattle.pfc_types.specs.declared.types.TypeForm.{TypeForm}
@@ -30,6 +30,8 @@ use Rattle.pfc_typed_phrases.specs.Names.{AreKnown}
 use Rattle.pfc_typed_phrases.specs.Phrases.{IsWanted, AreWanted, IsAsked, AreAsked}
 use Rattle.pfc_typed_phrases.proofs.Rules.{holds, never, where_true, same_type, simple_shape, both, operator_known, add_simple, multiply_simple, signed_known, relation_known, index_known, field_known}
 use Rattle.pfc_typed_phrases.proofs.Names.{site_in, name_used}
+use Rattle.pfc_standing_code.specs.ValueTypes.{IsValueType}
+use Rattle.pfc_typed_phrases.proofs.Values.{expr_value, not_true}
 
 -- ## As many arguments as are wanted
 
@@ -153,7 +155,10 @@ module _ (g : Program) (block : Block) (view : List Level) (around : Around) (li
       let rules = subst (λ (o : Option TypeId). clean (want_rules g.state.forms (a_value (Some w)) (is_variable s.env ending e) o p) ≡ true) typed h in
       let suit = and-left (clean (unless (may_suit (Some w) (Some u)) p 317)) (clean (value_rule g.state.forms (Some u) p)) rules in
       let object = holds (not (has_object g.state.forms (Some u))) p 406 (and-right (clean (unless (may_suit (Some w) (Some u)) p 317)) (clean (value_rule g.state.forms (Some u) p)) rules) in (
-        subst (λ (k : TypeId). HasShape s e (shape_of k)) (suited w u p suit) is,
+        (
+          subst (λ (k : TypeId). HasShape s e (shape_of k)) (suited w u p suit) is,
+          subst (λ (k : TypeId). IsValueType g.state.forms k) (suited w u p suit) (expr_value s known e u is (not_true (is_object g.state.forms u) object)),
+        ),
         subst (λ (o : Option TypeId). (suits (Some w) o && not (has_object g.state.forms o)) ≡ true) (sym typed)
             (both (is_same u w) (not (has_object g.state.forms (Some u))) (holds (is_same u w) p 317 suit) object),
       )

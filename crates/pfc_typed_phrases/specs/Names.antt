@@ -1,6 +1,5 @@
 -- What the names in view at a site stand for, in a program in which no static rule is broken.
 use Rattle.std.specs.Prelude.{ℕ, ◌≡◌, ◌≢◌, ℤ, Bool, true, Some}
-use Rattle.std.specs.List.{slice_get}
 use Rattle.pfc_tree.specs.Symbols.{Text}
 use Rattle.pfc_types.specs.Types.{form_of, is_simple, has_bounds}
 use Rattle.pfc_types.specs.Scopes.{meaning_of}
@@ -9,28 +8,24 @@ use Rattle.pfc_types.specs.rules.Expressions.{find}
 use Rattle.pfc_types.specs.rules.FaultyNames.{all_typed}
 use Rattle.pfc_types.specs.declared.types.TypeId.{TypeId}
 use Rattle.pfc_types.specs.declared.types.TypeForm.{TypeForm}
-use Rattle.pfc_types.specs.declared.scope.Meaning.{Meaning}
 use Rattle.pfc_types.specs.declared.scope.Meaning.TheVariants.{Constant, Variable, Sub, Faulty}
 use Rattle.pfc_types.specs.declared.heads.SubHead.{SubHead}
 use Rattle.pfc_types.specs.declared.heads.SubSort.{SubSort}
 use Rattle.pfc_types.specs.declared.heads.SubSort.TheVariants.{Function}
-use Rattle.pfc_semantics.specs.Displays.{Spot}
+use Rattle.pfc_name_laws.specs.Reached.{GivesSimple}
 use Rattle.pfc_semantics.specs.Expressions.{spot_of}
-use Rattle.pfc_translation.specs.Sites.{Site, forms_of, blocks_of, layout_with, place_of}
-use Rattle.pfc_standing_code.specs.Typed.{unlined, IsDeclared, TakesCells, LeavesCells}
-
--- a function gives a value of a simple type
-abbrev pub GivesSimple : SubSort → Type 0
-GivesSimple (Function t) = (u : TypeId) × (t ≡ Some u) × (is_simple u ≡ true)
-GivesSimple sort = Unit {0}
+use Rattle.pfc_translation.specs.Sites.{Site, forms_of, blocks_of}
+use Rattle.pfc_standing_code.specs.Typed.{StandsAt, IsDeclared, IsOfSub, TakesCells, LeavesCells}
+use Rattle.pfc_type_laws.specs.Tables.{IsOfVariables, IsBuiltUp}
 
 -- how many operands a call leaves
 abbrev pub left_behind : SubSort → ℕ
 left_behind (Function t) = 1
 left_behind sort = 0
 
--- The block of a sub takes the cells of its parameters, and leaves a function's value, which is of a simple type.
+-- The block of a sub of the program takes the cells of its parameters, and leaves a function's value, which is of a simple type.
 pub record HasBlock (s : Site) (head : SubHead) : Type 0 where
+  pub headed : IsOfSub s head.scope head.formals
   pub gives : GivesSimple head.sort
   pub taken : TakesCells s head.scope head.formals
   pub leaves : LeavesCells s head.scope (left_behind head.sort)
@@ -45,10 +40,6 @@ pub record IsLaid (s : Site) (x : Text) (t : TypeId) : Type 0 where
   pub typed : (spot_of s.env (find s.env x)).t ≡ Some t
   pub declared : IsDeclared s (spot_of s.env (find s.env x)).spot (Some t)
 
--- the layout that has the variable has this at its place
-abbrev pub StandsAt : Site → Spot → Meaning → Type 0
-StandsAt s v m = slice_get (layout_with (unlined s) v.scope) (place_of (unlined s) v) ≡ Some m
-
 -- where the variables in view lie, and the blocks of the subs
 pub record HavePlaces (s : Site) : Type 0 where
   pub variables : (x : Text) (t : TypeId) (reference : Bool) → meaning_of (find s.env x) ≡ Some (Variable t reference)
@@ -58,6 +49,9 @@ pub record HavePlaces (s : Site) : Type 0 where
 pub record AreKnown (s : Site) : Type 0 where
   -- the types and blocks that are known there are the program's
   pub state : s.env.state ≡ s.program.state
+  -- types are made of earlier ones, and variables are of types of the table
+  pub table : IsBuiltUp (forms_of s)
+  pub of_variables : (x : Text) (t : TypeId) (reference : Bool) → meaning_of (find s.env x) ≡ Some (Variable t reference) → IsOfVariables (forms_of s) t
   -- an index is of a simple type
   pub bounds : (t : TypeId) (form : TypeForm) → form_of (forms_of s) t ≡ Some form → has_bounds form ≡ true
   pub constants : (x : Text) (t : TypeId) (n : ℤ) → meaning_of (find s.env x) ≡ Some (Constant t n) → is_simple t ≡ true

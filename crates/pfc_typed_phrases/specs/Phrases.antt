@@ -7,9 +7,10 @@ use Rattle.pfc_types.specs.rules.FaultyNames.{all_typed}
 use Rattle.pfc_types.specs.rules.Routines.{Want, a_value, a_simple_value, a_variable_of, wants_for}
 use Rattle.pfc_types.specs.declared.types.TypeId.{TypeId}
 use Rattle.pfc_types.specs.declared.heads.Formal.{Formal}
-use Rattle.pfc_translation.specs.Sites.{Site}
+use Rattle.pfc_translation.specs.Sites.{Site, forms_of}
 use Rattle.pfc_standing_code.specs.Shapes.{a_number, shape_of}
 use Rattle.pfc_standing_code.specs.Typed.{HasShape, IsGiven, IsLent, IsDesig, AreArguments, AreSelectors}
+use Rattle.pfc_standing_code.specs.ValueTypes.{IsValueType}
 
 abbrev pub ExpressionsAreTyped : Site → Type 0
 ExpressionsAreTyped s =
@@ -26,10 +27,10 @@ SelectorsAreTyped s =
 
 -- ## Arguments
 
--- an argument is what is wanted
+-- an argument is what is wanted; a value has no object in it
 abbrev pub IsWanted : Site → Want → ActualTree → Type 0
 IsWanted s (a_value None) a = ⊥
-IsWanted s (a_value (Some t)) a = IsGiven s a (shape_of t)
+IsWanted s (a_value (Some t)) a = IsGiven s a (shape_of t) × IsValueType (forms_of s) t
 IsWanted s a_simple_value a = IsGiven s a a_number
 IsWanted s (a_variable_of None) a = ⊥
 IsWanted s (a_variable_of (Some t)) a = IsLent s a (Some t)

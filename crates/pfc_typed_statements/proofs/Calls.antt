@@ -55,7 +55,7 @@ module _ (g : Program) (block : Block) (view : List Level) (around : Around) (li
   sub_call : (n : ℕ) (p : Place) (args : ActualTrees) → IsWhole s (sub_at g.state.blocks n) → left_behind (sub_at g.state.blocks n).sort ≡ 0
       → clean (asked_formals s.env (sub_at g.state.blocks n).formals p args) ≡ true → IsSubCall s n args
   sub_call n p args whole nothing h =
-      (record { taken = whole.block.taken; leaves = whole.block.leaves ∙ nothing }, arguments_of (sub_at g.state.blocks n).formals p args whole.formals h)
+      (record { headed = whole.block.headed; taken = whole.block.taken; leaves = whole.block.leaves ∙ nothing }, arguments_of (sub_at g.state.blocks n).formals p args whole.formals h)
 
   sub_called :
       (n : ℕ) (p : Place) (args : ActualTrees) → IsWhole s (sub_at g.state.blocks n) → (sort : SubSort) → (sub_at g.state.blocks n).sort ≡ sort
@@ -85,12 +85,13 @@ module _ (g : Program) (block : Block) (view : List Level) (around : Around) (li
 
   activated :
       (n : ℕ) (v : TypedSpot) (ss : SelectorTrees) (p : Place) (args : ActualTrees) (t : Option TypeId) → IsStarted s n → IsPartOf s v ss t
-      → IsProcessType s n t → clean (activate s.env n p args) ≡ true → IsActivation s n v ss args
+      → IsProcessType s n v.spot t → clean (activate s.env n p args) ≡ true → IsActivation s n v ss args
   activated n v ss p args t started part is h =
       record {
         t = t;
         called = part;
         process = is;
+        among = started.among;
         arguments = arguments_of (process_at g.state.blocks n).formals p args started.formals (and-right (clean (unless around.cobegin p 402)) (clean (asked_formals s.env (process_at g.state.blocks n).formals p args)) h);
         taken = started.taken;
       }
@@ -107,10 +108,10 @@ module _ (g : Program) (block : Block) (view : List Level) (around : Around) (li
       by (Some n) f h = activated n v ss p args (Some u) (callable.processes u n f) part f h
 
   entry_called :
-      (n : ℕ) (v : TypedSpot) (ss : SelectorTrees) (x : Text × Place) (args : ActualTrees) (t : Option TypeId) → IsPartOf s v ss t
-      → IsProcessType s n t → clean (call_entry s.env n x args) ≡ true
+      (n : ℕ) (v : TypedSpot) (ss : SelectorTrees) (x : Text × Place) (args : ActualTrees) (t : Option TypeId) → IsStarted s n → IsPartOf s v ss t
+      → IsProcessType s n v.spot t → clean (call_entry s.env n x args) ≡ true
       → IsEntry s n v ss (name_in_process g.state.blocks n x.0) args
-  entry_called n v ss x args t part is h = by (name_in_process g.state.blocks n x.0) refl h
+  entry_called n v ss x args t started part is h = by (name_in_process g.state.blocks n x.0) refl h
     where
       by : (m : Option Meaning) → name_in_process g.state.blocks n x.0 ≡ m → clean (call_entry_named s.env n m x.1 args) ≡ true → IsEntry s n v ss m args
       by None e h = never h
@@ -123,7 +124,7 @@ module _ (g : Program) (block : Block) (view : List Level) (around : Around) (li
       by (Some (Predeclared n)) e h = never h
       by (Some Faulty) e h = absurd (callable.faulty (process_at g.state.blocks n).scope x.0 e)
       by (Some (Entry k)) e h =
-          record { t = t; called = part; process = is; arguments = arguments_of (entry_at g.state.blocks n k) x.1 args (callable.entries n k x.0 e) h }
+          record { t = t; called = part; process = is; among = started.among; arguments = arguments_of (entry_at g.state.blocks n k) x.1 args (callable.entries n k x.0 e) h }
 
   -- ## The last selector
 
@@ -188,7 +189,7 @@ module _ (g : Program) (block : Block) (view : List Level) (around : Around) (li
 
       by : (o : Option ℕ) → process_form (form_of g.state.forms u) ≡ o → clean (call_field s.env o (field_type g.state.forms (Some u) x.0) x p args) ≡ true → IsField s v ss o x.0 args
       by None f h = behind (field_type g.state.forms (Some u) x.0) refl h
-      by (Some n) f h = entry_called n v (before_last ss) x args (Some u) (declared, is) f h
+      by (Some n) f h = entry_called n v (before_last ss) x args (Some u) (callable.processes u n f) (declared, is) f h
 
   variable_called :
       (v : TypedSpot) (t : TypeId) (ss : SelectorTrees) (p : Place) (args : ActualTrees) → v.t ≡ Some t → IsDeclared s v.spot v.t
@@ -231,7 +232,7 @@ module _ (g : Program) (block : Block) (view : List Level) (around : Around) (li
   name_called x p args (Some (Predeclared k)) e h = predeclared_typed g block view around line known k p args h
   name_called x p args (Some (Sub n)) e h = sub_called n p args (known.subs x n e) (sub_at g.state.blocks n).sort refl h
   name_called x p args (Some (Process n)) e h =
-      activated n (spot_of s.env (find s.env x)) no_selectors p args None (callable.singles x n e).started (single_called x n e) tt h
+      activated n (spot_of s.env (find s.env x)) no_selectors p args None (callable.singles x n e).started (single_called x n e) (callable.singles x n e).stands h
   name_called x p args (Some (Variable t r)) e h =
       let v = spot_of s.env (find s.env x) in
       let typed = (known.variables x t r e).typed in
@@ -251,7 +252,7 @@ module _ (g : Program) (block : Block) (view : List Level) (around : Around) (li
   process_called y n e ss p args None f h = never h
   process_called y n e ss p args (Some x) f h =
       subst (λ (k : Option (Text × Place)). IsCalledProcess s n (spot_of s.env (find s.env y)) k args) (sym (only_last ss x f))
-      (entry_called n (spot_of s.env (find s.env y)) no_selectors x args None (single_called y n e) tt h)
+      (entry_called n (spot_of s.env (find s.env y)) no_selectors x args None (callable.singles y n e).started (single_called y n e) (callable.singles y n e).stands h)
 
   part_called :
       (x : Text) (ss : SelectorTrees) (p : Place) (args : ActualTrees) (m : Option Meaning) → meaning_of (find s.env x) ≡ m → clean (call_part_of s.env m ss p args) ≡ true

@@ -1,10 +1,10 @@
 -- Assignments, messages and requeues in which no rule is broken.
-use Rattle.std.proofs.Common.{◌≡◌, ℕ, ◌<◌, Bool, true, false, ◌&&◌, if◌then◌else◌, is_some, List, Option, Some, None, refl, sym, ap, ◌∙◌, subst}
+use Rattle.std.proofs.Common.{◌≡◌, ℕ, ◌<◌, Bool, true, false, not, ◌&&◌, if◌then◌else◌, is_some, List, Option, Some, None, refl, sym, ap, ◌∙◌, subst}
 use Rattle.pfc_base.specs.declared.places.Place.{Place}
 use Rattle.pfc_tree.specs.Symbols.{Text}
 use Rattle.pfc_tree.specs.trees.Exprs.{ExprTree, DesigTree, ActualTrees, desig, no_selectors, more_selectors}
 use Rattle.pfc_types.specs.Faults.{Faults, ◌⨾◌, unless}
-use Rattle.pfc_types.specs.Types.{Forms, carried_form, form_of, cells_in, is_simple}
+use Rattle.pfc_types.specs.Types.{Forms, synchronous, carried_form, form_of, cells_in, is_same, is_simple, is_object}
 use Rattle.pfc_types.specs.Scopes.{Level, meaning_of}
 use Rattle.pfc_types.specs.Blocks.{sub_at}
 use Rattle.pfc_types.specs.declared.types.TypeId.{TypeId}
@@ -16,7 +16,7 @@ use Rattle.pfc_types.specs.declared.scope.Meaning.TheVariants.{Constant, Named, 
 use Rattle.pfc_types.specs.declared.heads.SubHead.{SubHead}
 use Rattle.pfc_types.specs.declared.heads.SubSort.{SubSort}
 use Rattle.pfc_types.specs.declared.heads.SubSort.TheVariants.{Procedure, Guarded, Function}
-use Rattle.pfc_types.specs.rules.Kinds.{may_agree, value_rule}
+use Rattle.pfc_types.specs.rules.Kinds.{has, may_have, may_agree, value_rule, has_object}
 use Rattle.pfc_types.specs.rules.Routines.{called_with, wants_for, anywhere}
 use Rattle.pfc_types.specs.rules.Expressions.{find, as_desig, expr_place, expr_type, desig_place, desig_type, count_rule, broken_actuals, broken_desig, broken_expr}
 use Rattle.pfc_types.specs.rules.Calls.{requeue_rules, requeue_sub}
@@ -28,13 +28,17 @@ use Rattle.pfc_translation.specs.Sites.{Site, type_cells}
 use Rattle.pfc_translation.specs.Selects.{receiver_cells}
 use Rattle.pfc_standing_code.specs.Shapes.{a_number, a_whole, shape_of, shape_cells, IsSound}
 use Rattle.pfc_standing_code.specs.Typed.{IsDeclared, HasShape, IsDesig}
-use Rattle.pfc_standing_code.specs.TypedStatements.{IsAssignment, IsChannel, IsMessage, IsReceiver, IsSend, IsReceive, IsSubCall, IsRequeue}
-use Rattle.pfc_typed_phrases.specs.Names.{GivesSimple, left_behind, IsWhole, AreKnown}
+use Rattle.pfc_standing_code.specs.TypedStatements.{IsAssignment, IsChannel, IsCarried, IsMessage, IsReceiver, IsSend, IsReceive, IsSubCall, IsRequeue}
+use Rattle.pfc_name_laws.specs.Reached.{GivesSimple}
+use Rattle.pfc_typed_phrases.specs.Names.{left_behind, IsWhole, AreKnown}
 use Rattle.pfc_typed_phrases.proofs.Rules.{holds, never, same_type}
 use Rattle.pfc_typed_phrases.proofs.Names.{site_in, asked_formals, wanted_arguments}
 use Rattle.pfc_typed_phrases.proofs.Phrases.{expr_typed, actuals_typed}
 use Rattle.pfc_typed_phrases.proofs.Anywhere.{desig_part}
 use Rattle.pfc_typed_statements.specs.Reached.{AreReached}
+use Rattle.pfc_standing_code.specs.ValueTypes.{IsValueType}
+use Rattle.pfc_type_laws.proofs.ValueTypes.{value_type}
+use Rattle.pfc_typed_phrases.proofs.Values.{expr_value, not_true}
 
 -- a value takes the cells of its shape
 pub shaped : (forms : Forms) → IsSound forms → (t : TypeId) → cells_in forms t ≡ shape_cells forms (shape_of t)
@@ -53,6 +57,14 @@ module _ (g : Program) (block : Block) (view : List Level) (around : Around) (li
   abbrev pub s : Site
   s = site_in g block view around line
 
+  -- what is given where no object may be has none in it
+  given_value : (e : ExprTree) (u : TypeId) → expr_type s.env e ≡ Some u → HasShape s e (shape_of u)
+      → clean (value_rule g.state.forms (expr_type s.env e) (expr_place e)) ≡ true
+      → IsValueType g.state.forms u
+  given_value e u typed is h =
+      let free = holds (not (has_object g.state.forms (expr_type s.env e))) (expr_place e) 406 h in
+      expr_value s known e u is (not_true (is_object g.state.forms u) (ap (λ (o : Option TypeId). not (has_object g.state.forms o)) (sym typed) ∙ free))
+
   -- ## Assignments
 
   -- what is assigned has a type, and is a variable of that type
@@ -60,7 +72,7 @@ module _ (g : Program) (block : Block) (view : List Level) (around : Around) (li
   Targets d = (t : TypeId) × (target_type s.env d ≡ Some t) × IsDesig s d (Some t)
 
   target_typed : (d : DesigTree) → clean (broken_target s.env d) ≡ true → Targets d
-  target_typed (desig x (more_selectors a ss) p) h = desig_part s known (desig x (more_selectors a ss) p) h
+  target_typed (desig x (more_selectors a ss) p) h = let part = desig_part s known (desig x (more_selectors a ss) p) h in (part.0, part.1, part.2)
   target_typed (desig x no_selectors p) h = by (meaning_of (find s.env x)) refl h
     where
       result : (n : ℕ) → meaning_of (find s.env x) ≡ Some (Sub n) → (sort : SubSort) → (sub_at g.state.blocks n).sort ≡ sort → GivesSimple sort
@@ -95,12 +107,16 @@ module _ (g : Program) (block : Block) (view : List Level) (around : Around) (li
       let behind = and-right (clean (broken_target s.env d)) (clean (broken_expr s.env e ⨾ rule ⨾ last)) h in
       let y = expr_typed g block view around line known e (and-left (clean (broken_expr s.env e)) (clean (rule ⨾ last)) behind) in
       let test = holds (may_agree (target_type s.env d) (expr_type s.env e)) p 312 (and-left (clean rule) (clean last) (and-right (clean (broken_expr s.env e)) (clean (rule ⨾ last)) behind)) in
+      let target = clean (value_rule g.state.forms (target_type s.env d) (desig_place d)) in
+      let source = clean (value_rule g.state.forms (expr_type s.env e) (expr_place e)) in
+      let values = and-right target source (and-right (clean rule) (clean last) (and-right (clean (broken_expr s.env e)) (clean (rule ⨾ last)) behind)) in
       let same = same_type x.0 y.0 (ap (λ (o : Option TypeId). may_agree o (Some y.0)) (sym x.1) ∙ ap (λ (o : Option TypeId). may_agree (target_type s.env d) o) (sym y.1) ∙ test) in
       record {
         t = x.0;
         target = x.2;
         value = subst (λ (t : TypeId). HasShape s e (shape_of t)) (sym same) y.2;
         cells = ap (λ (o : Option TypeId). type_cells g.state.forms o) (y.1 ∙ ap Some (sym same)) ∙ shaped g.state.forms reached.sound x.0;
+        values = subst (λ (t : TypeId). IsValueType g.state.forms t) (sym same) (given_value e y.0 y.1 y.2 values);
       }
 
   -- ## Messages
@@ -124,6 +140,14 @@ module _ (g : Program) (block : Block) (view : List Level) (around : Around) (li
       by t e is (Some (Channel u)) f h =
           (t, u, ap (λ (o : Option TypeId). carried_by g.state.forms o) e ∙ ap carried_form f, is, record { channel = t; typed = refl; form = f })
 
+  -- a message is of a type with cells and without objects, which is not `synchronous`
+  carried : (u : TypeId) (p : Place) → clean (only_any_rule (Some u) p) ≡ true → IsValueType g.state.forms u → IsCarried g.state.forms u
+  carried u p h value = (
+    subst (λ (n : ℕ). 0 < n) (shaped g.state.forms reached.sound u) (reached.filled u),
+    λ same. never (sym (ap not (ap (λ (t : TypeId). is_same t synchronous) same)) ∙ holds (not (has synchronous (Some u))) p 412 h),
+    value,
+  )
+
   message_typed :
       (e : ExprTree) (p : Place) (u : TypeId) → clean (broken_message s.env (Some u) e p) ≡ true
       → IsMessage s (if names_any s.env (as_desig e) then None else Some e) u
@@ -133,15 +157,19 @@ module _ (g : Program) (block : Block) (view : List Level) (around : Around) (li
       rest = only_any_rule (Some u) p ⨾ value_rule g.state.forms (expr_type s.env e) (expr_place e)
 
       by : (b : Bool) → clean (if b then any_rule (Some u) (expr_place e) else (broken_expr s.env e ⨾ types_rule (Some u) (expr_type s.env e) p ⨾ rest)) ≡ true → IsMessage s (if b then None else Some e) u
-      by true h = tt
+      by true h = same_type u synchronous (holds (may_have synchronous (Some u)) (expr_place e) 412 h)
       by false h =
           let one = clean (broken_expr s.env e) in
           let two = clean (types_rule (Some u) (expr_type s.env e) p) in
           let y = expr_typed g block view around line known e (and-left one (two && clean rest) h) in
+          let behind = and-right two (clean rest) (and-right one (two && clean rest) h) in
           let test = holds (may_agree (Some u) (expr_type s.env e)) p 312 (and-left two (clean rest) (and-right one (two && clean rest) h)) in
           let same = same_type u y.0 (ap (λ (o : Option TypeId). may_agree (Some u) o) (sym y.1) ∙ test) in (
             subst (λ (t : TypeId). HasShape s e (shape_of t)) (sym same) y.2,
             ap (λ (o : Option TypeId). type_cells g.state.forms o) (y.1 ∙ ap Some (sym same)) ∙ shaped g.state.forms reached.sound u,
+            carried u p (and-left (clean (only_any_rule (Some u) p)) _ behind)
+                (subst (λ (t : TypeId). IsValueType g.state.forms t) (sym same)
+                (given_value e y.0 y.1 y.2 (and-right (clean (only_any_rule (Some u) p)) _ behind))),
           )
 
   receiver_typed :
@@ -153,17 +181,21 @@ module _ (g : Program) (block : Block) (view : List Level) (around : Around) (li
       rest = only_any_rule (Some u) p ⨾ value_rule g.state.forms (desig_type s.env v) (desig_place v)
 
       by : (b : Bool) → clean (if b then any_rule (Some u) (desig_place v) else (broken_desig s.env v ⨾ types_rule (Some u) (desig_type s.env v) p ⨾ rest)) ≡ true → IsReceiver s (if b then None else Some v) u
-      by true h = tt
+      by true h = same_type u synchronous (holds (may_have synchronous (Some u)) (desig_place v) 412 h)
       by false h =
           let one = clean (broken_desig s.env v) in
           let two = clean (types_rule (Some u) (desig_type s.env v) p) in
           let y = desig_part s known v (and-left one (two && clean rest) h) in
+          let behind = and-right two (clean rest) (and-right one (two && clean rest) h) in
+          let free = holds (not (has_object g.state.forms (desig_type s.env v))) (desig_place v) 406 (and-right (clean (only_any_rule (Some u) p)) _ behind) in
+          let object = ap (λ (o : Option TypeId). not (has_object g.state.forms o)) (sym y.1) ∙ free in
+          let value = value_type g.state.forms known.table y.0 y.3 (not_true (is_object g.state.forms y.0) object) in
           let test = holds (may_agree (Some u) (desig_type s.env v)) p 312 (and-left two (clean rest) (and-right one (two && clean rest) h)) in
           let same = same_type u y.0 (ap (λ (o : Option TypeId). may_agree (Some u) o) (sym y.1) ∙ test) in
           let cells : receiver_cells s (Some v) ≡ cells_in g.state.forms u = ap (λ (o : Option TypeId). type_cells g.state.forms o) (y.1 ∙ ap Some (sym same)) in (
             subst (λ (t : TypeId). IsDesig s v (Some t)) (sym same) y.2,
             cells ∙ shaped g.state.forms reached.sound u,
-            subst (λ (n : ℕ). 0 < n) (sym cells) (reached.filled u),
+            carried u p (and-left (clean (only_any_rule (Some u) p)) _ behind) (subst (λ (t : TypeId). IsValueType g.state.forms t) (sym same) value),
           )
 
   pub send_typed : (d : DesigTree) (e : ExprTree) (p : Place) → clean (broken_send s.env d e p) ≡ true → IsSend s d (if names_any s.env (as_desig e) then None else Some e)
@@ -188,7 +220,7 @@ module _ (g : Program) (block : Block) (view : List Level) (around : Around) (li
       → clean (broken_actuals s.env ending true (wants_for (sub_at g.state.blocks n).formals) args) ≡ true → IsSubCall s n args
   sub_asked n ending p args whole none count h =
       let head = sub_at g.state.blocks n in (
-        record { taken = whole.block.taken; leaves = whole.block.leaves ∙ none },
+        record { headed = whole.block.headed; taken = whole.block.taken; leaves = whole.block.leaves ∙ none },
         wanted_arguments s head.formals args (actuals_typed g block view around line known ending (wants_for head.formals) args (asked_formals head.formals whole.formals) (holds _ p 316 count) h).0,
       )
 

@@ -74,14 +74,14 @@ lent_first s t (more_actuals a rest) wants h = h.0
 
 given_first : (s : Site) (args : ActualTrees) (wants : List Want) → AreWanted s (a_value (Some integer) ∷ wants) args → IsGivenFirst s args
 given_first s no_actuals wants h = absurd h
-given_first s (more_actuals a rest) wants h = h.0
+given_first s (more_actuals a rest) wants h = h.0.0
 
 -- behind a first argument stands a number
 number_second : (s : Site) (first : Want) (args : ActualTrees) → AreWanted s (first ∷ a_value (Some integer) ∷ []) args → IsNumber s (expr_of (behind_first args))
 number_second s first no_actuals h = absurd h
 number_second s first (more_actuals a no_actuals) h = absurd h.1
-number_second s first (more_actuals a (more_actuals (actual e) rest)) h = h.1.0
-number_second s first (more_actuals a (more_actuals (actual_width e w) rest)) h = h.1.0
+number_second s first (more_actuals a (more_actuals (actual e) rest)) h = h.1.0.0
+number_second s first (more_actuals a (more_actuals (actual_width e w) rest)) h = h.1.0.0
 
 as_rank : (s : Site) (args : ActualTrees) → IsNumber s (expr_of (behind_first args)) → IsRank s (expr_of (behind_first args))
 as_rank s no_actuals h = tt

@@ -1,5 +1,5 @@
 -- What statements reach beside the names in view: the types and their cells, the results of functions, processes, entries and exported subs.
-use Rattle.std.specs.Prelude.{ℕ, ◌<◌, ◌≡◌, ◌≢◌, true, Some, None}
+use Rattle.std.specs.Prelude.{ℕ, ◌<◌, ◌≡◌, ◌≢◌, true, length, Some, None}
 use Rattle.pfc_tree.specs.Symbols.{Text}
 use Rattle.pfc_types.specs.Types.{cells_in, form_of, process_form}
 use Rattle.pfc_types.specs.Scopes.{meaning_of, meaning_in, scope_at}
@@ -14,7 +14,7 @@ use Rattle.pfc_semantics.specs.Expressions.{spot_of}
 use Rattle.pfc_semantics.specs.Statements.{name_in_process}
 use Rattle.pfc_translation.specs.Sites.{Site, forms_of, blocks_of}
 use Rattle.pfc_standing_code.specs.Shapes.{IsSound}
-use Rattle.pfc_standing_code.specs.Typed.{IsDeclared, TakesCells}
+use Rattle.pfc_standing_code.specs.Typed.{StandsAt, IsDeclared, TakesCells}
 use Rattle.pfc_typed_phrases.specs.Names.{left_behind, IsLaid, IsWhole}
 
 pub record AreReached (s : Site) : Type 0 where
@@ -27,15 +27,17 @@ pub record AreReached (s : Site) : Type 0 where
 
 -- ## What is called
 
--- each parameter of a process has a type, and the block of the process takes the cells of its parameters
+-- a process of the program, whose parameters have types, and whose block takes the cells of its parameters
 pub record IsStarted (s : Site) (n : ℕ) : Type 0 where
+  pub among : n < length (blocks_of s).processes
   pub formals : all_typed (process_at (blocks_of s) n).formals ≡ true
   pub taken : TakesCells s (process_at (blocks_of s) n).scope (process_at (blocks_of s) n).formals
 
--- a single process is a variable without a type
+-- a single process is a variable without a type, which is declared as that process
 pub record IsSingle (s : Site) (x : Text) (n : ℕ) : Type 0 where
   pub untyped : (spot_of s.env (find s.env x)).t ≡ None
   pub declared : IsDeclared s (spot_of s.env (find s.env x)).spot None
+  pub stands : StandsAt s (spot_of s.env (find s.env x)).spot (Process n)
   pub started : IsStarted s n
 
 -- an exported sub is no function

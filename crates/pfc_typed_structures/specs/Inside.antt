@@ -1,22 +1,32 @@
 -- The places inside a body, and what is known there.
-use Rattle.std.specs.Prelude.{ℕ, List, [], ◌∷◌}
+use Rattle.std.specs.Prelude.{ℕ, ◌+◌, ◌≤◌, ◌≡◌, true, false, List, [], ◌∷◌}
 use Rattle.pfc_tree.specs.declared.tree.Constant.{Constant}
 use Rattle.pfc_tree.specs.trees.Stmts.{StmtTree, StmtTrees, ArmTrees, AcceptTree, AltTree, AltTrees, CommTree, empty, null, block, if_then, if_then_else, case_of, while_do, repeat_until, repeat_forever, for_do, cobegin, accepting, requeue, select, select_else, assign, send, receive, call, no_stmts, more_stmts, body, arm, no_arms, more_arms, accept, accept_do, alt, no_alts, more_alts, comm_accept, comm_send, comm_receive, timeout, terminate}
-use Rattle.pfc_translation.specs.Sites.{Site, at_line, in_accept}
+use Rattle.pfc_types.specs.rules.Statements.{within_cobegin, stmts_scopes}
+use Rattle.pfc_translation.specs.Sites.{Site, at_line, in_accept, is_accept}
 use Rattle.pfc_typed_phrases.specs.Names.{AreKnown}
 use Rattle.pfc_typed_statements.specs.Reached.{AreReached, AreCallable}
 
--- at another line, or in the statement of an accept
+abbrev pub in_cobegin : Site → Site
+in_cobegin s = record s { env = within_cobegin s.env }
+
+-- at another line, in the statement of an accept of the block, or in a `cobegin`
 pub data IsInside (s : Site) : Site → Type 0 where
   itself : IsInside s s
   lined : (u : Site) (n : ℕ) → IsInside s u → IsInside s (at_line u n)
-  accepted : (u : Site) (n : ℕ) → IsInside s u → IsInside s (in_accept u n)
+  accepted : (u : Site) (n : ℕ) → is_accept s.block n ≡ true → IsInside s u → IsInside s (in_accept u n)
+  begun : (u : Site) → IsInside s u → IsInside s (in_cobegin u)
 
 -- what is in view at each place inside is known
 pub record AreMet (s : Site) : Type 0 where
   pub known : (u : Site) → IsInside s u → AreKnown u
   pub reached : (u : Site) → IsInside s u → AreReached u
   pub callable : (u : Site) → IsInside s u → AreCallable u
+
+-- in the body of a process the scopes of these statements, from number n on, are those of accepts of the block
+abbrev pub HaveScopes : Site → ℕ → StmtTrees → Type 0
+HaveScopes s n ts =
+    s.env.around.process ≡ true → s.env.around.sub ≡ false → (s.block.next ≤ n) × (n + stmts_scopes ts ≤ s.block.next + s.block.accepts)
 
 -- ## Labels
 

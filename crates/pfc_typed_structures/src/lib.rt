@@ -1,6 +1,6 @@
 //! Laws of statements that hold statements, in which no static rule is broken. Each function does nothing: its contract is the law.
 //!
-//! It promises that all statements of a body have the shapes that their code needs, outside the main body, in which alone `cobegin` may stand.
+//! It promises that all statements of a body have the shapes that their code needs.
 #![tactic(auto)]
 
 mod laws;

@@ -1,0 +1,9 @@
+pub mod Labels
+pub mod Trees
+pub mod Blocks
+pub mod Places
+pub mod Bodies
+pub mod Called
+pub mod Accepts
+pub mod AcceptTrees
+pub mod Entries

@@ -16,6 +16,7 @@ use Rattle.pfc_translation.specs.Codes.{Code, ◌⨾◌, one}
 use Rattle.pfc_translation.specs.Expressions.{expr_code, args_code}
 use Rattle.pfc_translation.specs.Calls.{formals_cells}
 use Rattle.pfc_standing_code.specs.Shapes.{a_number, shape_of, shape_cells, is_object_type}
+use Rattle.pfc_standing_code.proofs.ValueTypes.{awaited_value}
 use Rattle.pfc_standing_code.specs.Settings.{Setting, site_of}
 use Rattle.pfc_standing_code.specs.Effects.{Arm}
 use Rattle.pfc_standing_code.specs.Words.{IsWord, IsObject, IsChecked, none_held, one_more}
@@ -60,10 +61,26 @@ module _ (g : Setting) (b : Block) (names : List Level) (around : Around) (check
       → length arms ≤ g.arms → suc (length ops) ≤ g.room → IsWord g.view s l.spot t w → TakesLocation g b x at ops arms t goal
       → Follows g (from_location x goal l) at (w ∷ ops) arms
   location_follows (read_for u) t l w at ops arms few room lies h =
-      arrives at (w ∷ ops) arms (b, checked, (h.0, w, ops, refl, typed l.spot t (Some h.0) w h.1 lies, h.2, h.3, h.4))
+      arrives at (w ∷ ops) arms (
+        b,
+        checked,
+        (
+          h.0,
+          w,
+          ops,
+          refl,
+          typed l.spot t (Some h.0) w h.1 lies,
+          h.2,
+          h.3,
+          h.4,
+          awaited_value g b (record { env = env_in g names around; line = line })
+              (at + 1) ops arms h.0 u h.4,
+        ),
+      )
   location_follows (assign_to e k) t l w at ops arms few room lies h =
       let p = h.1 in
-      cleared at (w ∷ ops) arms h.0 (stored_follows g b names around checked none line l.spot p.0 e k w at p.4 ops (typed l.spot t (Some p.0) w p.1 lies) p.2 p.3 p.5 p.6)
+      cleared at (w ∷ ops) arms h.0
+      (stored_follows g b names around checked none line l.spot p.0 e k w at p.4 ops (typed l.spot t (Some p.0) w p.1 lies) p.2 p.3 p.7 p.5 p.6)
   location_follows (input_to u k) t l w at ops arms few room lies h =
       let p = h.1 in
       cleared at (w ∷ ops) arms h.0 (arrives at (w ∷ ops) [] (b, checked, (refl, (w, ops, refl, (p.0, p.2, typed l.spot t (Some p.0) w p.1 lies), p.3, p.4))))
@@ -84,25 +101,35 @@ module _ (g : Setting) (b : Block) (names : List Level) (around : Around) (check
       let inner = args_code s formals args in
       let i = NEW (block_number g.program (process_at g.program.state.blocks p.0).scope) in
       let z = formals_cells g.program.state.forms formals in
-      let st = p.3.2 in
-      let last = back g inner (one s i) (z + suc (length ops)) (sized_args s formals args) (held_grown g.program inner z (args_change s checked.sound formals args p.4) (at + 1) p.3.1 (suc (length ops))) st in
-      let after = performs_moved g b names around checked none line (at + 1 + (inner.size + 1)) (at + 1 + inner.size + 1) ops k (omega arith) p.3.3 in
+      let there = p.6 in
+      let st = there.2 in
+      let last = back g inner (one s i) (z + suc (length ops)) (sized_args s formals args)
+      (held_grown g.program inner z (args_change s checked.sound formals args p.7) (at + 1) there.1 (suc (length ops))) st in
+      let after = performs_moved g b names around checked none line (at + 1 + (inner.size + 1)) (at + 1 + inner.size + 1) ops k (omega arith) there.3 in
       cleared at (w ∷ ops) arms h.0
-      (object_then l.spot t w at ops (inner ⨾ one s i) (λ end. Performs g b (env_in g names around) end ops [] k) lies (process_is_object s p.0 t p.1) p.3
-      (λ j object. arguments_follow g b x checked [] none args formals p.4 [] [] (to_process l.spot k) (at + 1) p.3.1 (j ∷ ops) (j ∷ ops) (none_held (j ∷ ops)) (front g inner (one s i) st)
-      (refl, (t, p.0, j, ops, p.1, p.2, p.5, refl, object, lone g s (λ at n. i) last, after))))
+      (object_then l.spot (Some p.1) w at ops (inner ⨾ one s i) (λ end. Performs g b (env_in g names around) end ops [] k)
+      (typed l.spot t (Some p.1) w p.2 lies)
+      (process_is_object s p.0 l.spot (Some p.1) p.3) there
+      (λ j object. arguments_follow g b x checked [] none args formals p.7 [] [] (to_process l.spot k) (at + 1) there.1 (j ∷ ops) (j ∷ ops)
+      (none_held (j ∷ ops))
+      (front g inner (one s i) st) (refl, (Some p.1, p.0, j, ops, p.3, p.4, p.5, p.8, refl, object, lone g s (λ at n. i) last, after))))
   location_follows (enter_with entry formals args k) t l w at ops arms few room lies h =
       let p = h.1 in
       let inner = args_code s formals args in
       let z = formals_cells g.program.state.forms formals in
       let i = ECALL entry z in
-      let st = p.3.2 in
-      let last = back g inner (one s i) (z + suc (length ops)) (sized_args s formals args) (held_grown g.program inner z (args_change s checked.sound formals args p.4) (at + 1) p.3.1 (suc (length ops))) st in
-      let after = performs_moved g b names around checked none line (at + 1 + (inner.size + 1)) (at + 1 + inner.size + 1) ops k (omega arith) p.3.3 in
+      let there = p.6 in
+      let st = there.2 in
+      let last = back g inner (one s i) (z + suc (length ops)) (sized_args s formals args)
+      (held_grown g.program inner z (args_change s checked.sound formals args p.7) (at + 1) there.1 (suc (length ops))) st in
+      let after = performs_moved g b names around checked none line (at + 1 + (inner.size + 1)) (at + 1 + inner.size + 1) ops k (omega arith) there.3 in
       cleared at (w ∷ ops) arms h.0
-      (object_then l.spot t w at ops (inner ⨾ one s i) (λ end. Performs g b (env_in g names around) end ops [] k) lies (process_is_object s p.0 t p.1) p.3
-      (λ j object. arguments_follow g b x checked [] none args formals p.4 [] [] (to_entry l.spot entry k) (at + 1) p.3.1 (j ∷ ops) (j ∷ ops) (none_held (j ∷ ops)) (front g inner (one s i) st)
-      (refl, (t, p.0, j, ops, p.1, p.2, refl, object, lone g s (λ at n. i) last, after))))
+      (object_then l.spot (Some p.1) w at ops (inner ⨾ one s i) (λ end. Performs g b (env_in g names around) end ops [] k)
+      (typed l.spot t (Some p.1) w p.2 lies)
+      (process_is_object s p.0 l.spot (Some p.1) p.3) there
+      (λ j object. arguments_follow g b x checked [] none args formals p.7 [] [] (to_entry l.spot entry k) (at + 1) there.1 (j ∷ ops) (j ∷ ops)
+      (none_held (j ∷ ops)) (front g inner (one s i) st)
+      (refl, (Some p.1, p.0, j, ops, p.3, p.4, p.5, refl, object, lone g s (λ at n. i) last, after))))
   location_follows (initial_to e k) t l w at ops arms few room lies h =
       let p = h.1 in
       cleared at (w ∷ ops) arms h.0
@@ -143,7 +170,25 @@ module _ (g : Setting) (b : Block) (names : List Level) (around : Around) (check
       let z = shape_cells g.program.state.forms (shape_of p.1) in
       let here = typed l.spot t (Some p.1) w p.4 lies in
       cleared at (w ∷ ops) arms h.0
-      (arrives at (w ∷ ops) [] (b, checked, (refl, ((refl, refl), (z, w ∷ p.2 ∷ [], p.3, ap (λ (y : List ℤ). w ∷ y) p.7, into_variable p.0 p.1 p.2 w l.spot p.6 p.8 here refl p.5 refl, p.9, p.10)))))
+      (arrives at (w ∷ ops) [] (
+        b,
+        checked,
+        (
+          refl,
+          (
+            (refl, refl),
+            (
+              z,
+              w ∷ p.2 ∷ [],
+              p.3,
+              ap (λ (y : List ℤ). w ∷ y) p.7,
+              into_variable p.0 p.1 p.2 w l.spot p.6 p.8 p.5 here refl refl,
+              p.9,
+              p.10,
+            ),
+          ),
+        ),
+      ))
   location_follows (offer_to m a rest sel k) t l w at ops arms few room lies h =
       let c = h.5 in
       let inner : suc (length ops) ≤ g.room = room_for g c.stands in

@@ -30,7 +30,8 @@ use Rattle.pfc_translation.specs.Expressions.{relation_instr, add_instr, multipl
 use Rattle.pfc_translation.specs.Statements.{label_count, stmt_code, stmts_code, arms_code}
 use Rattle.pfc_code_laws.proofs.Expressions.{plain_simple}
 use Rattle.pfc_standing_code.specs.Sizes.{IsSized}
-use Rattle.pfc_standing_code.specs.Shapes.{Shape, a_number, a_whole, shape_of, shape_cells, IsOf, IsShaped, words_of}
+use Rattle.pfc_cells.specs.Shapes.{words_of}
+use Rattle.pfc_standing_code.specs.Shapes.{Shape, a_number, a_whole, shape_of, shape_cells, IsOf, IsShaped}
 use Rattle.pfc_standing_code.specs.Settings.{Setting, site_of, IsAt, Stands}
 use Rattle.pfc_standing_code.specs.Effects.{Arm}
 use Rattle.pfc_standing_code.specs.Typed.{AreSelectors, AreIndices}
@@ -38,6 +39,7 @@ use Rattle.pfc_standing_code.specs.Words.{IsChecked, one_more}
 use Rattle.pfc_standing_code.specs.Performs.{StmtThen, of_message, Performs}
 use Rattle.pfc_standing_code.specs.Awaits.{finishing, pass_code, TakesValue, CallsAt}
 use Rattle.pfc_standing_code.specs.Following.{of_value, Follows, arrives}
+use Rattle.pfc_standing_code.proofs.Checked.{checked_for}
 use Rattle.pfc_standing_code.proofs.Sizes.{sized_plain}
 use Rattle.pfc_following_expressions.proofs.Glue.{front, back, head, lone, tail, stands_over}
 use Rattle.pfc_following_expressions.proofs.Held.{held_grown, sign_changes, simple_changes}
@@ -85,7 +87,7 @@ module _ (g : Setting) (b : Block) (names : List Level) (around : Around) (check
   -- ## What stands behind
 
   left : (k : Remainder) (at : ℕ) (ops : List ℤ) → length ops ≤ g.room → Performs g b x.env at ops [] k → Follows g (from_remainder x.env k) at ops []
-  left k at ops room h = remainder_follows g k b (env_in g names around) at ops [] checked room h
+  left k at ops room h = remainder_follows g k b (env_in g names around) at ops [] (checked_for g b (env_in g names around) k checked) room h
 
   stmt_then :
       (l m : ℕ) (t : StmtTree) (k : Remainder) (at : ℕ) (ops : List ℤ) → length ops ≤ g.room
@@ -145,9 +147,9 @@ module _ (g : Setting) (b : Block) (names : List Level) (around : Around) (check
               words ++ p.2 ∷ [],
               p.3,
               all,
-              of_message p.0 p.1 p.2 p.6 p.7 (shaped_is_of forms checked.sound p.1 h v p.4 shaped) cells refl,
-              p.8,
+              of_message p.0 p.1 p.2 p.6 p.8 p.7 (shaped_is_of forms checked.sound p.1 h v p.4 shaped) cells refl,
               p.9,
+              p.10,
             ),
           ),
         ),
@@ -161,7 +163,8 @@ module _ (g : Setting) (b : Block) (names : List Level) (around : Around) (check
       let size = ap (λ (y : List ℤ). length y) p.5 in
       let fit : length p.3 ≤ g.room = omega (arith, held, size, room) in
       subst (λ (y : List ℤ). Follows g (from_value x (offer_value channel a rest sel k) v) at (reverse (words_of v) ++ y) arms) (sym p.5)
-      (value_armed g b names around checked line k channel p.0 p.1 p.2 h v a rest sel at p.3 arms (all_follow g b names around checked line k rest) p.4 shaped p.6 p.7 fit p.8)
+      (value_armed g b names around checked line k channel p.0 p.1 p.2 h v a rest sel at p.3 arms
+      (all_follow g b names around checked line k rest) p.4 shaped p.6 p.8 p.7 fit p.9)
 
   -- ## Numbers
 
@@ -332,11 +335,11 @@ module _ (g : Setting) (b : Block) (names : List Level) (around : Around) (check
   numbers_follow (pass_own bar k) v at ops arms few room is =
       let p = is.1 in
       let fit : length ops ≤ g.room = omega arith in
-      cleared at (v ∷ ops) arms is.0 (tested g b none x bar k (from_remainder x.env k) v at ops p.1 p.2 fit p.3 (left k (at + 1) ops fit (p.3 x.env)))
+      cleared at (v ∷ ops) arms is.0 (tested g b none x bar k (from_remainder x.env k) v at ops checked p.1 p.2 p.3 fit p.4 (left k (at + 1) ops fit (p.4 x.env).1))
   numbers_follow (pass_other w scan k) v at ops arms few room is =
       let p = is.1 in
       let fit : length ops ≤ g.room = omega arith in
-      cleared at (v ∷ ops) arms is.0 (tried g p.3 none x w scan k v at p.1 p.2 ops p.4 p.5 p.6 p.7 fit p.8)
+      cleared at (v ∷ ops) arms is.0 (tried g b none x w scan k v at ops checked p.1 p.2 p.3 fit p.4)
 
   -- ## Every value
 

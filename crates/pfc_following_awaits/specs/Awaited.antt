@@ -7,7 +7,8 @@ use Rattle.pfc_semantics.specs.Programs.{Block}
 use Rattle.pfc_semantics.specs.Remainders.{Context, AwaitsValue, AwaitsLocation}
 use Rattle.pfc_semantics.specs.Rewriting.{from_value, from_location}
 use Rattle.pfc_translation.specs.Sites.{forms_of}
-use Rattle.pfc_standing_code.specs.Shapes.{Shape, IsShaped, words_of}
+use Rattle.pfc_cells.specs.Shapes.{words_of}
+use Rattle.pfc_standing_code.specs.Shapes.{Shape, IsShaped}
 use Rattle.pfc_standing_code.specs.Settings.{Setting, site_of}
 use Rattle.pfc_standing_code.specs.Effects.{Arm}
 use Rattle.pfc_standing_code.specs.Words.{IsWord, IsChecked}

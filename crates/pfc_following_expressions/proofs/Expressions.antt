@@ -29,7 +29,7 @@ use Rattle.pfc_types.specs.declared.heads.SubHead.{SubHead}
 use Rattle.pfc_values.specs.declared.simple.Simple.{Simple}
 use Rattle.pfc_values.specs.declared.simple.Simple.TheVariants.{Integer, Boolean, Char}
 use Rattle.pfc_values.specs.Numbers.{negative_of, inverse_of, next_of, before_of, magnitude_of, square_of, char_of, is_odd}
-use Rattle.pfc_machine.specs.Rows.{with_outcome, type_numbered, is_within, element_word}
+use Rattle.pfc_stacks.specs.Effects.{with_outcome, type_numbered, is_within, element_word}
 use Rattle.pfc_semantics.specs.Values.{Selector, Value, ordinal, ordinal_of, path_of}
 use Rattle.pfc_semantics.specs.Displays.{Spot, TypedSpot, within}
 use Rattle.pfc_semantics.specs.Operators.{simple_of, signed, added, multiplied, compared}
@@ -45,9 +45,12 @@ use Rattle.pfc_translation.specs.Calls.{formals_cells}
 use Rattle.pfc_translation.specs.Operands.{takes, leaves}
 use Rattle.pfc_code_laws.proofs.Expressions.{plain_expr, plain_simple, plain_term, plain_factor, plain_first, plain_first_address, plain_actual, plain_lent, plain_args, plain_selectors, plain_indices}
 use Rattle.pfc_standing_code.specs.Sizes.{IsSized}
-use Rattle.pfc_standing_code.specs.Shapes.{Shape, a_number, a_whole, shape_of, shape_cells, is_number, IsPath, here, is_object_type}
+use Rattle.pfc_cells.specs.Shapes.{IsPath, here}
+use Rattle.pfc_standing_code.specs.Shapes.{Shape, a_number, a_whole, shape_of, shape_cells, is_number, is_object_type}
 use Rattle.pfc_standing_code.specs.Settings.{Setting, site_of, IsAt, Stands}
-use Rattle.pfc_standing_code.specs.Effects.{Arm, of_alone, numbered, CanPerform}
+use Rattle.pfc_standing_code.specs.Effects.{Arm, of_own_effect, numbered, CanPerform}
+use Rattle.pfc_standing_code.specs.ValueTypes.{IsValueType}
+use Rattle.pfc_standing_code.proofs.ValueTypes.{awaited_value}
 use Rattle.pfc_standing_code.specs.Typed.{unlined, IsDeclared, IsArray, IsField, IsSub, Either, IsPassed, IsFunction, IsUse, HasShape, HasShapeSimple, AreSummands, HasShapeTerm, AreMultipliers, HasShapeFactor, IsGivenFirst, IsLentFirst, IsGiven, IsLent, IsVariable, AreArguments, AreSelectors, AreIndices}
 use Rattle.pfc_standing_code.specs.Words.{first_word, IsWord, IsPart, IsObject, IsChecked, AreHeld, none_held, one_more}
 use Rattle.pfc_standing_code.specs.Awaits.{has_argument, finishing, TakesValue, TakesLocation, CallsAt}
@@ -127,7 +130,7 @@ module _ (g : Setting) (b : Block) (names : List Level) (around : Around) (check
       record {
         whole = v.t;
         behind = 0;
-        declared = record { seen = d.seen; meaning = d.meaning; laid = d.laid; variable = d.variable; typed = d.typed; whole = refl };
+        declared = record { seen = d.seen; own = d.own; meaning = d.meaning; laid = d.laid; variable = d.variable; typed = d.typed; whole = refl };
         path = subst (λ (p : List ℕ). IsPath forms v.t p v.t 0) (sym (ap (λ (p : List Selector). path_of p) d.whole)) (here v.t);
         word = ap pos (omega arith);
       }
@@ -203,12 +206,12 @@ module _ (g : Setting) (b : Block) (names : List Level) (around : Around) (check
           let v = element_word array.low (cells_in forms array.element) i w in
           let inside : TypedSpot = record { spot = within part.spot (record { place = nat_abs (i -ℤ array.low); index = i }); t = Some array.element } in
           next_move g arms few at (i ∷ w ∷ ops) (IDX array.low array.high (cells_in forms array.element)) line (v ∷ ops) at_it can
-          (ap (λ (r : Bool). of_alone (with_outcome at ops (if r then Ok v else Err Index)) arms) e) room
+          (ap (λ (r : Bool). of_own_effect (with_outcome at ops (if r then Ok v else Err Index)) arms) e) room
           (on inside v (kept e) (sym (ap (λ (a : Option TypeForm). option_map (λ (both : TypeId × TypeId). both.1) (array_form a)) form)))
       by false e =
           let v = element_word array.low (cells_in forms array.element) i w in
           fault_at g arms few b x Index at (i ∷ w ∷ ops) (IDX array.low array.high (cells_in forms array.element)) at_it can
-          (ap (λ (r : Bool). of_alone (with_outcome at ops (if r then Ok v else Err Index)) arms) e)
+          (ap (λ (r : Bool). of_own_effect (with_outcome at ops (if r then Ok v else Err Index)) arms) e)
 
   -- the number of an object takes the place of its address
   pub object_follows :
@@ -239,11 +242,11 @@ module _ (g : Setting) (b : Block) (names : List Level) (around : Around) (check
   finish_follows succ t u go v at n to ops has st e waits on =
       let i = SUCC (simple_number (simple_of t)) in
       outcome_move g arms few b x (next_of (simple_of t) v) go at (v ∷ ops) ops i (lone g s (λ at n. i) st) (fits g arms i (v ∷ ops) (omega arith) tt tt)
-      (ap (λ (k : Simple). of_alone (with_outcome at ops (next_of k v)) arms) (type_by_number (simple_of t))) (room_for g st) (λ m. follows_moved g arms few to (at + 1) (sym e ∙ omega arith) (on m))
+      (ap (λ (k : Simple). of_own_effect (with_outcome at ops (next_of k v)) arms) (type_by_number (simple_of t))) (room_for g st) (λ m. follows_moved g arms few to (at + 1) (sym e ∙ omega arith) (on m))
   finish_follows pred t u go v at n to ops has st e waits on =
       let i = PRED (simple_number (simple_of t)) in
       outcome_move g arms few b x (before_of (simple_of t) v) go at (v ∷ ops) ops i (lone g s (λ at n. i) st) (fits g arms i (v ∷ ops) (omega arith) tt tt)
-      (ap (λ (k : Simple). of_alone (with_outcome at ops (before_of k v)) arms) (type_by_number (simple_of t))) (room_for g st) (λ m. follows_moved g arms few to (at + 1) (sym e ∙ omega arith) (on m))
+      (ap (λ (k : Simple). of_own_effect (with_outcome at ops (before_of k v)) arms) (type_by_number (simple_of t))) (room_for g st) (λ m. follows_moved g arms few to (at + 1) (sym e ∙ omega arith) (on m))
   finish_follows random t u go v at n to ops has st e waits on =
       arrives at (v ∷ ops) arms (b, checked, (ops, refl, lone g s (λ at n. RAND) st, value_moved to (at + 1) ops a_number u (sym e ∙ omega arith) waits))
   finish_follows eof t u go v at n to ops has st e waits on = never has
@@ -357,7 +360,7 @@ module _ (g : Setting) (b : Block) (names : List Level) (around : Around) (check
       let after : TakesValue g b x (mid + 1) ops arms (shape_of u) waits = subst (λ (y : Shape). TakesValue g b x (mid + 1) ops arms y waits) e (value_moved to (mid + 1) ops h waits (sym ends ∙ omega arith) left) in
       locates (read_for waits) (λ l. reads x l.spot waits) at n mid ops (front g code (one s (LOAD z)) st) refl
       (u, refl, load, room, after)
-      (λ l w lies. arrives mid (w ∷ ops) arms (b, checked, (u, w, ops, refl, lies, load, room, after)))
+      (λ l w lies. arrives mid (w ∷ ops) arms (b, checked, (u, w, ops, refl, lies, load, room, after, awaited_value g b x (mid + 1) ops arms u waits after)))
 
   -- arguments behind those that are given, for the parameters behind those that have one
   abbrev pub Passes : Code → List Formal → (List Argument → Call → Action) → Type 0
@@ -376,8 +379,15 @@ module _ (g : Setting) (b : Block) (names : List Level) (around : Around) (check
       let mid = at + args.size in
       let behind = back g args (one s i) (formals_cells forms sub.formals + length ops) sized (held at n (length ops)) st in
       let room = room_after g (suc (length ops)) (omega (arith, is.taken, is.leaves)) behind in
-      passes [] [] (to_function sub.scope u) at n mid ops ops (none_held ops) (front g args (one s i) st) refl
-      (is.taken, is.leaves, lone g s (λ at n. i) behind, room, value_moved to (mid + 1) ops a_number u (sym ends ∙ omega arith) (subst (λ (k : Shape). TakesValue g b x to ops arms k u) e waits))
+      passes [] [] (to_function sub.scope u) at n mid ops ops (none_held ops) (front g args (one s i) st) refl (
+        is.headed,
+        is.taken,
+        is.leaves,
+        lone g s (λ at n. i) behind,
+        room,
+        value_moved to (mid + 1) ops a_number u (sym ends ∙ omega arith)
+            (subst (λ (k : Shape). TakesValue g b x to ops arms k u) e waits),
+      )
 
   -- A name with its selectors or arguments. How selectors, arguments and predeclared functions follow is given.
   name_follows :
@@ -416,7 +426,7 @@ module _ (g : Setting) (b : Block) (names : List Level) (around : Around) (check
   -- an argument for a parameter, before others; how it follows is given, as a variable and as a value
   pub passed_follows :
       (f : Formal) (formals : List Formal) (args : ActualTrees) (lent given_code : Code) (from_l : AwaitsLocation → (TypedSpot → Action) → Action) (from_v : AwaitsValue → (Value → Action) → Action)
-      (L : Type 0) (G : Shape → Type 0) → IsPassed f L G → AreArguments s formals args
+      (L : Type 0) (G : Shape → Type 0) → IsPassed forms f L G → AreArguments s formals args
       → (L → IsSized lent × ((at n held : ℕ) → held_after g.program held (lent.put at n) ≡ 1 + held) × Locates lent f.t from_l)
       → ((h : Shape) → G h → IsSized given_code × ((at n held : ℕ) → held_after g.program held (given_code.put at n) ≡ shape_cells forms h + held) × Evaluates given_code h from_v)
       → Passes (args_code s formals args) formals (λ given call. from_args x formals args given call)
@@ -427,7 +437,7 @@ module _ (g : Setting) (b : Block) (names : List Level) (around : Around) (check
       else from_v (pass_value formals args given call) (λ v. from_args x formals args (given ++ by_value v ∷ []) call))
   passed_follows f formals args lent given_code from_l from_v L G is are lends gives on before given call at n to ops below held st e waits = by f.reference refl is st e
     where
-      by : (r : Bool) → f.reference ≡ r → Either r L ((t : TypeId) × (f.t ≡ Some t) × G (shape_of t))
+      by : (r : Bool) → f.reference ≡ r → Either r L ((t : TypeId) × (f.t ≡ Some t) × G (shape_of t) × IsValueType forms t)
           → Stands g at n (length ops) ((if r then lent else given_code) ⨾ args_code s formals args) → at + ((if r then lent else given_code) ⨾ args_code s formals args).size ≡ to
           → Follows g (if r then from_l (pass_variable formals args given call) (λ l. from_args x formals args (given ++ by_reference l.spot ∷ []) call) else from_v (pass_value formals args given call) (λ v. from_args x formals args (given ++ by_value v ∷ []) call)) at ops arms
       by true r is st e =
@@ -455,7 +465,7 @@ module _ (g : Setting) (b : Block) (names : List Level) (around : Around) (check
           let after : CallsAt g b x (mid + rest.size) below arms (before ++ f ∷ formals) call = subst (λ (y : ℕ). CallsAt g b x y below arms (before ++ f ∷ formals) call) (sym end) waits in
           let others : CallsAt g b x to below arms ((before ++ f ∷ []) ++ formals) call = subst (λ (fs : List Formal). CallsAt g b x to below arms fs call) (sym (append_assoc before (f ∷ []) formals)) waits in
           known.2 (pass_value formals args given call) (λ v. from_args x formals args (given ++ by_value v ∷ []) call) at n mid ops (front g given_code rest st) refl
-          (before, f, t, below, r, is.1, refl, held, are, k, behind, after)
+          (before, f, t, below, r, is.1, refl, held, are, k, behind, after, is.3)
           (λ v simple.
           let more : shape_cells forms h + length ops ≡ suc (length ops) = ap (λ (y : Shape). shape_cells forms y + length ops) simple ∙ omega arith in
           on (before ++ f ∷ []) (given ++ by_value (ordinal v) ∷ []) call mid k to (v ∷ ops) below

@@ -36,6 +36,7 @@ use Rattle.pfc_translation.specs.Expressions.{relation_instr, add_instr, multipl
 use Rattle.pfc_translation.specs.Calls.{formal_cells, formals_cells}
 use Rattle.pfc_translation.specs.Operands.{takes, leaves}
 use Rattle.pfc_standing_code.specs.Shapes.{Shape, a_number, a_whole, shape_of, shape_cells, IsSound}
+use Rattle.pfc_standing_code.specs.ValueTypes.{IsValueType}
 use Rattle.pfc_standing_code.specs.Typed.{IsDeclared, Either, IsPassed, IsFunction, IsUse, HasShape, HasShapeSimple, AreSummands, HasShapeTerm, AreMultipliers, HasShapeFactor, IsGivenFirst, IsLentFirst, IsGiven, IsLent, IsVariable, AreArguments, AreSelectors, AreIndices, IsDesig}
 use Rattle.pfc_following_expressions.proofs.Glue.{held_after, Changes, changes_both, changes_over}
 
@@ -164,11 +165,12 @@ module _ (s : Site) (sound : IsSound (forms_of s)) where
 
   formal_changes :
       (f : Formal) (lent given : Code) (L : Type 0) (G : Shape → Type 0)
-      → IsPassed f L G → (L → Changes s.program lent 0 1) → ((h : Shape) → G h → Changes s.program given 0 (shape_cells (forms_of s) h))
+      → IsPassed (forms_of s) f L G → (L → Changes s.program lent 0 1) → ((h : Shape) → G h → Changes s.program given 0 (shape_cells (forms_of s) h))
       → Changes s.program (if f.reference then lent else given) 0 (formal_cells (forms_of s) f)
   formal_changes f lent given L G is l k = by f.reference is
     where
-      by : (r : Bool) → Either r L ((t : TypeId) × (f.t ≡ Some t) × G (shape_of t)) → Changes s.program (if r then lent else given) 0 (if r then 1 else type_cells (forms_of s) f.t)
+      by : (r : Bool) → Either r L ((t : TypeId) × (f.t ≡ Some t) × G (shape_of t) × IsValueType (forms_of s) t)
+          → Changes s.program (if r then lent else given) 0 (if r then 1 else type_cells (forms_of s) f.t)
       by true is = l is
       by false is =
           let same : type_cells (forms_of s) f.t ≡ shape_cells (forms_of s) (shape_of is.0) = ap (λ (x : Option TypeId). type_cells (forms_of s) x) is.1 ∙ sym (shaped_cells (forms_of s) sound is.0) in

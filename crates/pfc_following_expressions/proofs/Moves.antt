@@ -1,5 +1,5 @@
 -- Quiet instructions: each leads to what follows behind it.
-use Rattle.std.proofs.Common.{◌≡◌, ℕ, suc, ◌+◌, ◌<◌, ◌≤◌, max, ℤ, Bool, true, false, if◌then◌else◌, List, ◌∷◌, length, Ok, Err, refl, ap, subst, arith}
+use Rattle.std.proofs.Common.{◌≡◌, ℕ, suc, ◌+◌, ◌<◌, ◌≤◌, ℤ, Bool, true, false, if◌then◌else◌, List, ◌∷◌, length, Ok, Err, refl, ap, subst, arith}
 use Rattle.pfc_base.specs.declared.faults.RunFault.{RunFault}
 use Rattle.pfc_code.specs.declared.instructions.Instr.{Instr}
 use Rattle.pfc_code.specs.declared.instructions.Instr.TheVariants.{ADD, SUB, MUL, DIV, MOD, AND, OR, EQ, NE, LT, LE, GT, GE, JMP, JF}
@@ -10,8 +10,8 @@ use Rattle.pfc_tree.specs.declared.tree.AddOp.TheVariants.{Add, Sub, Or}
 use Rattle.pfc_tree.specs.declared.tree.MulOp.{MulOp}
 use Rattle.pfc_tree.specs.declared.tree.MulOp.TheVariants.{Mul, Div, Mod, And}
 use Rattle.pfc_values.specs.Numbers.{Outcome, is_true}
-use Rattle.pfc_machine.specs.Fits.{Reckons}
-use Rattle.pfc_machine.specs.Rows.{with_outcome}
+use Rattle.pfc_stacks.specs.Conditions.{Reckons}
+use Rattle.pfc_stacks.specs.Effects.{with_outcome}
 use Rattle.pfc_semantics.specs.Values.{Value, ordinal}
 use Rattle.pfc_semantics.specs.Operators.{added, multiplied, compared}
 use Rattle.pfc_semantics.specs.Remainders.{Context, Action, faults}
@@ -20,18 +20,18 @@ use Rattle.pfc_semantics.specs.Programs.{Block}
 use Rattle.pfc_translation.specs.Expressions.{relation_instr, add_instr, multiply_instr}
 use Rattle.pfc_translation.specs.Operands.{reads}
 use Rattle.pfc_standing_code.specs.Settings.{Setting, IsAt, Leads, arrived, jump}
-use Rattle.pfc_standing_code.specs.Effects.{Arm, onward, refuses, of_alone, effect_of, InSight, CanPerform}
+use Rattle.pfc_standing_code.specs.Effects.{Arm, onward, refuses, of_own_effect, effect_of, InSight, CanPerform}
 use Rattle.pfc_standing_code.specs.Following.{of_operands, Follows, arrives, moves}
 
 module _ (g : Setting) (arms : List Arm) where
   -- ## Effects
 
-  pub add_effect : (op : AddOp) (at : ℕ) (a b : ℤ) (ops : List ℤ) → effect_of g (add_instr op) at (b ∷ a ∷ ops) arms ≡ of_alone (with_outcome at ops (added op a b)) arms
+  pub add_effect : (op : AddOp) (at : ℕ) (a b : ℤ) (ops : List ℤ) → effect_of g (add_instr op) at (b ∷ a ∷ ops) arms ≡ of_own_effect (with_outcome at ops (added op a b)) arms
   add_effect Add at a b ops = refl
   add_effect Sub at a b ops = refl
   add_effect Or at a b ops = refl
 
-  pub multiply_effect : (op : MulOp) (at : ℕ) (a b : ℤ) (ops : List ℤ) → effect_of g (multiply_instr op) at (b ∷ a ∷ ops) arms ≡ of_alone (with_outcome at ops (multiplied op a b)) arms
+  pub multiply_effect : (op : MulOp) (at : ℕ) (a b : ℤ) (ops : List ℤ) → effect_of g (multiply_instr op) at (b ∷ a ∷ ops) arms ≡ of_own_effect (with_outcome at ops (multiplied op a b)) arms
   multiply_effect Mul at a b ops = refl
   multiply_effect Div at a b ops = refl
   multiply_effect Mod at a b ops = refl
@@ -91,7 +91,7 @@ module _ (g : Setting) (arms : List Arm) (few : length arms ≤ g.arms) where
   -- an instruction that leaves a number, or ends in a fault
   pub outcome_move :
       (b : Block) (x : Context) (o : Outcome) (go : Value → Action) (at : ℕ) (ops below : List ℤ) (i : Instr)
-      → IsAt g at i x.line → CanPerform g i ops → effect_of g i at ops arms ≡ of_alone (with_outcome at below o) arms → suc (length below) ≤ g.room
+      → IsAt g at i x.line → CanPerform g i ops → effect_of g i at ops arms ≡ of_own_effect (with_outcome at below o) arms → suc (length below) ≤ g.room
       → ((v : ℤ) → Follows g (go (ordinal v)) (at + 1) (v ∷ below) arms) → Follows g (with_number x o go) at ops arms
   outcome_move b x (Ok v) go at ops below i is can effect room on = next_move at ops i x.line (v ∷ below) is can effect room (on v)
   outcome_move b x (Err f) go at ops below i is can effect room on = fault_at b x f at ops i is can effect

@@ -9,14 +9,15 @@ use Rattle.pfc_types.specs.Fields.{FieldList}
 use Rattle.pfc_types.specs.declared.types.TypeId.{TypeId}
 use Rattle.pfc_types.specs.declared.types.TypeForm.TheVariants.{Array, Record}
 use Rattle.pfc_types.specs.rules.Expressions.{Env}
-use Rattle.pfc_machine.specs.Refs.{IsAddress}
-use Rattle.pfc_machine.specs.Rows.{is_within, element_word}
+use Rattle.pfc_stacks.specs.Refs.{IsAddress}
+use Rattle.pfc_stacks.specs.Effects.{is_within, element_word}
 use Rattle.pfc_semantics.specs.Values.{Selector, path_of}
 use Rattle.pfc_semantics.specs.Displays.{Spot, within}
 use Rattle.pfc_semantics.specs.Programs.{Block}
 use Rattle.pfc_translation.specs.Sites.{Site, forms_of, type_cells}
 use Rattle.pfc_translation.specs.Addresses.{fields_before}
-use Rattle.pfc_standing_code.specs.Shapes.{IsSound, IsPath, here, into_element, into_field}
+use Rattle.pfc_cells.specs.Shapes.{IsPath, here, into_element, into_field}
+use Rattle.pfc_standing_code.specs.Shapes.{IsSound}
 use Rattle.pfc_standing_code.specs.Settings.{View, Setting}
 use Rattle.pfc_standing_code.specs.Words.{first_word, IsWordAt, names_at, IsChecked}
 

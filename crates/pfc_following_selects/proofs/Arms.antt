@@ -24,10 +24,11 @@ use Rattle.pfc_code.specs.Operands.{receiving}
 use Rattle.pfc_translation.specs.Expressions.{expr_code, desig_code}
 use Rattle.pfc_translation.specs.Selects.{message_code, message_cells, receiver_code, receiver_cells}
 use Rattle.pfc_standing_code.specs.Sizes.{IsSized}
-use Rattle.pfc_standing_code.specs.Shapes.{Shape, shape_of, shape_cells, IsShaped, words_of}
+use Rattle.pfc_cells.specs.Shapes.{words_of}
+use Rattle.pfc_standing_code.specs.Shapes.{Shape, shape_of, shape_cells, IsShaped}
 use Rattle.pfc_standing_code.specs.Settings.{Setting, site_of, IsAt}
 use Rattle.pfc_standing_code.specs.Effects.{Arm, onward, refuses, arming, effect_of, CanPerform}
-use Rattle.pfc_standing_code.specs.TypedStatements.{IsChannel, IsMessage, IsReceiver}
+use Rattle.pfc_standing_code.specs.TypedStatements.{IsChannel, IsCarried, IsMessage, IsReceiver}
 use Rattle.pfc_standing_code.specs.Words.{IsWord, IsObject, IsChecked}
 use Rattle.pfc_standing_code.specs.Performs.{BranchAt, CommBranchAt, AlternativesAt, SelectAt, CommAt, IsOpen, AreOpen, of_message, of_signal, into_variable, into_nothing}
 use Rattle.pfc_standing_code.specs.Awaits.{ArmAt, HasMessage}
@@ -133,10 +134,10 @@ module _ (g : Setting) (b : Block) (names : List Level) (around : Around) (check
   -- a value that is offered, over the number of its channel
   pub value_armed :
       (channel : Spot) (t : Option TypeId) (u : TypeId) (i : ℤ) (h : Shape) (v : Value) (a : Alternative) (rest : List Alternative) (sel : Selecting) (at : ℕ) (below : List ℤ) (arms : List Arm)
-      → OthersFollow rest → h ≡ shape_of u → IsShaped forms h v → IsChannel forms t u → IsObject g s channel t i → length below ≤ g.room
+      → OthersFollow rest → h ≡ shape_of u → IsShaped forms h v → IsChannel forms t u → IsObject g s channel t i → IsCarried forms u → length below ≤ g.room
       → ArmAt g s x at (length below) a rest sel arms (λ to. ARMS (shape_cells forms h) to) (Behind g b x below k)
       → Follows g (from_alternatives x rest (with_open a sel (to_send channel v)) k) at (reverse (words_of v) ++ i ∷ below) arms
-  value_armed channel t u i h v a rest sel at below arms others e shaped carries object room ar =
+  value_armed channel t u i h v a rest sel at below arms others e shaped carries object some room ar =
       let is = shaped_is_of forms checked.sound u h v e shaped in
       let z = shape_cells forms h in
       let ops = reverse (words_of v) ++ i ∷ below in
@@ -147,7 +148,7 @@ module _ (g : Setting) (b : Block) (names : List Level) (around : Around) (check
       ap (λ (y : List ℤ). onward (at + 1) y (arms ++ record { by = instr; operands = take (z + 1) ops } ∷ [])) (words_dropped (words_of v) below i z count)
       ∙ ap (λ (y : List ℤ). onward (at + 1) below (arms ++ record { by = instr; operands = y } ∷ [])) (words_taken (words_of v) below i z count) in
       armed_follows a rest sel (to_send channel v) instr at ops below (reverse (words_of v) ++ i ∷ []) arms others ar.makes (fits g arms instr ops (omega (arith, size)) tt tt) effect room ar.room
-      (ar.to, z, refl, of_message t u i carries object is (ap (λ (y : Shape). shape_cells forms y) e) refl, ar.branch) ar.others
+      (ar.to, z, refl, of_message t u i carries object some is (ap (λ (y : Shape). shape_cells forms y) e) refl, ar.branch) ar.others
 
   receives_two : (z : ℕ) → 0 < z → receiving z ≡ 2
   receives_two zero h = absurd (omega arith)
@@ -156,16 +157,16 @@ module _ (g : Setting) (b : Block) (names : List Level) (around : Around) (check
   -- the address of a variable that is to receive, over the number of its channel
   pub target_armed :
       (channel : Spot) (t : Option TypeId) (u : TypeId) (i w : ℤ) (target : Spot) (a : Alternative) (rest : List Alternative) (sel : Selecting) (at : ℕ) (below : List ℤ) (arms : List Arm)
-      → OthersFollow rest → 0 < shape_cells forms (shape_of u) → IsChannel forms t u → IsObject g s channel t i → IsWord g.view s target (Some u) w → length below ≤ g.room
+      → OthersFollow rest → IsCarried forms u → IsChannel forms t u → IsObject g s channel t i → IsWord g.view s target (Some u) w → length below ≤ g.room
       → ArmAt g s x at (length below) a rest sel arms (λ to. ARMR (shape_cells forms (shape_of u)) to) (Behind g b x below k)
       → Follows g (from_alternatives x rest (with_open a sel (to_receive channel (Some target))) k) at (w ∷ i ∷ below) arms
   target_armed channel t u i w target a rest sel at below arms others some carries object lies room ar =
       let z = shape_cells forms (shape_of u) in
       let instr = ARMR z ar.to in
-      let two = receives_two z some in
+      let two = receives_two z some.0 in
       armed_follows a rest sel (to_receive channel (Some target)) instr at (w ∷ i ∷ below) below (w ∷ i ∷ []) arms others ar.makes (fits g arms instr (w ∷ i ∷ below) (omega (arith, two)) tt tt)
       (ap (λ (y : ℕ). onward (at + 1) (drop y (w ∷ i ∷ below)) (arms ++ record { by = instr; operands = take y (w ∷ i ∷ below) } ∷ [])) two) room ar.room
-      (ar.to, z, refl, into_variable t u i w target carries object lies refl some refl, ar.branch) ar.others
+      (ar.to, z, refl, into_variable t u i w target carries object some lies refl refl, ar.branch) ar.others
 
   -- the seconds of a `timeout`
   pub seconds_armed :
@@ -197,7 +198,7 @@ module _ (g : Setting) (b : Block) (names : List Level) (around : Around) (check
       let room : length ops ≤ g.room = (let all = room_for g c.stands in omega arith) in
       follows_moved g arms few (at + 0) at (omega arith)
       (armed_follows a rest sel (to_send channel a_signal) (ARMS 0 ar.to) (at + 0) (i ∷ ops) ops (i ∷ []) arms others ar.makes (fits g arms (ARMS 0 ar.to) (i ∷ ops) (omega arith) tt tt) refl room ar.room
-      (ar.to, 0, refl, of_signal t u i carries object refl refl refl, ar.branch) ar.others)
+      (ar.to, 0, refl, of_signal t u i carries object is refl refl refl, ar.branch) ar.others)
   message_follows channel t u i (Some e) a rest sel at ops arms others has carries object is c =
       let few : length arms ≤ g.arms = (let all = c.room in omega arith) in
       let value = expr_code s e in
@@ -208,10 +209,10 @@ module _ (g : Setting) (b : Block) (names : List Level) (around : Around) (check
       let room : length ops ≤ g.room = (let all = room_for g c.stands in omega arith) in
       expression_follows g b x checked arms few e (shape_of u) is.0 (offer_value channel a rest sel k) (λ v. from_alternatives x rest (with_open a sel (to_send channel v)) k) at c.n (i ∷ ops)
       (front g value (over s (λ to. ARMS (message_cells s (Some e)) to) c.between) c.stands)
-      (t, u, i, ops, refl, refl, carries, object, ar)
+      (t, u, i, ops, refl, refl, carries, is.2, object, ar)
       (λ v simple.
       let number : IsShaped forms (shape_of u) (ordinal v) = subst (λ (y : Shape). IsShaped forms y (ordinal v)) (sym simple) (v, refl) in
-      value_armed channel t u i (shape_of u) (ordinal v) a rest sel (at + value.size) ops arms others refl number carries object room ar)
+      value_armed channel t u i (shape_of u) (ordinal v) a rest sel (at + value.size) ops arms others refl number carries object is.2 room ar)
 
   pub receiver_follows :
       (channel : Spot) (t : Option TypeId) (u : TypeId) (i : ℤ) (d : Option DesigTree) (a : Alternative) (rest : List Alternative) (sel : Selecting) (at : ℕ) (ops : List ℤ) (arms : List Arm)
@@ -224,7 +225,7 @@ module _ (g : Setting) (b : Block) (names : List Level) (around : Around) (check
       let room : length ops ≤ g.room = (let all = room_for g c.stands in omega arith) in
       follows_moved g arms few (at + 0) at (omega arith)
       (armed_follows a rest sel (to_receive channel None) (ARMR 0 ar.to) (at + 0) (i ∷ ops) ops (i ∷ []) arms others ar.makes (fits g arms (ARMR 0 ar.to) (i ∷ ops) (omega arith) tt tt) refl room ar.room
-      (ar.to, 0, refl, into_nothing t u i carries object refl refl, ar.branch) ar.others)
+      (ar.to, 0, refl, into_nothing t u i carries object is refl refl, ar.branch) ar.others)
   receiver_follows channel t u i (Some d) a rest sel at ops arms others has carries object is c =
       let few : length arms ≤ g.arms = (let all = c.room in omega arith) in
       let target = desig_code s d in
@@ -232,7 +233,7 @@ module _ (g : Setting) (b : Block) (names : List Level) (around : Around) (check
       let made = arm_at a rest sel arms (Behind g b x ops k) target (λ to. ARMR (receiver_cells s (Some d)) to) at (suc (length ops)) (length ops) (suc (suc (length ops))) (λ to. plain_branch g s x to (length ops) (Behind g b x ops k) a a.comm has) (sized_desig s d)
       (λ n. held_grown g.program target 1 (desig_changes s checked.sound d (Some u) is.0) at n (suc (length ops)) ∙ omega arith) c in
       let ar = subst (λ (z : ℕ). ArmAt g s x (at + target.size) (length ops) a rest sel arms (λ to. ARMR z to) (Behind g b x ops k)) is.1 made in
-      let some : 0 < w = subst (λ (y : ℕ). 0 < y) is.1 is.2 in
+      let some = is.2 in
       let room : length ops ≤ g.room = (let all = room_for g c.stands in omega arith) in
       variable_follows g b x checked arms few d (Some u) is.0 (offer_into channel a rest sel k) (λ v. from_alternatives x rest (with_open a sel (to_receive channel (Some v.spot))) k) at c.n (i ∷ ops)
       (front g target (over s (λ to. ARMR (receiver_cells s (Some d)) to) c.between) c.stands)

@@ -1,5 +1,5 @@
 -- The branch of an alternative performs what is left behind it.
-use Rattle.std.proofs.Common.{◌≡◌, ℕ, ◌+◌, ℤ, List, [], length, Option, Some, None, refl, sym, subst, arith}
+use Rattle.std.proofs.Common.{◌≡◌, ℕ, ◌+◌, ℤ, List, [], ◌∷◌, length, Option, Some, None, refl, sym, subst, arith}
 use Rattle.pfc_tree.specs.trees.Stmts.{StmtTrees, no_stmts, more_stmts}
 use Rattle.pfc_types.specs.rules.Statements.{within_accept}
 use Rattle.pfc_semantics.specs.Programs.{Block}
@@ -10,11 +10,12 @@ use Rattle.pfc_semantics.specs.Statements.{behind}
 use Rattle.pfc_translation.specs.Codes.{nothing, ◌⨾◌}
 use Rattle.pfc_translation.specs.Selects.{replica_code}
 use Rattle.pfc_translation.specs.Statements.{stmt_code}
-use Rattle.pfc_standing_code.specs.Settings.{Setting, site_of, Stands, arrived}
+use Rattle.pfc_standing_code.specs.Settings.{Setting, site_of, with_accept, Stands, Leads, arrived, same_block}
 use Rattle.pfc_standing_code.specs.TypedStatements.{IsReplica}
 use Rattle.pfc_standing_code.specs.Words.{IsChecked}
 use Rattle.pfc_standing_code.specs.Performs.{StmtsAt, MetAt, BranchAt, Performs}
 use Rattle.pfc_translation.specs.Sites.{in_accept}
+use Rattle.pfc_kept_code.proofs.Seen.{stands_shown, leads_shown}
 use Rattle.pfc_following_selects.specs.Phrases.{Behind, BranchPerforms, MeetingPerforms}
 use Rattle.pfc_following_selects.proofs.Jumps.{performs_led, performs_at, stands_alone, behind_performs}
 
@@ -55,26 +56,43 @@ module _ (g : Setting) (b : Block) (x : Context) where
 
   met_performs :
       (a : Accepting) (m : ℕ) (ts : StmtTrees) (caller : ℕ) (k : Remainder) (at : ℕ) (ops : List ℤ)
-      → IsChecked g b x.env → IsChecked g b (within_accept x.env a.scope) → MetAt g (site_of g b x) at (length ops) (Some a) m ts (Behind g b x ops k)
-      → Performs g b x.env at ops [] (met a m ts caller k)
+      → IsChecked g b x.env → IsChecked (with_accept g a.scope caller) b (within_accept x.env a.scope)
+      → MetAt g (site_of g b x) at (length ops) (Some a) m ts (Behind g b x ops k)
+      → Performs (with_accept g a.scope caller) b x.env at ops [] (met a m ts caller k)
   met_performs a m ts caller k at ops outer inner h =
+      let inside : Setting = with_accept g a.scope caller in
       let s = in_accept (site_of g b x) a.scope in
+      let then = h.1 in
       let code = stmt_code s (a.scope + 1) a.stmt in
       let to = at + code.size in
-      let all : StmtsAt g s at h.0 (length ops) (a.scope + 1) (more_stmts a.stmt no_stmts) = record { typed = (h.1.typed, tt); code = stands_alone g at h.0 (length ops) code h.1.code } in
+      let all : StmtsAt inside s at then.0 (length ops) (a.scope + 1) (more_stmts a.stmt no_stmts) =
+      record {
+        typed = (then.1.typed, tt);
+        code = stands_alone inside at then.0 (length ops) code (stands_shown g g.view (a.scope ∷ g.accepts) (caller ∷ g.meetings) at then.0 (length ops) code then.1.code);
+      } in
       let left = part_from caller a.line (in_names x.env (behind m ts k)) in
-      let parts : Performs g b (within_accept x.env a.scope) to ops [] left = (refl, (to, arrived to, (h.2.0, (b, outer, behind_performs g b x.env x.line m ts k (to + 1) ops h.2.1)))) in
-      (b, inner, (refl, (at, arrived at, (x.line, (h.0, all, performs_at g b (within_accept x.env a.scope) left to (at + (code ⨾ nothing).size) ops (omega arith) parts)))))
+      let parts : Performs inside b (within_accept x.env a.scope) to ops [] left =
+      (refl, (to, arrived to, (then.2.0, refl, tt, (b, same_block, outer, behind_performs g b x.env x.line m ts k (to + 1) ops then.2.1)))) in
+      let rest = performs_at inside b (within_accept x.env a.scope) left to (at + (code ⨾ nothing).size) ops (omega arith) parts in
+      (b, same_block, inner, (refl, (at, arrived at, (x.line, (then.0, all, rest)))))
+
+module _ (g : Setting) (b : Block) (x : Context) where
+  -- in a meeting, where one more accept is open
+  led_inside : (n caller at to : ℕ) (k : Remainder) (ops : List ℤ) → Leads g at to → Performs (with_accept g n caller) b x.env to ops [] k
+      → Performs (with_accept g n caller) b x.env at ops [] k
+  led_inside n caller at to k ops leads h = performs_led (with_accept g n caller) b x.env k at to ops [] (leads_shown g g.view (n ∷ g.accepts) (caller ∷ g.meetings) at to leads) h
 
   meeting_by :
       (r : Option Replica) (a : Accepting) (m : ℕ) (ts : StmtTrees) (caller : ℕ) (k : Remainder) (at : ℕ) (ops : List ℤ)
-      → IsChecked g b x.env → IsChecked g b (within_accept x.env a.scope) → BranchAt g (site_of g b x) at (length ops) r (Some a) m ts (Behind g b x ops k)
-      → Performs g b x.env at ops [] (behind_replica r (met a m ts caller k))
-  meeting_by None a m ts caller k at ops outer inner h = met_performs a m ts caller k at ops outer inner h
+      → IsChecked g b x.env → IsChecked (with_accept g a.scope caller) b (within_accept x.env a.scope)
+      → BranchAt g (site_of g b x) at (length ops) r (Some a) m ts (Behind g b x ops k)
+      → Performs (with_accept g a.scope caller) b x.env at ops [] (behind_replica r (met g b x a m ts caller k))
+  meeting_by None a m ts caller k at ops outer inner h = met_performs g b x a m ts caller k at ops outer inner h
   meeting_by (Some r) a m ts caller k at ops outer inner h =
-      let end = at + (replica_code (site_of g b x) (Some r)).size in
-      written_performs r h.2 (met a m ts caller k) at ops h.0 h.1 h.3
-      (performs_led g b x.env (met a m ts caller k) end h.4.0 ops [] h.4.1 (met_performs a m ts caller k h.4.0 ops outer inner h.4.2))
+      let write = replica_code (site_of g b x) (Some r) in
+      written_performs (with_accept g a.scope caller) b x r h.2 (met g b x a m ts caller k) at ops h.0 h.1
+      (stands_shown g g.view (a.scope ∷ g.accepts) (caller ∷ g.meetings) at h.2 (length ops) write h.3)
+      (led_inside a.scope caller (at + write.size) h.4.0 (met g b x a m ts caller k) ops h.4.1 (met_performs g b x a m ts caller k h.4.0 ops outer inner h.4.2))
 
   pub meeting_performs : MeetingPerforms g b x
   meeting_performs o a caller k at ops outer inner h = meeting_by o.replica a o.next o.stmts caller k at ops outer inner h

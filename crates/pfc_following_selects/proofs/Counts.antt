@@ -9,7 +9,8 @@ use Rattle.pfc_types.specs.Fields.{FieldList}
 use Rattle.pfc_types.specs.declared.types.TypeId.{TypeId}
 use Rattle.pfc_semantics.specs.Values.{Value, Values}
 use Rattle.pfc_translation.specs.Addresses.{fields_before}
-use Rattle.pfc_standing_code.specs.Shapes.{Shape, a_number, a_whole, shape_of, shape_cells, IsSound, words_of, words_in, IsOf, is_number, is_array, is_record, AreOf, none_of, one_of, AreFieldsOf, no_field, one_field, IsShaped}
+use Rattle.pfc_cells.specs.Shapes.{words_of, words_in}
+use Rattle.pfc_standing_code.specs.Shapes.{Shape, a_number, a_whole, shape_of, shape_cells, IsSound, IsOf, is_number, is_array, is_record, AreOf, none_of, one_of, AreFieldsOf, no_field, one_field, IsShaped}
 use Rattle.pfc_following_expressions.proofs.Held.{shaped_cells}
 
 module _ (forms : Forms) (sound : IsSound forms) where

@@ -17,7 +17,7 @@ use Rattle.pfc_standing_code.specs.Performs.{StmtsThen, Performs}
 
 -- what is left is performed from a jump on
 pub performs_jumped : (g : Setting) (b : Block) (env : Env) (k : Remainder) (at to : ℕ) (ops : List ℤ) (arms : List Arm) (line : ℕ) → IsAt g at (JMP to) line → at < to → Performs g b env to ops arms k → Performs g b env at ops arms k
-performs_jumped g b env (in_names inner k) at to ops arms line is up h = (h.0, h.1, performs_jumped g h.0 inner k at to ops arms line is up h.2)
+performs_jumped g b env (in_names inner k) at to ops arms line is up h = (h.0, h.1, h.2, performs_jumped g h.0 inner k at to ops arms line is up h.3)
 performs_jumped g b env (go_through l a rest sel k) at to ops arms line is up h = (h.0, jump at to h.0 line is up h.1, h.2)
 performs_jumped g b env (ends l) at to ops arms line is up h = (h.0, (h.1.0, jump at to h.1.0 line is up h.1.1, h.1.2))
 performs_jumped g b env (perform m ts k) at to ops arms line is up h = (h.0, (h.1.0, jump at to h.1.0 line is up h.1.1, h.1.2))

@@ -17,13 +17,13 @@ use Rattle.pfc_semantics.specs.Programs.{Block}
 use Rattle.pfc_semantics.specs.Remainders.{Context, Replica, Accepting, Alternative, Otherwise, Selecting, Remainder}
 use Rattle.pfc_semantics.specs.Expressions.{spot_of}
 use Rattle.pfc_semantics.specs.Alternatives.{replicas_from, replicas_between, replicas_by, replicas, alternative, spread_out, alternatives, accepting_of, from_alternatives, select_begun}
-use Rattle.pfc_translation.specs.Sites.{Site, at_line, in_accept, context_of}
+use Rattle.pfc_translation.specs.Sites.{Site, at_line, in_accept, context_of, blocks_of}
 use Rattle.pfc_translation.specs.Codes.{Code, nothing, ◌⨾◌, one, over, with_arms}
 use Rattle.pfc_translation.specs.Selects.{replica_code, alternatives_code}
 use Rattle.pfc_translation.specs.Statements.{spread_of, spread_replicas, chosen_code, replica_branches, branches_from, sel_code, select_code, stmt_code, stmts_code, met_code, branch_code, branches_code, distances}
 use Rattle.pfc_standing_code.specs.Sizes.{IsSized}
 use Rattle.pfc_standing_code.specs.Settings.{Setting, site_of, IsAt, Stands, arrived, jump}
-use Rattle.pfc_standing_code.specs.TypedStatements.{IsSimpleVariable, IsReplica, IsSpread, AreTyped, IsMetTyped, IsAltTyped, AreAltsTyped}
+use Rattle.pfc_standing_code.specs.TypedStatements.{IsSimpleVariable, IsReplica, IsSpread, AcceptsEntry, AreTyped, IsMetTyped, IsAltTyped, AreAltsTyped}
 use Rattle.pfc_standing_code.specs.Words.{IsChecked}
 use Rattle.pfc_standing_code.specs.Performs.{MetAt, BranchAt, accepted_in, CommBranchAt, BranchesAt, DecidesAt, SelectAt, StmtThen, StmtsThen}
 use Rattle.pfc_standing_code.specs.Following.{Follows}
@@ -121,17 +121,18 @@ module _ (g : Setting) (b : Block) (names : List Level) (around : Around) (check
 
   accept_met :
       (a : Accepting) (m between at n : ℕ) (inner : Code) (ss : StmtTrees) → inner ≡ stmt_code (in_accept s a.scope) (a.scope + 1) a.stmt → IsSized inner → Changes g.program inner 0 0
+      → AcceptsEntry (blocks_of s) s.block.scope a.entry a.scope
       → ((n : ℕ) → Stands g at n held inner → StmtThen g (in_accept s a.scope) at held (a.scope + 1) a.stmt (λ to. to ≡ at + inner.size))
       → AreTyped s m ss → Stands g at n held ((inner ⨾ one (at_line s a.line) EACC) ⨾ stmts_code s m ss ⨾ over s JMP between) → P (at + ((inner.size + 1) + (stmts_code s m ss).size))
       → MetAt g s at held (Some a) m ss P
-  accept_met a m between at n inner ss same sized changes stmt typed st end =
+  accept_met a m between at n inner ss same sized changes entry stmt typed st end =
       let code = stmts_code s m ss in
       let parts = meeting inner (code ⨾ over s JMP between) a.line at n sized changes st in
       let first = stmt parts.first.0 parts.first.1 in
       let to = at + inner.size in
       let left : IsAt g to EACC a.line × StmtsThen g s (to + 1) held m ss P =
       (parts.ended, stmts_then m between (to + 1) parts.left.0 ss typed parts.left.1 (performs_at g b x.env k (at + ((inner.size + 1) + code.size)) (to + 1 + code.size) ops (omega arith) end)) in
-      (first.0, first.1, subst (λ (y : ℕ). IsAt g y EACC a.line × StmtsThen g s (y + 1) held m ss P) (sym first.2) left)
+      (entry, (first.0, first.1, subst (λ (y : ℕ). IsAt g y EACC a.line × StmtsThen g s (y + 1) held m ss P) (sym first.2) left))
 
   met_stands :
       (comm : CommTree) (m between at n : ℕ) (ss : StmtTrees) → IsMetTyped s m comm → AreTyped s (m + comm_scopes comm) ss
@@ -140,13 +141,13 @@ module _ (g : Setting) (b : Block) (names : List Level) (around : Around) (check
       → MetAt g s at held (accepted_in x m comm) (m + comm_scopes comm) ss P
   met_stands (comm_accept (accept y gs q) p) m between at n ss is typed st end =
       let acc = comm_accept (accept y gs q) p in
-      accept_met (accepting_of x m (accept y gs q) p.line) (m + comm_scopes acc) between at n nothing ss refl sized_nothing (changes_nothing g.program 0)
+      accept_met (accepting_of x m (accept y gs q) p.line) (m + comm_scopes acc) between at n nothing ss refl sized_nothing (changes_nothing g.program 0) is
       (λ n inner. (n, record { typed = tt; code = inner }, refl)) typed st end
   met_stands (comm_accept (accept_do y gs t q) p) m between at n ss is typed st end =
       let acc = comm_accept (accept_do y gs t q) p in
       let inner = stmt_code (in_accept s m) (m + 1) t in
       accept_met (accepting_of x m (accept_do y gs t q) p.line) (m + comm_scopes acc) between at n inner ss refl (sized_stmt (in_accept s m) (m + 1) t)
-      (stmt_changes t (in_accept s m) (m + 1) checked.sound is) (λ n inner_at. (n, record { typed = is; code = inner_at }, refl)) typed st end
+      (stmt_changes t (in_accept s m) (m + 1) checked.sound is.1) is.0 (λ n inner_at. (n, record { typed = is.1; code = inner_at }, refl)) typed st end
   met_stands (comm_send d e p) m between at n ss is typed st end = plain_met (m + comm_scopes (comm_send d e p)) between at n ss typed st end
   met_stands (comm_receive d v p) m between at n ss is typed st end = plain_met (m + comm_scopes (comm_receive d v p)) between at n ss typed st end
   met_stands (timeout e p) m between at n ss is typed st end = plain_met (m + comm_scopes (timeout e p)) between at n ss typed st end

@@ -11,7 +11,7 @@ use Rattle.pfc_semantics.specs.Statements.{behind}
 use Rattle.pfc_translation.specs.Codes.{Code, nothing}
 use Rattle.pfc_translation.specs.Selects.{comm_code, guarded_code}
 use Rattle.pfc_translation.specs.Statements.{stmts_code, branches_code, distances, select_code}
-use Rattle.pfc_standing_code.specs.Settings.{Setting, site_of}
+use Rattle.pfc_standing_code.specs.Settings.{Setting, site_of, with_accept}
 use Rattle.pfc_standing_code.specs.Effects.{Arm}
 use Rattle.pfc_standing_code.specs.TypedStatements.{AreTyped, IsGuard, AreAltsTyped}
 use Rattle.pfc_standing_code.specs.Words.{IsChecked}
@@ -73,11 +73,11 @@ BranchPerforms g b x =
     → BranchAt g (site_of g b x) at (length ops) r None m ts (Behind g b x ops k)
     → Performs g b x.env at ops [] (behind_replica r (behind m ts k))
 
--- The branch of an accept performs the meeting: the write of its variable, the statement of the accept, in which its parameters are in view, its
--- end, and its statements. What is seen is what the meeting has made.
+-- The branch of an accept performs the meeting, in which that accept is open: the write of its variable, the statement of the accept, in which its
+-- parameters are in view, its end, and its statements. What is seen is what the meeting has made.
 abbrev pub MeetingPerforms : Setting → Block → Context → Type 0
 MeetingPerforms g b x =
     (o : Open) (a : Accepting) (caller : ℕ) (k : Remainder) (at : ℕ) (ops : List ℤ)
-    → IsChecked g b x.env → IsChecked g b (within_accept x.env a.scope)
+    → IsChecked g b x.env → IsChecked (with_accept g a.scope caller) b (within_accept x.env a.scope)
     → BranchAt g (site_of g b x) at (length ops) o.replica (Some a) o.next o.stmts (Behind g b x ops k)
-    → Performs g b x.env at ops [] (meeting_of x a o caller k)
+    → Performs (with_accept g a.scope caller) b x.env at ops [] (meeting_of x a o caller k)

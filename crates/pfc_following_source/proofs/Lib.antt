@@ -1,4 +1,4 @@
 mod Places
 mod Source
-mod Seen
 mod Behind
+mod Meetings

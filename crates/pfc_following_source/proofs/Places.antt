@@ -43,12 +43,12 @@ module _ (g : Setting) (at : ℕ) where
   of_turn (of_count d a last kept w below e before is rest) = there _ _ is
 
   of_call : (b : Block) (x : Context) (below : List ℤ) (arms : List Arm) (formals : List Formal) (call : Call) → CallsAt g b x at below arms formals call → There g at
-  of_call b x below arms formals (to_procedure scope k) h = there _ _ h.1.2
-  of_call b x below arms formals (to_function scope u) h = there _ _ h.2
-  of_call b x below arms formals (to_module n scope k) h = there _ _ h.1.1
-  of_call b x below arms formals (to_requeue scope) h = there _ _ h.1.1
-  of_call b x below arms formals (to_process v k) h = there _ _ h.1.9
-  of_call b x below arms formals (to_entry v entry k) h = there _ _ h.1.8
+  of_call b x below arms formals (to_procedure scope k) h = there _ _ h.1.3
+  of_call b x below arms formals (to_function scope u) h = there _ _ h.3
+  of_call b x below arms formals (to_module n scope k) h = there _ _ h.1.2
+  of_call b x below arms formals (to_requeue scope) h = there _ _ h.1.2
+  of_call b x below arms formals (to_process v k) h = there _ _ h.1.10
+  of_call b x below arms formals (to_entry v entry k) h = there _ _ h.1.9
 
   of_meeting : (b : Block) (x : Context) (ops : List ℤ) (o : Open) (offer : Offer) (k : Remainder) → MeetsBy g b x at ops o offer k → There g at
   of_meeting b x ops o (to_send channel v) k h = there _ _ h.5
@@ -85,7 +85,7 @@ module _ (g : Setting) (at : ℕ) where
   stands_there (meets x o k) ops arms h = of_meeting h.0 x ops o o.offer k h.2.1.1
   stands_there (decides x sel k) ops arms h = of_decision _ (length ops) sel.pri sel.otherwise _ h.2.0
   stands_there (parts x caller k) ops arms h = there _ _ h.2.1.0
-  stands_there (scans x scan k) ops arms h = there _ _ h.2.1.0
-  stands_there (bars x bar k) ops arms h = there _ _ h.2.1.5
-  stands_there (passes x w scan k) ops arms h = there _ _ h.2.1.7
+  stands_there (scans x scan k) ops arms h = there _ _ h.2.1.2
+  stands_there (bars x bar k) ops arms h = there _ _ h.2.1.6
+  stands_there (passes x w scan k) ops arms h = there _ _ h.2.1.5
   stands_there (faults x f) ops arms h = of_fault h.2

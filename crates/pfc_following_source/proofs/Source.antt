@@ -31,8 +31,8 @@ module _ (g : Setting) where
       }
 
   pub source_followed : CodeFollowsSource g
-  source_followed (going env k) at ops arms room few h = follows_leads _ at ops arms room few (remainder_follows g k h.0 env at ops arms h.1 room h.2)
-  source_followed (holding x v u) at ops arms room few h =
-      let fit = subst (λ (y : List ℤ). length y ≤ g.room) h.5 room in
+  source_followed (going env k) at ops arms room few h = follows_leads _ at ops arms room few (remainder_follows g k h.0 env at ops arms h.1.0 room h.1.1)
+  source_followed (holding x v u) at ops arms room few (b, h) =
+      let fit = subst (λ (y : List ℤ). length y ≤ g.room) h.4 room in
       follows_leads (from_value x u v) at ops arms room few
-      (subst (λ (y : List ℤ). Follows g (from_value x u v) at y arms) (sym h.5) (values_follow_anywhere g h.0 x h.3 u h.1 v at h.2 arms few fit h.4 h.6))
+      (subst (λ (y : List ℤ). Follows g (from_value x u v) at y arms) (sym h.4) (values_follow_anywhere g b x h.2 u h.0 v at h.1 arms few fit h.3 h.5))

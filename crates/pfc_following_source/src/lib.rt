@@ -6,4 +6,4 @@
 
 mod laws;
 
-pub use laws::{actions_lead_on, code_follows_source};
+pub use laws::{actions_lead_on, code_follows_source, meetings_lead_on};

@@ -1,49 +1,57 @@
 -- The code of an activation and of the call of an entry follows the next action of its source text, and so does that of every call.
-use Rattle.std.proofs.Common.{◌≡◌, ℕ, suc, ◌+◌, ◌≤◌, ℤ, true, List, [], ◌∷◌, length, Option, Some, None, refl, sym, ◌∙◌, subst, arith}
+use Rattle.std.proofs.Common.{◌≡◌, ℕ, suc, ◌+◌, ◌≤◌, ℤ, pos, List, [], ◌∷◌, length, option_map, Option, Some, None, refl, sym, ap, ◌∙◌, subst, arith}
 use Rattle.pfc_base.specs.declared.places.Place.{Place}
 use Rattle.pfc_code.specs.declared.instructions.Instr.{Instr}
 use Rattle.pfc_code.specs.declared.instructions.Instr.TheVariants.{OBJ, NEW, ECALL}
 use Rattle.pfc_tree.specs.Symbols.{Text}
-use Rattle.pfc_tree.specs.trees.Exprs.{DesigTree, SelectorTrees, ActualTrees, desig, no_selectors}
+use Rattle.pfc_tree.specs.trees.Exprs.{DesigTree, SelectorTrees, ExprTrees, ActualTrees, desig, index, field, no_selectors, more_selectors, no_exprs, more_exprs}
+use Rattle.pfc_types.specs.Types.{Forms, array_form, field_form}
 use Rattle.pfc_types.specs.Scopes.{Level, meaning_of, meaning_in, scope_at}
 use Rattle.pfc_types.specs.Blocks.{module_at, process_at, entry_at}
-use Rattle.pfc_types.specs.rules.Expressions.{find, selected}
+use Rattle.pfc_types.specs.rules.Expressions.{find, selected, field_type}
 use Rattle.pfc_types.specs.rules.Calls.{last_field, before_last}
 use Rattle.pfc_types.specs.declared.types.TypeId.{TypeId}
 use Rattle.pfc_types.specs.declared.scope.Meaning.{Meaning}
 use Rattle.pfc_types.specs.declared.scope.Meaning.TheVariants.{Constant, Named, Variable, Sub, Module, Process, Entry, Predeclared, Faulty}
+use Rattle.pfc_types.specs.declared.types.TypeForm.{TypeForm}
 use Rattle.pfc_types.specs.declared.heads.Formal.{Formal}
+use Rattle.pfc_types.specs.declared.heads.ProcessHead.{ProcessHead}
 use Rattle.pfc_types.specs.declared.view.Around.{Around}
 use Rattle.pfc_types.specs.declared.view.Found.{Found}
 use Rattle.pfc_semantics.specs.Displays.{TypedSpot}
 use Rattle.pfc_semantics.specs.Predeclared.{procedure_of}
 use Rattle.pfc_semantics.specs.Programs.{Block, block_number}
 use Rattle.pfc_semantics.specs.Remainders.{Context, Remainder, AwaitsLocation, Call, Action, activate_with, enter_with, to_process, to_entry}
-use Rattle.pfc_semantics.specs.Expressions.{spot_of, from_selectors, from_args}
+use Rattle.pfc_semantics.specs.Expressions.{spot_of, form_in, from_selectors, from_args}
 use Rattle.pfc_semantics.specs.Statements.{name_in_process, process_of_type, from_activation, from_entry, from_process, from_field, from_called_variable, from_called_process, from_exported, from_module, from_called, from_call}
 use Rattle.pfc_translation.specs.Sites.{Site, blocks_of}
 use Rattle.pfc_translation.specs.Codes.{Code, ◌⨾◌, one}
-use Rattle.pfc_translation.specs.Addresses.{base_code}
+use Rattle.pfc_translation.specs.Addresses.{base_code, element_in, type_behind}
 use Rattle.pfc_translation.specs.Expressions.{args_code, selectors_code}
 use Rattle.pfc_translation.specs.Calls.{formals_cells, exported_code, module_code, activation_code, entry_code, process_code, field_code, called_variable, called_process, called_code, found_code, call_code}
 use Rattle.pfc_code_laws.proofs.Expressions.{plain_selectors}
-use Rattle.pfc_standing_code.specs.Shapes.{is_object_type}
 use Rattle.pfc_standing_code.specs.Settings.{Setting, site_of, IsAt, Stands}
-use Rattle.pfc_standing_code.specs.Typed.{IsDeclared, AreArguments, AreSelectors}
-use Rattle.pfc_standing_code.specs.TypedStatements.{IsActivation, IsEntryCall, IsEntry, IsProcess, IsField, IsCalledVariable, IsCalledProcess, IsExported, IsModuleCall, IsCalled, IsCall}
-use Rattle.pfc_standing_code.specs.Words.{IsObject, IsChecked, none_held}
+use Rattle.pfc_standing_code.specs.Typed.{IsDeclared, IsField as IsPartField, AreArguments, AreSelectors, AreIndices}
+use Rattle.pfc_standing_code.specs.TypedStatements.{HasProcessForm, IsProcessType, IsActivation, IsEntryCall, IsEntry, IsProcess, IsField, IsCalledVariable, IsCalledProcess, IsExported, IsModuleCall, IsCalled, IsCall}
+use Rattle.pfc_standing_code.specs.Words.{first_word, IsWord, IsObject, IsChecked, none_held}
 use Rattle.pfc_standing_code.specs.Performs.{Performs}
 use Rattle.pfc_standing_code.specs.Awaits.{ObjectThen, TakesLocation, CallsAt}
 use Rattle.pfc_standing_code.specs.Following.{Follows}
 use Rattle.pfc_standing_code.proofs.Sizes.{sized_both, sized_plain, sized_base, sized_args}
 use Rattle.pfc_following_expressions.proofs.Glue.{front, back, lone}
 use Rattle.pfc_following_expressions.proofs.Held.{held_grown, args_change, part_changes}
-use Rattle.pfc_following_expressions.proofs.Expressions.{env_in, address_follows, selectors_follow}
+use Rattle.pfc_following_expressions.proofs.Expressions.{env_in, whole_part, base_follows, address_follows, selectors_follow}
+use Rattle.pfc_following_expressions.proofs.Moves.{follows_moved}
 use Rattle.pfc_following_expressions.proofs.Anywhere.{arguments_follow}
 use Rattle.pfc_following_statements.proofs.Grouping.{first_joined}
 use Rattle.pfc_following_statements.proofs.Simple.{process_is_object, performs_moved, object_parts, numbered_follows}
 use Rattle.pfc_following_statements.proofs.Items.{sub_follows, exported_follows}
 use Rattle.pfc_following_statements.proofs.Procedures.{procedure_follows}
+
+-- a field has a type
+field_behind : (forms : Forms) (t : Option TypeId) (y : Text) → (is : IsPartField forms t y) → field_type forms t y ≡ Some is.part
+field_behind forms t y is =
+    ap (λ (o : Option TypeId). field_type forms o y) is.typed ∙ ap (λ (f : Option TypeForm). field_form f y) is.form ∙ is.named
 
 module _ (g : Setting) (b : Block) (names : List Level) (around : Around) (checked : IsChecked g b (env_in g names around)) (few : 0 ≤ g.arms) (line : ℕ) where
   abbrev x : Context
@@ -59,51 +67,146 @@ module _ (g : Setting) (b : Block) (names : List Level) (around : Around) (check
   abbrev part : TypedSpot → SelectorTrees → Code
   part v ss = base_code s v.spot ⨾ selectors_code s v.t ss
 
-  -- A process, arguments, and the instruction that takes both. What waits for the process's address, and what is called, are given.
+  -- ## Selectors that lead to a single process
+
+  -- There are none: behind an index or a field there is a type.
+  behind_indices : (es : ExprTrees) (t : TypeId) → AreIndices s (Some t) es → (u : TypeId) × (type_behind g.program.state.forms (Some t) es ≡ Some u)
+  behind_indices no_exprs t are = (t, refl)
+  behind_indices (more_exprs e es) t are =
+      let array = are.0 in
+      let same : Some array.whole ≡ Some t = sym array.typed in
+      let form = ap (λ (o : Option TypeId). form_in g.program.state.forms o) (sym same) ∙ array.form in
+      let element : element_in g.program.state.forms (Some t) ≡ Some array.element = ap (λ (f : Option TypeForm). option_map (λ both. both.1) (array_form f))
+      form in
+      let rest = behind_indices es array.element (subst (λ (o : Option TypeId). AreIndices s o es) element are.2) in
+      (rest.0, ap (λ (o : Option TypeId). type_behind g.program.state.forms o es) element ∙ rest.1)
+
+  leads_nowhere : (ss : SelectorTrees) (t : TypeId) → AreSelectors s (Some t) ss None → ⊥
+  leads_nowhere no_selectors t are = cc
+  leads_nowhere (more_selectors (index es p) ss) t are =
+      let behind = behind_indices es t are.0 in leads_nowhere ss behind.0 (subst (λ (o : Option TypeId). AreSelectors s o ss None) behind.1 are.1)
+  leads_nowhere (more_selectors (field y p) ss) t are =
+      let behind = field_behind g.program.state.forms (Some t) y are.0 in leads_nowhere ss are.0.part
+      (subst (λ (o : Option TypeId). AreSelectors s o ss None) behind are.1)
+
+  -- so nothing is done between
+  bare_follows :
+      (ss : SelectorTrees) (v : TypedSpot) (w : ℤ) (goal : AwaitsLocation) (go : TypedSpot → Action) (at to : ℕ) (ops : List ℤ) → AreSelectors s v.t ss None
+      → at + (selectors_code s v.t ss).size ≡ to → (v.t ≡ None → Follows g (go v) to (w ∷ ops) []) → Follows g (from_selectors x v ss goal go) at (w ∷ ops) []
+  bare_follows no_selectors v w goal go at to ops are ends on = follows_moved g [] few to at (sym ends ∙ omega arith) (on are)
+  bare_follows (more_selectors (index no_exprs p) ss) v w goal go at to ops are ends on = bare_follows ss v w goal go at to ops are.1 (omega (arith, ends)) on
+  bare_follows (more_selectors (index (more_exprs e es) p) ss) v w goal go at to ops are ends on =
+      let array = are.0.0 in
+      absurd (leads_nowhere (more_selectors (index (more_exprs e es) p) ss) array.whole
+      (subst (λ (o : Option TypeId). AreSelectors s o (more_selectors (index (more_exprs e es) p) ss) None) array.typed are))
+  bare_follows (more_selectors (field y p) ss) v w goal go at to ops are ends on =
+      absurd (leads_nowhere ss are.0.part (subst (λ (o : Option TypeId). AreSelectors s o ss None) (field_behind g.program.state.forms v.t y are.0) are.1))
+
+  -- ## A process, arguments, and the instruction that takes both
+
+  -- the way to the process's address, which goes on with a part of this type that is a process of the q-th declaration
+  abbrev Reaches : ℕ → TypedSpot → SelectorTrees → Option TypeId → Code → AwaitsLocation → Remainder → Type 0
+  Reaches q v ss t code goal k =
+      (go : TypedSpot → Action) (at n mid : ℕ) (ops : List ℤ) → IsDeclared s v.spot v.t → AreSelectors s v.t ss t → IsProcessType s q v.spot t
+      → Stands g at n (length ops) (part v ss) → at + (part v ss).size ≡ mid → ObjectThen g s mid ops code (λ end. left end ops k)
+      → ((p : TypedSpot) (y : ℤ) → IsProcessType s q p.spot t → IsWord g.view s p.spot t y → Follows g (go p) mid (y ∷ ops) [])
+      → Follows g (from_selectors x v ss goal go) at ops []
+
+  reached_part :
+      (q : ℕ) (v : TypedSpot) (ss : SelectorTrees) (u : TypeId) (code : Code) (goal : AwaitsLocation) (k : Remainder)
+      → ((at : ℕ) (ops : List ℤ) → HasProcessForm s q u → ObjectThen g s at ops code (λ end. left end ops k) → TakesLocation g b x at ops [] (Some u) goal)
+      → Reaches q v ss (Some u) code goal k
+  reached_part q v ss u code goal k met go at n mid ops declared selects is st ends object on =
+      address_follows g b names around checked line [] few v ss (Some u) declared selects (selectors_follow g b names around checked line [] few ss) goal go
+      at n mid ops st ends (met mid ops is object) (λ p y lies. on p y is lies)
+
+  reached_single : (q : ℕ) (v : TypedSpot) (ss : SelectorTrees) (code : Code) (goal : AwaitsLocation) (k : Remainder) → Reaches q v ss None code goal k
+  reached_single q v ss code goal k go at n mid ops declared selects is st ends object on =
+      let base = base_code s v.spot in
+      base_follows g b names around checked line [] few v at n ops declared (front g base (selectors_code s v.t ss) st)
+      (bare_follows ss v (pos (first_word g.view s v.spot)) goal go (at + 1) mid ops selects (omega (arith, ends))
+      (λ untyped. on v (pos (first_word g.view s v.spot)) is
+      (subst (λ (o : Option TypeId). IsWord g.view s v.spot o (pos (first_word g.view s v.spot))) untyped
+      (whole_part g b names around checked line [] few v declared))))
+
+  -- What waits for the process's address, and what is called, are given.
   process_then :
-      (v : TypedSpot) (ss : SelectorTrees) (t : Option TypeId) (formals : List Formal) (args : ActualTrees) (i : Instr) (goal : AwaitsLocation) (call : TypedSpot → Call) (k : Remainder) (at n to : ℕ) (ops : List ℤ)
-      → IsDeclared s v.spot v.t → AreSelectors s v.t ss t → is_object_type g.program.state.forms t ≡ true → AreArguments s formals args
-      → Stands g at n (length ops) (part v ss ⨾ one s OBJ ⨾ args_code s formals args ⨾ one s i) → at + (part v ss ⨾ one s OBJ ⨾ args_code s formals args ⨾ one s i).size ≡ to → left to ops k
-      → ((at : ℕ) → ObjectThen g s at ops (args_code s formals args ⨾ one s i) (λ end. left end ops k) → TakesLocation g b x at ops [] t goal)
-      → ((p : TypedSpot) (at : ℕ) (j : ℤ) → IsObject g s p.spot t j → IsAt g at i line → left (at + 1) ops k → CallsAt g b x at (j ∷ ops) [] formals (call p))
+      (q : ℕ) (v : TypedSpot) (ss : SelectorTrees) (t : Option TypeId) (formals : List Formal) (args : ActualTrees) (i : Instr) (goal : AwaitsLocation)
+      (call : TypedSpot → Call) (k : Remainder) (at n to : ℕ) (ops : List ℤ)
+      → Reaches q v ss t (args_code s formals args ⨾ one s i) goal k
+      → IsDeclared s v.spot v.t → AreSelectors s v.t ss t → IsProcessType s q v.spot t → AreArguments s formals args
+      → Stands g at n (length ops) (part v ss ⨾ one s OBJ ⨾ args_code s formals args ⨾ one s i)
+      → at + (part v ss ⨾ one s OBJ ⨾ args_code s formals args ⨾ one s i).size ≡ to → left to ops k
+      → ((p : TypedSpot) (at : ℕ) (j : ℤ) → IsProcessType s q p.spot t → IsObject g s p.spot t j → IsAt g at i line → left (at + 1) ops k
+      → CallsAt g b x at (j ∷ ops) [] formals (call p))
       → Follows g (from_selectors x v ss goal (λ p. from_args x formals args [] (call p))) at ops []
-  process_then v ss t formals args i goal call k at n to ops declared selects object fit st ends rest met calls =
+  process_then q v ss t formals args i goal call k at n to ops reach declared selects process fit st ends rest calls =
       let address = part v ss in
       let inner = args_code s formals args in
       let code = inner ⨾ one s i in
       let w = formals_cells g.program.state.forms formals in
       let mid = at + address.size in
-      let sized = sized_both (base_code s v.spot) (selectors_code s v.t ss) (sized_base s v.spot) (sized_plain (selectors_code s v.t ss) (plain_selectors s v.t ss)) in
-      let parts = object_parts g b names around checked few line address code at n (length ops) sized (part_changes s checked.sound v ss t selects) (first_joined g address (one s OBJ) code st) in
+      let sized = sized_both (base_code s v.spot) (selectors_code s v.t ss) (sized_base s v.spot)
+      (sized_plain (selectors_code s v.t ss) (plain_selectors s v.t ss)) in
+      let parts = object_parts g b names around checked few line address code at n (length ops) sized (part_changes s checked.sound v ss t selects)
+      (first_joined g address (one s OBJ) code st) in
       let after = performs_moved g b names around checked few line to (mid + 1 + code.size) ops k (sym ends ∙ omega arith) rest in
-      let last = back g inner (one s i) (w + suc (length ops)) (sized_args s formals args) (held_grown g.program inner w (args_change s checked.sound formals args fit) (mid + 1) parts.i (suc (length ops))) parts.behind in
+      let last = back g inner (one s i) (w + suc (length ops)) (sized_args s formals args)
+      (held_grown g.program inner w (args_change s checked.sound formals args fit) (mid + 1) parts.i (suc (length ops))) parts.behind in
       let is_it = lone g s (λ at n. i) last in
       let after_last = performs_moved g b names around checked few line (mid + 1 + code.size) (mid + 1 + inner.size + 1) ops k (omega arith) after in
-      address_follows g b names around checked line [] few v ss t declared selects (selectors_follow g b names around checked line [] few ss) goal (λ p. from_args x formals args [] (call p)) at n mid ops parts.first refl
-      (met mid (parts.obj, parts.i, parts.behind, after))
-      (λ p y lies. numbered_follows g b names around checked few line p.spot t y mid ops lies object parts.obj parts.room
-      (λ j is. arguments_follow g b x checked [] few args formals fit [] [] (call p) (mid + 1) parts.i (j ∷ ops) (j ∷ ops) (none_held (j ∷ ops)) (front g inner (one s i) parts.behind)
-      (calls p (mid + 1 + inner.size) j is is_it after_last)))
+      reach (λ p. from_args x formals args [] (call p)) at n mid ops declared selects process parts.first refl (parts.obj, parts.i, parts.behind, after)
+      (λ p y is lies. numbered_follows g b names around checked few line p.spot t y mid ops lies (process_is_object s q p.spot t is) parts.obj parts.room
+      (λ j object. arguments_follow g b x checked [] few args formals fit [] [] (call p) (mid + 1) parts.i (j ∷ ops) (j ∷ ops) (none_held (j ∷ ops))
+      (front g inner (one s i) parts.behind) (calls p (mid + 1 + inner.size) j is object is_it after_last)))
 
   pub activation_follows :
       (q : ℕ) (v : TypedSpot) (ss : SelectorTrees) (args : ActualTrees) (k : Remainder) (at n to : ℕ) (ops : List ℤ)
-      → IsActivation s q v ss args → Stands g at n (length ops) (activation_code s q (part v ss) args) → at + (activation_code s q (part v ss) args).size ≡ to → left to ops k
+      → IsActivation s q v ss args → Stands g at n (length ops) (activation_code s q (part v ss) args)
+      → at + (activation_code s q (part v ss) args).size ≡ to → left to ops k
       → Follows g (from_activation x v ss (process_at g.program.state.blocks q).formals args k) at ops []
   activation_follows q v ss args k at n to ops is st ends rest =
-      let head = process_at g.program.state.blocks q in
-      process_then v ss is.t head.formals args (NEW (block_number g.program head.scope)) (activate_with head.formals args k) (λ p. to_process p.spot k) k at n to ops is.called.0 is.called.1 (process_is_object s q is.t is.process) is.arguments st ends rest
-      (λ at object. (refl, (q, is.process, refl, object, is.arguments, is.taken)))
-      (λ p at j object new rest. (refl, (is.t, q, j, ops, is.process, refl, is.taken, refl, object, new, rest)))
+      process_then q v ss is.t head.formals args new goal (λ p. to_process p.spot k) k at n to ops (reach is.t) is.called.0 is.called.1 is.process is.arguments
+      st ends rest (λ p at j process object there rest. (refl, (is.t, q, j, ops, process, is.among, refl, is.taken, refl, object, there, rest)))
+    where
+      head : ProcessHead
+      head = process_at g.program.state.blocks q
+
+      new : Instr
+      new = NEW (block_number g.program head.scope)
+
+      goal : AwaitsLocation
+      goal = activate_with head.formals args k
+
+      reach : (t : Option TypeId) → Reaches q v ss t (args_code s head.formals args ⨾ one s new) goal k
+      reach None = reached_single q v ss (args_code s head.formals args ⨾ one s new) goal k
+      reach (Some u) =
+          reached_part q v ss u (args_code s head.formals args ⨾ one s new) goal k
+          (λ at ops process object. (refl, (q, u, refl, process, is.among, refl, object, is.arguments, is.taken)))
 
   pub entry_call_follows :
       (q entry : ℕ) (v : TypedSpot) (ss : SelectorTrees) (args : ActualTrees) (k : Remainder) (go : Action) (at n to : ℕ) (ops : List ℤ)
-      → IsEntryCall s q entry v ss args → Stands g at n (length ops) (entry_code s q (Some (Entry entry)) (part v ss) args) → at + (entry_code s q (Some (Entry entry)) (part v ss) args).size ≡ to → left to ops k
+      → IsEntryCall s q entry v ss args → Stands g at n (length ops) (entry_code s q (Some (Entry entry)) (part v ss) args)
+      → at + (entry_code s q (Some (Entry entry)) (part v ss) args).size ≡ to → left to ops k
       → Follows g (from_entry x q v ss (Some (Entry entry)) args k go) at ops []
   entry_call_follows q entry v ss args k go at n to ops is st ends rest =
-      let formals = entry_at g.program.state.blocks q entry in
-      process_then v ss is.t formals args (ECALL entry (formals_cells g.program.state.forms formals)) (enter_with entry formals args k) (λ p. to_entry p.spot entry k) k at n to ops is.called.0 is.called.1 (process_is_object s q is.t is.process) is.arguments st ends rest
-      (λ at object. (refl, (q, is.process, refl, object, is.arguments)))
-      (λ p at j object calls rest. (refl, (is.t, q, j, ops, is.process, refl, refl, object, calls, rest)))
+      process_then q v ss is.t formals args calls goal (λ p. to_entry p.spot entry k) k at n to ops (reach is.t) is.called.0 is.called.1 is.process is.arguments
+      st ends rest (λ p at j process object there rest. (refl, (is.t, q, j, ops, process, is.among, refl, refl, object, there, rest)))
+    where
+      formals : List Formal
+      formals = entry_at g.program.state.blocks q entry
+
+      calls : Instr
+      calls = ECALL entry (formals_cells g.program.state.forms formals)
+
+      goal : AwaitsLocation
+      goal = enter_with entry formals args k
+
+      reach : (t : Option TypeId) → Reaches q v ss t (args_code s formals args ⨾ one s calls) goal k
+      reach None = reached_single q v ss (args_code s formals args ⨾ one s calls) goal k
+      reach (Some u) =
+          reached_part q v ss u (args_code s formals args ⨾ one s calls) goal k
+          (λ at ops process object. (refl, (q, u, refl, process, is.among, refl, object, is.arguments)))
 
   -- ## Every call
 

@@ -277,7 +277,8 @@ module _ (s : Site) (sound : IsSound (forms_of s)) where
 
   pub receiver_changes : (d : Option DesigTree) (u : TypeId) → IsReceiver s d u → Changes s.program (receiver_code s d) 1 (receiving (receiver_cells s d))
   receiver_changes None u is = changes_nothing s.program 1
-  receiver_changes (Some d) u is = changes_as s.program (desig_code s d) 0 1 1 1 (receiving (receiver_cells s (Some d))) (desig_changes s sound d (Some u) is.0) refl (receives_two (receiver_cells s (Some d)) is.2)
+  receiver_changes (Some d) u is = changes_as s.program (desig_code s d) 0 1 1 1 (receiving (receiver_cells s (Some d)))
+      (desig_changes s sound d (Some u) is.0) refl (receives_two (receiver_cells s (Some d)) (subst (λ (n : ℕ). 0 < n) (sym is.1) is.2.0))
 
   pub send_changes : (d : DesigTree) (m : Option ExprTree) (i : ℕ → ℕ → Instr) → IsSend s d m → ((at n : ℕ) → takes s.program (i at n) ≡ message_cells s m + 1) → ((at n : ℕ) → leaves s.program (i at n) ≡ 0) → Changes s.program (object_code s d ⨾ message_code s m ⨾ instruction s i) 0 0
   send_changes d m i is t l =

@@ -224,7 +224,7 @@ mutual
 
   pub accepted_change : (a : AcceptTree) (s : Site) (n : ℕ) → IsSound (forms_of s) → IsAcceptTyped s n a → Changes s.program (accepted_code s n a) 0 0
   accepted_change (accept x gs p) s n sound is = changes_nothing s.program 0
-  accepted_change (accept_do x gs t p) s n sound is = stmt_changes t (in_accept s n) (n + 1) sound is
+  accepted_change (accept_do x gs t p) s n sound is = stmt_changes t (in_accept s n) (n + 1) sound is.1
 
   pub met_change : (comm : CommTree) (s : Site) (n : ℕ) → IsSound (forms_of s) → IsMetTyped s n comm → Changes s.program (met_code s n comm) 0 0
   met_change (comm_accept a p) s n sound is = seq s (accepted_code s n a) (one (at_line s p.line) EACC) 0 0 0 (accepted_change a s n sound is) (changes_one s.program (at_line s p.line) EACC 0 0 refl refl)

@@ -183,7 +183,7 @@ module _ (g : Setting) (b : Block) (names : List Level) (around : Around) (check
       let w = formals_cells g.program.state.forms sub.formals in
       let last = back g code (one s i) (w + length ops) (sized_args s sub.formals args) (held_grown g.program code w (args_change s checked.sound sub.formals args is.1) at n (length ops)) st in
       arguments_follow g b x checked [] few args sub.formals is.1 [] [] (to_procedure sub.scope k) at n ops ops (none_held ops) (front g code (one s i) st)
-      (refl, (is.0.taken, is.0.leaves, lone g s (λ at n. i) last, moved to (at + code.size + 1) ops k (omega arith) rest))
+      (refl, (is.0.headed, is.0.taken, is.0.leaves, lone g s (λ at n. i) last, moved to (at + code.size + 1) ops k (omega arith) rest))
 
   -- of an exported procedure, from outside its module
   pub exported_follows :
@@ -199,7 +199,7 @@ module _ (g : Setting) (b : Block) (names : List Level) (around : Around) (check
       let w = formals_cells g.program.state.forms sub.formals in
       let last = back g code (one s i) (w + length ops) (sized_args s sub.formals args) (held_grown g.program code w (args_change s checked.sound sub.formals args is.1) at n (length ops)) st in
       arguments_follow g b x checked [] few args sub.formals is.1 [] [] (to_module m sub.scope k) at n ops ops (none_held ops) (front g code (one s i) st)
-      (refl, (is.0.taken, lone g s (λ at n. i) last, moved to (at + code.size + 1) ops k (omega arith) rest))
+      (refl, (is.0.headed, is.0.taken, lone g s (λ at n. i) last, moved to (at + code.size + 1) ops k (omega arith) rest))
 
   pub requeue_follows :
       (q : ℕ) (args : ActualTrees) (at n : ℕ) (ops : List ℤ)
@@ -213,4 +213,4 @@ module _ (g : Setting) (b : Block) (names : List Level) (around : Around) (check
       let w = formals_cells g.program.state.forms sub.formals in
       let last = back g code (one s i) (w + length ops) (sized_args s sub.formals args) (held_grown g.program code w (args_change s checked.sound sub.formals args is.1) at n (length ops)) st in
       arguments_follow g b x checked [] few args sub.formals is.1 [] [] (to_requeue sub.scope) at n ops ops (none_held ops) (front g code (one s i) st)
-      (refl, (is.0.taken, lone g s (λ at n. i) last))
+      (refl, (is.0.headed, is.0.taken, lone g s (λ at n. i) last))

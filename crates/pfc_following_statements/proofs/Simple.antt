@@ -1,5 +1,5 @@
 -- The code of assignments and of communication follows the next action of its source text.
-use Rattle.std.proofs.Common.{◌≡◌, ℕ, suc, ◌+◌, ◌<◌, ◌≤◌, ℤ, Bool, true, false, ◌||◌, List, [], ◌∷◌, length, Option, Some, None, refl, ap, ◌∙◌, subst, arith}
+use Rattle.std.proofs.Common.{◌≡◌, ℕ, suc, ◌+◌, ◌≤◌, ℤ, Bool, true, false, ◌||◌, List, [], ◌∷◌, length, Option, Some, None, refl, ap, ◌∙◌, subst, arith}
 use Rattle.pfc_code.specs.declared.instructions.Instr.TheVariants.{STORE, OBJ, SEND, RECV}
 use Rattle.pfc_tree.specs.trees.Exprs.{ExprTree, DesigTree}
 use Rattle.pfc_types.specs.Types.{Forms, semaphore, condition, is_same, form_of, process_form}
@@ -21,6 +21,7 @@ use Rattle.pfc_translation.specs.Selects.{message_code, message_cells, receiver_
 use Rattle.pfc_translation.specs.Statements.{assign_code}
 use Rattle.pfc_standing_code.specs.Sizes.{IsSized}
 use Rattle.pfc_standing_code.specs.Shapes.{shape_of, shape_cells, is_number, is_object_type, has_object_form}
+use Rattle.pfc_standing_code.specs.ValueTypes.{IsValueType}
 use Rattle.pfc_standing_code.specs.Settings.{Setting, site_of, IsAt, Stands}
 use Rattle.pfc_standing_code.specs.Typed.{HasShape}
 use Rattle.pfc_standing_code.specs.TypedStatements.{IsChannel, IsAssignment, IsMessage, IsReceiver, IsSend, IsReceive, IsProcessType}
@@ -46,9 +47,9 @@ channel_is_object forms t u is =
     ap (λ (k : Option TypeId). is_object_type forms k) is.typed
     ∙ ap (λ (f : Option TypeForm). is_same is.channel semaphore || is_same is.channel condition || has_object_form f) is.form ∙ or_last (is_same is.channel semaphore) (is_same is.channel condition)
 
-pub process_is_object : (s : Site) (n : ℕ) (t : Option TypeId) → IsProcessType s n t → is_object_type (forms_of s) t ≡ true
-process_is_object s n None is = refl
-process_is_object s n (Some t) is = by (form_of (forms_of s) t) is
+pub process_is_object : (s : Site) (n : ℕ) (v : Spot) (t : Option TypeId) → IsProcessType s n v t → is_object_type (forms_of s) t ≡ true
+process_is_object s n v None is = refl
+process_is_object s n v (Some t) is = by (form_of (forms_of s) t) is
   where
     by : (f : Option TypeForm) → process_form f ≡ Some n → (is_same t semaphore || is_same t condition || has_object_form f) ≡ true
     by (Some (AProcess k)) e = or_last (is_same t semaphore) (is_same t condition)
@@ -73,10 +74,11 @@ module _ (g : Setting) (b : Block) (names : List Level) (around : Around) (check
   pub stored_follows :
       (l : Spot) (v : TypeId) (e : ExprTree) (k : Remainder) (w : ℤ) (at n : ℕ) (ops : List ℤ)
       → IsWord g.view s l (Some v) w → HasShape s e (shape_of v) → type_cells g.program.state.forms (expr_type s.env e) ≡ shape_cells g.program.state.forms (shape_of v)
+      → IsValueType g.program.state.forms v
       → Stands g at n (suc (length ops)) (expr_code s e ⨾ one s (STORE (type_cells g.program.state.forms (expr_type s.env e))))
       → Performs g b x.env (at + (expr_code s e ⨾ one s (STORE (type_cells g.program.state.forms (expr_type s.env e)))).size) ops [] k
       → Follows g (from_expr x e (store_at l k) (λ a. writes x l a k)) at (w ∷ ops) []
-  stored_follows l v e k w at n ops lies shape cells st rest =
+  stored_follows l v e k w at n ops lies shape cells values st rest =
       let value = expr_code s e in
       let z = type_cells g.program.state.forms (expr_type s.env e) in
       let size = shape_cells g.program.state.forms (shape_of v) in
@@ -84,7 +86,7 @@ module _ (g : Setting) (b : Block) (names : List Level) (around : Around) (check
       let store : IsAt g (at + value.size) (STORE size) line = subst (λ (y : ℕ). IsAt g (at + value.size) (STORE y) line) cells (lone g s (λ at n. STORE z) stores) in
       let after = performs_moved (at + (value.size + 1)) (at + value.size + 1) ops k (omega arith) rest in
       expression_follows g b x checked [] few e (shape_of v) shape (store_at l k) (λ a. writes x l a k) at n (w ∷ ops) (front g value (one s (STORE z)) st)
-      (refl, (v, w, ops, refl, refl, lies, store, after))
+      (refl, (v, w, ops, refl, refl, lies, store, after, values))
       (λ c simple. arrives (at + value.size) (c ∷ w ∷ ops) [] (b, checked, of_value v w ops refl (is_number v c (simple_shape v simple)) lies store after))
 
   pub assign_follows :
@@ -99,8 +101,8 @@ module _ (g : Setting) (b : Block) (names : List Level) (around : Around) (check
       let behind = back g first last (suc (length ops)) (sized_desig s d) (held_grown g.program first 1 (desig_changes s checked.sound d (Some is.t) is.target) at n (length ops) ∙ omega arith) st in
       let rest = performs_moved to (mid + last.size) ops k (omega arith) left in
       variable_follows g b x checked [] few d (Some is.t) is.target (assign_to e k) (λ v. from_expr x e (store_at v.spot k) (λ a. writes x v.spot a k)) at n ops (front g first last st)
-      (refl, (is.t, refl, is.value, is.cells, m, behind, rest))
-      (λ l y lies. stored_follows l.spot is.t e k y mid m ops lies is.value is.cells behind rest)
+      (refl, (is.t, refl, is.value, is.cells, m, behind, rest, is.values))
+      (λ l y lies. stored_follows l.spot is.t e k y mid m ops lies is.value is.cells is.values behind rest)
 
   -- ## Code behind an object
 
@@ -139,7 +141,25 @@ module _ (g : Setting) (b : Block) (names : List Level) (around : Around) (check
   sent_follows channel t u i None k at n ops carries object is st left =
       let behind = back g nothing (one s (SEND 0)) (suc (length ops)) (λ at n. refl) refl st in
       let send : IsAt g at (SEND 0) line = subst (λ (y : ℕ). IsAt g y (SEND 0) line) (omega arith) (lone g s (λ at n. SEND 0) behind) in
-      arrives at (i ∷ ops) [] (b, checked, (refl, ((refl, refl), (0, i ∷ [], ops, refl, of_signal t u i carries object refl refl refl, send, performs_moved (at + (0 + 1)) (at + 1) ops k (omega arith) left))))
+      arrives at (i ∷ ops) [] (
+        b,
+        checked,
+        (
+          refl,
+          (
+            (refl, refl),
+            (
+              0,
+              i ∷ [],
+              ops,
+              refl,
+              of_signal t u i carries object is refl refl refl,
+              send,
+              performs_moved (at + (0 + 1)) (at + 1) ops k (omega arith) left,
+            ),
+          ),
+        ),
+      )
   sent_follows channel t u i (Some e) k at n ops carries object is st left =
       let value = expr_code s e in
       let z = message_cells s (Some e) in
@@ -148,8 +168,18 @@ module _ (g : Setting) (b : Block) (names : List Level) (around : Around) (check
       let send : IsAt g (at + value.size) (SEND w) line = subst (λ (y : ℕ). IsAt g (at + value.size) (SEND y) line) is.1 (lone g s (λ at n. SEND z) behind) in
       let rest = performs_moved (at + (value.size + 1)) (at + value.size + 1) ops k (omega arith) left in
       expression_follows g b x checked [] few e (shape_of u) is.0 (send_on channel k) (λ v. meets x (plain_open (to_send channel v)) k) at n (i ∷ ops) (front g value (one s (SEND z)) st)
-      (refl, (t, u, i, ops, refl, refl, carries, object, send, rest))
-      (λ v simple. arrives (at + value.size) (v ∷ i ∷ ops) [] (b, checked, (refl, ((refl, refl), (w, v ∷ i ∷ [], ops, refl, of_message t u i carries object (is_number u v (simple_shape u simple)) refl refl, send, rest)))))
+      (refl, (t, u, i, ops, refl, refl, carries, is.2, object, send, rest))
+      (λ v simple. arrives (at + value.size) (v ∷ i ∷ ops) [] (
+        b,
+        checked,
+        (
+          refl,
+          (
+            (refl, refl),
+            (w, v ∷ i ∷ [], ops, refl, of_message t u i carries object is.2 (is_number u v (simple_shape u simple)) refl refl, send, rest),
+          ),
+        ),
+      ))
 
   pub send_follows :
       (d : DesigTree) (m : Option ExprTree) (k : Remainder) (at n to : ℕ) (ops : List ℤ)
@@ -176,7 +206,25 @@ module _ (g : Setting) (b : Block) (names : List Level) (around : Around) (check
   received_follows channel t u i None k at n ops carries object is st left =
       let behind = back g nothing (one s (RECV 0)) (suc (length ops)) (λ at n. refl) refl st in
       let receive : IsAt g at (RECV 0) line = subst (λ (y : ℕ). IsAt g y (RECV 0) line) (omega arith) (lone g s (λ at n. RECV 0) behind) in
-      arrives at (i ∷ ops) [] (b, checked, (refl, ((refl, refl), (0, i ∷ [], ops, refl, into_nothing t u i carries object refl refl, receive, performs_moved (at + (0 + 1)) (at + 1) ops k (omega arith) left))))
+      arrives at (i ∷ ops) [] (
+        b,
+        checked,
+        (
+          refl,
+          (
+            (refl, refl),
+            (
+              0,
+              i ∷ [],
+              ops,
+              refl,
+              into_nothing t u i carries object is refl refl,
+              receive,
+              performs_moved (at + (0 + 1)) (at + 1) ops k (omega arith) left,
+            ),
+          ),
+        ),
+      )
   received_follows channel t u i (Some d) k at n ops carries object is st left =
       let target = desig_code s d in
       let z = receiver_cells s (Some d) in
@@ -184,10 +232,19 @@ module _ (g : Setting) (b : Block) (names : List Level) (around : Around) (check
       let behind = back g target (one s (RECV z)) (suc (suc (length ops))) (sized_desig s d) (held_grown g.program target 1 (desig_changes s checked.sound d (Some u) is.0) at n (suc (length ops)) ∙ omega arith) st in
       let receive : IsAt g (at + target.size) (RECV w) line = subst (λ (y : ℕ). IsAt g (at + target.size) (RECV y) line) is.1 (lone g s (λ at n. RECV z) behind) in
       let rest = performs_moved (at + (target.size + 1)) (at + target.size + 1) ops k (omega arith) left in
-      let some : 0 < w = subst (λ (y : ℕ). 0 < y) is.1 is.2 in
       variable_follows g b x checked [] few d (Some u) is.0 (receive_into channel k) (λ v. meets x (plain_open (to_receive channel (Some v.spot))) k) at n (i ∷ ops) (front g target (one s (RECV z)) st)
-      (refl, (t, u, i, ops, refl, some, carries, refl, object, receive, rest))
-      (λ l y lies. arrives (at + target.size) (y ∷ i ∷ ops) [] (b, checked, (refl, ((refl, refl), (w, y ∷ i ∷ [], ops, refl, into_variable t u i y l.spot carries object lies refl some refl, receive, rest)))))
+      (refl, (t, u, i, ops, refl, is.2, carries, refl, object, receive, rest))
+      (λ l y lies. arrives (at + target.size) (y ∷ i ∷ ops) [] (
+        b,
+        checked,
+        (
+          refl,
+          (
+            (refl, refl),
+            (w, y ∷ i ∷ [], ops, refl, into_variable t u i y l.spot carries object is.2 lies refl refl, receive, rest),
+          ),
+        ),
+      ))
 
   pub receive_follows :
       (d : DesigTree) (r : Option DesigTree) (k : Remainder) (at n to : ℕ) (ops : List ℤ)

@@ -12,7 +12,7 @@ use Rattle.pfc_types.specs.rules.Constants.{Ordinal, constant_value}
 use Rattle.pfc_types.specs.rules.Expressions.{Env}
 use Rattle.pfc_types.specs.rules.Statements.{arm_scopes}
 use Rattle.pfc_types.specs.declared.view.Around.{Around}
-use Rattle.pfc_machine.specs.Rows.{quiet}
+use Rattle.pfc_stacks.specs.Effects.{quiet}
 use Rattle.pfc_semantics.specs.Values.{ordinal_of}
 use Rattle.pfc_semantics.specs.Programs.{Block}
 use Rattle.pfc_semantics.specs.Remainders.{Context, Remainder, Action, choose_arm}
@@ -24,7 +24,7 @@ use Rattle.pfc_translation.specs.Expressions.{expr_code}
 use Rattle.pfc_translation.specs.Statements.{label_of, labels_code, label_count, stmt_code, tests_code, arms_code}
 use Rattle.pfc_standing_code.specs.Shapes.{a_number}
 use Rattle.pfc_standing_code.specs.Settings.{Setting, site_of, IsAt, Stands}
-use Rattle.pfc_standing_code.specs.Effects.{of_alone}
+use Rattle.pfc_standing_code.specs.Effects.{of_own_effect}
 use Rattle.pfc_standing_code.specs.TypedStatements.{HaveValues}
 use Rattle.pfc_standing_code.specs.Words.{IsChecked}
 use Rattle.pfc_standing_code.specs.Performs.{StmtAt, ArmsAt, Performs}
@@ -94,10 +94,10 @@ module _ (g : Setting) (b : Block) (names : List Level) (around : Around) (check
       by true e =
           let n = label_of (value_of l) in
           let below : length ops ≤ g.room = omega arith in
-          move g [] few at (v ∷ ops) (CEQ n a) line a ops is (fits g [] (CEQ n a) (v ∷ ops) (omega arith) tt tt) (ap (λ (r : Bool). of_alone (if r then quiet a ops else quiet (at + 1) (v ∷ ops)) []) (sym same ∙ e)) up below on
+          move g [] few at (v ∷ ops) (CEQ n a) line a ops is (fits g [] (CEQ n a) (v ∷ ops) (omega arith) tt tt) (ap (λ (r : Bool). of_own_effect (if r then quiet a ops else quiet (at + 1) (v ∷ ops)) []) (sym same ∙ e)) up below on
       by false e =
           let n = label_of (value_of l) in
-          next_move g [] few at (v ∷ ops) (CEQ n a) line (v ∷ ops) is (fits g [] (CEQ n a) (v ∷ ops) (omega arith) tt tt) (ap (λ (r : Bool). of_alone (if r then quiet a ops else quiet (at + 1) (v ∷ ops)) []) (sym same ∙ e)) room rest
+          next_move g [] few at (v ∷ ops) (CEQ n a) line (v ∷ ops) is (fits g [] (CEQ n a) (v ∷ ops) (omega arith) tt tt) (ap (λ (r : Bool). of_own_effect (if r then quiet a ops else quiet (at + 1) (v ∷ ops)) []) (sym same ∙ e)) room rest
 
   labels_follow :
       (line : ℕ) (ls : List Constant) (v : ℤ) (between a at n held : ℕ) (ops : List ℤ) (so otherwise : Action)

@@ -324,12 +324,48 @@ module _ (g : Setting) (b : Block) (names : List Level) (around : Around) (check
       let none : Stands g (at + 1) (n + 0) (length ops) nothing = front g nothing (one s EACC) behind in
       let last = back g nothing (one s EACC) (length ops) (λ at n. refl) refl behind in
       let after = moved to (at + 1 + 0 + 1) ops k (sym whole_end ∙ omega arith) rest in
-      arrives at ops [] (b, checked, (refl, ((refl, refl), (head g s (λ at n. i) (nothing ⨾ one s EACC) is.code, (n + 0, record { typed = tt; code = none }, accept_ended p.line k (at + 1 + 0) (n + 0 + 0) ops last after)))))
+      arrives at ops [] (
+        b,
+        checked,
+        (
+          refl,
+          (
+            (refl, refl),
+            (
+              head g s (λ at n. i) (nothing ⨾ one s EACC) is.code,
+              (is.typed, (n + 0, record { typed = tt; code = none }, accept_ended p.line k (at + 1 + 0) (n + 0 + 0) ops last after)),
+            ),
+          ),
+        ),
+      )
   accept_follows (accept_do y gs t q) p line m k go at n to ops is whole_end rest on =
       let s = site p.line in
       let i = ACC (entry_of s (accept_do y gs t q)) (accept_cell s m) (accept_cells s m) in
       let inner = stmt_code (in_accept s m) (m + 1) t in
       let behind = tail g s (λ at n. i) (inner ⨾ one s EACC) (length ops) (omega arith) is.code in
-      let last = back g inner (one s EACC) (length ops) (sized_stmt (in_accept s m) (m + 1) t) (held_grown g.program inner 0 (stmt_changes t (in_accept s m) (m + 1) checked.sound is.typed) (at + 1) (n + 0) (length ops) ∙ omega arith) behind in
+      let last = back g inner (one s EACC) (length ops) (sized_stmt (in_accept s m) (m + 1) t)
+      (held_grown g.program inner 0 (stmt_changes t (in_accept s m) (m + 1) checked.sound is.typed.1) (at + 1) (n + 0) (length ops)
+      ∙ omega arith) behind in
       let after = moved to (at + 1 + inner.size + 1) ops k (sym whole_end ∙ omega arith) rest in
-      arrives at ops [] (b, checked, (refl, ((refl, refl), (head g s (λ at n. i) (inner ⨾ one s EACC) is.code, (n + 0, record { typed = is.typed; code = front g inner (one s EACC) behind }, accept_ended p.line k (at + 1 + inner.size) (n + 0 + length inner.texts) ops last after)))))
+      arrives at ops [] (
+        b,
+        checked,
+        (
+          refl,
+          (
+            (refl, refl),
+            (
+              head g s (λ at n. i) (inner ⨾ one s EACC) is.code,
+              (
+                is.typed.0,
+                (
+                  n + 0,
+                  record { typed = is.typed.1; code = front g inner (one s EACC) behind },
+                  accept_ended p.line k (at + 1 + inner.size)
+                      (n + 0 + length inner.texts) ops last after,
+                ),
+              ),
+            ),
+          ),
+        ),
+      )

@@ -9,7 +9,7 @@ use Rattle.pfc_tree.specs.trees.Stmts.{StmtTree, for_do}
 use Rattle.pfc_types.specs.Scopes.{Level}
 use Rattle.pfc_types.specs.rules.Expressions.{Env, find}
 use Rattle.pfc_types.specs.declared.view.Around.{Around}
-use Rattle.pfc_machine.specs.Rows.{quiet, action, is_before, value_behind}
+use Rattle.pfc_stacks.specs.Effects.{quiet, action, is_before, value_behind}
 use Rattle.pfc_semantics.specs.Values.{ordinal, ordinal_of}
 use Rattle.pfc_semantics.specs.Displays.{Spot, TypedSpot}
 use Rattle.pfc_semantics.specs.Programs.{Block}
@@ -24,7 +24,7 @@ use Rattle.pfc_translation.specs.Expressions.{expr_code}
 use Rattle.pfc_translation.specs.Statements.{stmt_code}
 use Rattle.pfc_standing_code.specs.Shapes.{a_number}
 use Rattle.pfc_standing_code.specs.Settings.{Setting, site_of, IsAt, Stands, arrived}
-use Rattle.pfc_standing_code.specs.Effects.{of_alone, effect_of}
+use Rattle.pfc_standing_code.specs.Effects.{of_own_effect, effect_of}
 use Rattle.pfc_standing_code.specs.Typed.{HasShape}
 use Rattle.pfc_standing_code.specs.TypedStatements.{IsTyped}
 use Rattle.pfc_standing_code.specs.Words.{first_word, IsSimpleWord, IsChecked}
@@ -84,7 +84,7 @@ module _ (g : Setting) (b : Block) (names : List Level) (around : Around) (check
           let before : is_before d f.kept f.last ≡ false = before_or_last f.down f.kept f.last holds.within ∙ ap not e in
           let room : length below ≤ g.room = (let all = room_for g pass.inner.code in omega arith) in
           next_move g [] few at ops (FORT d a) f.line below pass.back (fits g [] (FORT d a) ops (omega arith) tt tt)
-          (ap (λ (y : List ℤ). effect_of g (FORT d a) at y []) holds.held ∙ ap (λ (r : Bool). of_alone (if r then action a (f.last ∷ value_behind d f.kept ∷ holds.w ∷ below) else quiet (at + 1) below) []) before) room on
+          (ap (λ (y : List ℤ). effect_of g (FORT d a) at y []) holds.held ∙ ap (λ (r : Bool). of_own_effect (if r then action a (f.last ∷ value_behind d f.kept ∷ holds.w ∷ below) else quiet (at + 1) below) []) before) room on
       by false e =
           let d = direction f.down in
           let at = a + 1 + inside f in
@@ -144,7 +144,7 @@ module _ (g : Setting) (b : Block) (names : List Level) (around : Around) (check
           let room : length ops ≤ g.room = (let most = room_for g st in omega arith) in
           let ended : to ≡ end = omega arith in
           move g [] few at all (FORB d end) f.line end ops parts.0 (fits g [] (FORB d end) all (omega arith) tt tt)
-          (ap (λ (r : Bool). of_alone (if r then quiet end ops else quiet (at + 1) all) []) (past_alike f.down f.kept f.last ∙ past)) (omega arith) room (follows_moved g [] few to end ended on)
+          (ap (λ (r : Bool). of_own_effect (if r then quiet end ops else quiet (at + 1) all) []) (past_alike f.down f.kept f.last ∙ past)) (omega arith) room (follows_moved g [] few to end ended on)
       by false past =
           let d = direction f.down in
           let end = at + 1 + (inside f + 2) in
@@ -153,7 +153,7 @@ module _ (g : Setting) (b : Block) (names : List Level) (around : Around) (check
           let holds : HoldsCount g (site f.line) f all ops = record { w = w; held = refl; lies = lies; within = past } in
           let ended : to ≡ at + 1 + 1 + inside f + 1 = omega arith in
           next_move g [] few at all (FORB d end) f.line all parts.0 (fits g [] (FORB d end) all (omega arith) tt tt)
-          (ap (λ (r : Bool). of_alone (if r then quiet end ops else quiet (at + 1) all) []) (past_alike f.down f.kept f.last ∙ past)) (room_for g st)
+          (ap (λ (r : Bool). of_own_effect (if r then quiet end ops else quiet (at + 1) all) []) (past_alike f.down f.kept f.last ∙ past)) (room_for g st)
           (first_pass f k (at + 1) parts.1.0 all ops holds parts.1.1 (moved to (at + 1 + 1 + inside f + 1) ops k ended rest))
 
   -- the first bound is held

@@ -10,10 +10,11 @@ use Rattle.pfc_semantics.specs.Rewriting.{from_remainder}
 use Rattle.pfc_translation.specs.Codes.{◌⨾◌, nothing}
 use Rattle.pfc_translation.specs.Calls.{writes_code, reads_code}
 use Rattle.pfc_translation.specs.Statements.{stmt_code, stmts_code}
-use Rattle.pfc_standing_code.specs.Settings.{Setting, site_of, arrived}
+use Rattle.pfc_standing_code.specs.Settings.{Trial, Setting, site_of, arrived}
 use Rattle.pfc_standing_code.specs.Effects.{Arm}
-use Rattle.pfc_standing_code.specs.Performs.{StmtAt, StmtsAt, Performs}
-use Rattle.pfc_standing_code.specs.Following.{of_loop, Follows, arrives}
+use Rattle.pfc_standing_code.specs.Performs.{StmtAt, StmtsAt, own_room, Performs}
+use Rattle.pfc_standing_code.specs.Following.{IsTurnOf, of_loop, Follows, arrives}
+use Rattle.pfc_standing_code.proofs.Checked.{checked_for}
 use Rattle.pfc_following_expressions.proofs.Moves.{through, follows_moved}
 use Rattle.pfc_following_statements.proofs.Anywhere.{write_follows, read_follows}
 use Rattle.pfc_following_structures.specs.Left.{RemainderFollows}
@@ -50,8 +51,8 @@ remainder_follows g (perform m ts k) b env at ops arms checked room h =
     let end = to + (stmts_code (site_of g b (context env line)) m ts).size in
     cleared g at ops arms h.0 (through g [] (least g.arms) at to ops h.1.1 room
     (every_list_anywhere g b env checked ts line m k (from_remainder env k) to h.1.2.1.0 end ops h.1.2.1.1 refl h.1.2.1.2
-    (remainder_follows g k b env end ops [] checked room h.1.2.1.2)))
-remainder_follows g (in_names inner k) b env at ops arms checked room h = remainder_follows g k h.0 inner at ops arms h.1 room h.2
+    (remainder_follows g k b env end ops [] (checked_for g b env k checked) room h.1.2.1.2)))
+remainder_follows g (in_names inner k) b env at ops arms checked room h = remainder_follows g k h.0 inner at ops arms (checked_for g h.0 inner k h.2) room h.3
 remainder_follows g (turn m loop k) b env at ops arms checked room h =
     let p = h.1.2 in
     cleared g at ops arms h.0 (through g [] (least g.arms) at h.1.0 ops h.1.1 room
@@ -61,7 +62,8 @@ remainder_follows g (until m ts e p k) b env at ops arms checked room h =
     let end = q.1 + (stmt_code (site_of g b (context env q.0)) m (repeat_until ts e p)).size in
     cleared g at ops arms h.0 (through g [] (least g.arms) at h.1.0 ops h.1.1 room
     (follows_moved g [] (least g.arms) (q.1 + (stmts_code (site_of g b (context env p.line)) m ts).size) h.1.0 (sym q.2)
-    (until_left_follows g b env checked ts e p q.0 m k (from_remainder env k) q.1 q.3.0 ops q.3.1 q.3.2 (remainder_follows g k b env end ops [] checked room q.3.2))))
+    (until_left_follows g b env checked ts e p q.0 m k (from_remainder env k) q.1 q.3.0 ops q.3.1 q.3.2
+    (remainder_follows g k b env end ops [] (checked_for g b env k checked) room q.3.2))))
 remainder_follows g (behind_pass f k) b env at ops arms checked room h =
     let to = h.1.0 in
     let q = h.1.2 in
@@ -72,7 +74,8 @@ remainder_follows g (behind_pass f k) b env at ops arms checked room h =
     let rest = moved g b env (to + 1) (place + 1) q.2 k next q.6 in
     cleared g at ops arms h.0 (through g [] (least g.arms) at to ops h.1.1 room
     (follows_moved g [] (least g.arms) place to (sym is)
-    (pass_end_follows g b env checked f k (from_remainder env k) q.0 q.1 ops q.2 q.3 q.4 rest (remainder_follows g k b env (place + 1) q.2 [] checked few rest))))
+    (pass_end_follows g b env checked f k (from_remainder env k) q.0 q.1 ops q.2 q.3 q.4 rest
+    (remainder_follows g k b env (place + 1) q.2 [] (checked_for g b env k checked) few rest))))
 remainder_follows g (next_pass f k) b env at ops arms checked room h =
     let q = h.1.2 in
     cleared g at ops arms h.0 (through g [] (least g.arms) at h.1.0 ops h.1.1 room (pass_left_follows g b env checked f k h.1.0 q.0 ops q.1 q.2 q.3 q.4))
@@ -80,12 +83,14 @@ remainder_follows g (write_on line args newline k) b env at ops arms checked roo
     let q = h.1.2 in
     let end = h.1.0 + (writes_code (site_of g b (context env line)) args newline).size in
     cleared g at ops arms h.0 (through g [] (least g.arms) at h.1.0 ops h.1.1 room
-    (write_follows g b (context env line) checked args newline k q.0 (from_remainder env k) h.1.0 q.1 ops q.2 q.3 (remainder_follows g k b env end ops [] checked room q.3)))
+    (write_follows g b (context env line) checked args newline k q.0 (from_remainder env k) h.1.0 q.1 ops q.2 q.3
+    (remainder_follows g k b env end ops [] (checked_for g b env k checked) room q.3)))
 remainder_follows g (read_on line args skip k) b env at ops arms checked room h =
     let q = h.1.2 in
     let end = h.1.0 + (reads_code (site_of g b (context env line)) args skip).size in
     cleared g at ops arms h.0 (through g [] (least g.arms) at h.1.0 ops h.1.1 room
-    (read_follows g b (context env line) checked args skip k q.0 (from_remainder env k) h.1.0 q.1 ops q.2 q.3 (remainder_follows g k b env end ops [] checked room q.3)))
+    (read_follows g b (context env line) checked args skip k q.0 (from_remainder env k) h.1.0 q.1 ops q.2 q.3
+    (remainder_follows g k b env end ops [] (checked_for g b env k checked) room q.3)))
 remainder_follows g (at_coend line k) b env at ops arms checked room h =
     cleared g at ops arms h.0 (through g [] (least g.arms) at h.1.0 ops h.1.1 room (arrives h.1.0 ops [] (b, checked, (refl, h.1.2))))
 remainder_follows g (part_from caller line k) b env at ops arms checked room h =
@@ -99,10 +104,13 @@ remainder_follows g (go_through line a rest sel k) b env at ops arms checked roo
     through g arms few at h.0 ops h.1 room (opening_follows_anywhere g b (context env line) checked a rest sel k h.0 ops arms few h.2.0 c)
 remainder_follows g (try_guard bar k) b env at ops arms checked room h =
     cleared g at ops arms h.0 (through g [] (least g.arms) at h.1.0 ops h.1.1 room
-    (guard_follows g b (least g.arms) env bar k h.1.0 ops h.1.2.0 h.1.2.1 (λ end rest. remainder_follows g k b env end ops [] checked room rest)))
+    (guard_follows g b (least g.arms) env bar k h.1.0 ops h.1.2.0 h.1.2.1 h.1.2.2 (λ end known rest. remainder_follows g k b env end ops [] known room rest)))
 remainder_follows g (scan_on scan k) b env at ops arms checked room h =
-    cleared g at ops arms h.0 (through g [] (least g.arms) at h.1.0 ops h.1.1 room (arrives h.1.0 ops [] (b, tt, (refl, h.1.2))))
+    let q = h.1.2 in
+    let turn : IsTurnOf g.trial scan = subst (λ (trial : Trial). IsTurnOf trial scan) (sym q.0.1) refl in
+    let fit : length ops ≤ own_room g.trial g.room = subst (λ (trial : Trial). length ops ≤ own_room trial g.room) (sym q.0.1) room in
+    cleared g at ops arms h.0 (through g [] (least g.arms) at h.1.0 ops h.1.1 room (arrives h.1.0 ops [] (b, tt, (refl, (turn, fit, q.1, q.2)))))
 remainder_follows g (try_other w scan k) b env at ops arms checked room h =
     let q = h.1.2 in
     cleared g at ops arms h.0 (through g [] (least g.arms) at h.1.0 ops h.1.1 room
-    (other_follows g b (least g.arms) env q.2 w scan k h.1.0 q.0 q.1 ops q.3 q.4 q.5 q.6 q.7))
+    (other_follows g b (least g.arms) env w scan k h.1.0 ops q.0 q.1 q.2 q.3))

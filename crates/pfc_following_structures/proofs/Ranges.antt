@@ -4,7 +4,7 @@ use Rattle.std.specs.Prelude.{int_lt}
 use Rattle.std.specs.Ordering.{int_eq}
 use Rattle.std.proofs.lemmas.Int.{ints}
 use Rattle.pfc_semantics.specs.Statements.{is_past, next_kept}
-use Rattle.pfc_machine.specs.Rows.{is_past as is_past_by, is_before, value_behind}
+use Rattle.pfc_stacks.specs.Effects.{is_past as is_past_by, is_before, value_behind}
 use Rattle.pfc_standing_code.specs.Performs.{direction}
 
 pub past_alike : (down : Bool) (a b : ℤ) → is_past_by (direction down) a b ≡ is_past down a b

@@ -17,7 +17,7 @@ use Rattle.pfc_standing_code.specs.Settings.{Setting, site_of, Stands}
 use Rattle.pfc_standing_code.specs.Effects.{Arm}
 use Rattle.pfc_standing_code.specs.TypedStatements.{IsReplica}
 use Rattle.pfc_standing_code.specs.Words.{IsChecked}
-use Rattle.pfc_standing_code.specs.Performs.{StmtAt, HoldsCount, HasPass, Performs}
+use Rattle.pfc_standing_code.specs.Performs.{StmtAt, HoldsCount, HasPass, IsCheckedFor, Performs}
 use Rattle.pfc_standing_code.specs.Following.{Follows}
 
 -- the test of a `repeat`, behind its statements
@@ -57,5 +57,6 @@ ReplicaFollows g b env =
 -- What is left follows, as far as the operands fit.
 abbrev pub RemainderFollows : Setting → Type 0
 RemainderFollows g =
-    (k : Remainder) (b : Block) (env : Env) (at : ℕ) (ops : List ℤ) (arms : List Arm) → IsChecked g b env → length ops ≤ g.room → Performs g b env at ops arms k
+    (k : Remainder) (b : Block) (env : Env) (at : ℕ) (ops : List ℤ) (arms : List Arm) → IsCheckedFor g b env k → length ops ≤ g.room
+    → Performs g b env at ops arms k
     → Follows g (from_remainder env k) at ops arms

@@ -30,12 +30,13 @@ use Rattle.pfc_translation.specs.Selects.{message_code, message_cells, receiver_
 use Rattle.pfc_translation.specs.Statements.{stmt_code, stmts_code, arms_code, label_count}
 use Rattle.pfc_translation.specs.Codes.{nothing}
 use Rattle.pfc_standing_code.specs.Shapes.{Shape, a_number, shape_of, shape_cells}
-use Rattle.pfc_standing_code.specs.Settings.{View, Setting, of_own, of_another, site_of, IsAt, Stands}
+use Rattle.pfc_standing_code.specs.ValueTypes.{IsValueType}
+use Rattle.pfc_standing_code.specs.Settings.{Setting, of_own, site_of, IsAt, Stands}
 use Rattle.pfc_standing_code.specs.Effects.{Arm}
-use Rattle.pfc_standing_code.specs.Typed.{IsArray, TakesCells, LeavesCells, HasShape, AreSummands, AreMultipliers, HasShapeSimple, AreArguments, AreSelectors, AreIndices}
-use Rattle.pfc_standing_code.specs.TypedStatements.{IsTyped, IsChannel, IsMessage, IsReceiver, IsRank, IsProcessType}
+use Rattle.pfc_standing_code.specs.Typed.{IsArray, IsOfSub, TakesCells, LeavesCells, HasShape, AreSummands, AreMultipliers, HasShapeSimple, AreArguments, AreSelectors, AreIndices}
+use Rattle.pfc_standing_code.specs.TypedStatements.{IsTyped, IsChannel, IsCarried, IsMessage, IsReceiver, IsRank, HasProcessForm, IsProcessType}
 use Rattle.pfc_standing_code.specs.Words.{IsWord, IsPart, IsSimpleWord, IsObject, AreHeld}
-use Rattle.pfc_standing_code.specs.Performs.{ArmsAt, StmtThen, direction, BranchAt, SelectAt, CommAt, WayAt, own_again, Clear, Performs}
+use Rattle.pfc_standing_code.specs.Performs.{ArmsAt, StmtThen, direction, BranchAt, SelectAt, CommAt, WayAt, own_block, behind_scan, own_again, IsOwnBar, Tries, IsCheckedFor, Clear, Performs}
 
 -- `eof`, `eoln` and `clock` have no argument, and that of `empty` is no value
 abbrev pub has_argument : Function → Bool
@@ -61,13 +62,18 @@ pass_code s down m t =
     let inner = stmt_code s m t in
     over s (λ at. FORB (direction down) at) (inner.size + 2) ⨾ one s FORW ⨾ inner ⨾ back s (λ at. FORT (direction down) at) (inner.size + 1)
 
--- the `SCAN` of a resource, and the own view of the process that scans
+-- the `SCAN` of a resource
 abbrev pub TurnAt : Setting → ℕ → Scan → Type 0
 TurnAt g at scan = IsAt g at (SCAN scan.resource) scan.line
 
 -- the remainder is performed from here on, whatever names are in view
 abbrev pub PerformsAnywhere : Setting → Block → ℕ → List ℤ → Remainder → Type 0
-PerformsAnywhere g b at ops k = (e : Env) → Performs g b e at ops [] k
+PerformsAnywhere g b at ops k = (e : Env) → IsCheckedFor g b e k × Performs g b e at ops [] k
+
+-- behind a scan the process sees what is its own again, in its own block, and there performs what is left
+abbrev pub BehindScanAt : Setting → Scan → List ℤ → Remainder → Type 0
+BehindScanAt g scan ops k =
+    WayAt (own_again g) (own_block g.trial g.block) scan.way (behind_scan g.trial) (length ops) (λ end. PerformsAnywhere (own_again g) (own_block g.trial g.block) end ops k)
 
 -- an object's address is on top: its number is taken, the code behind that stands, and behind that all is as is said
 abbrev pub ObjectThen : Setting → Site → ℕ → List ℤ → Code → (ℕ → Type 0) → Type 0
@@ -139,10 +145,11 @@ abbrev mutual
       (before : List Formal) × (f : Formal) × (t : TypeId) × (below : List ℤ) × (f.reference ≡ false) × (f.t ≡ Some t) × (h ≡ shape_of t)
       × AreHeld g.view s before given ops below × AreArguments s rest args
       × (n : ℕ) × Stands g at n (shape_cells (forms_of s) h + length ops) code × CallsAt g b x (at + code.size) below arms (before ++ f ∷ rest) call
+      × IsValueType (forms_of s) t
   TakesValue g b x at ops arms h (store_at v k) =
       let s = site_of g b x in
       Clear arms ((t : TypeId) × (w : ℤ) × (below : List ℤ) × (h ≡ shape_of t) × (ops ≡ w ∷ below) × IsWord g.view s v (Some t) w
-      × IsAt g at (STORE (shape_cells (forms_of s) h)) x.line × Performs g b x.env (at + 1) below [] k)
+      × IsAt g at (STORE (shape_cells (forms_of s) h)) x.line × Performs g b x.env (at + 1) below [] k × IsValueType (forms_of s) t)
   TakesValue g b x at ops arms h (choose m t u k) =
       let s = site_of g b x in
       let P = λ (end : ℕ). Performs g b x.env end ops [] k in
@@ -188,7 +195,7 @@ abbrev mutual
   TakesValue g b x at ops arms h (send_on v k) =
       let s = site_of g b x in
       Clear arms ((t : Option TypeId) × (u : TypeId) × (n : ℤ) × (below : List ℤ) × (h ≡ shape_of u) × (ops ≡ n ∷ below) × IsChannel (forms_of s) t u
-      × IsObject g s v t n × IsAt g at (SEND (shape_cells (forms_of s) h)) x.line × Performs g b x.env (at + 1) below [] k)
+      × IsCarried (forms_of s) u × IsObject g s v t n × IsAt g at (SEND (shape_cells (forms_of s) h)) x.line × Performs g b x.env (at + 1) below [] k)
   -- the alternatives behind a closed one are gone through behind the jump
   TakesValue g b x at ops arms h (open_if a rest sel k) =
       let s = site_of g b x in
@@ -197,16 +204,15 @@ abbrev mutual
   TakesValue g b x at ops arms h (offer_value channel a rest sel k) =
       let s = site_of g b x in
       (t : Option TypeId) × (u : TypeId) × (n : ℤ) × (below : List ℤ) × (h ≡ shape_of u) × (ops ≡ n ∷ below) × IsChannel (forms_of s) t u
-      × IsObject g s channel t n
+      × IsCarried (forms_of s) u × IsObject g s channel t n
       × ArmAt g s x at (length below) a rest sel arms (λ to. ARMS (shape_cells (forms_of s) h) to) (λ end. Performs g b x.env end below [] k)
   TakesValue g b x at ops arms h (offer_wait a rest sel k) =
       (h ≡ a_number) × ArmAt g (site_of g b x) x at (length ops) a rest sel arms ARMT (λ end. Performs g b x.env end ops [] k)
   TakesValue g b x at ops arms h (pass_own bar k) =
-      Clear arms ((h ≡ a_number) × (g.trial ≡ of_own) × IsAt g at (GRD bar.resource) x.line × PerformsAnywhere g b (at + 1) ops k)
+      Clear arms ((h ≡ a_number) × (g.trial ≡ of_own) × IsOwnBar g b bar × IsAt g at (GRD bar.resource) x.line × PerformsAnywhere g b (at + 1) ops k)
   TakesValue g b x at ops arms h (pass_other w scan k) =
-      Clear arms ((h ≡ a_number) × (turn : ℕ) × (seen : View) × (c : Block) × (g.trial ≡ of_another turn seen) × TurnAt g turn scan × (at < turn)
-      × IsAt g at (GRD scan.resource) x.line
-      × WayAt (own_again g) c scan.way g.behind_scan (length ops) (λ end. PerformsAnywhere (own_again g) c end ops k))
+      Clear arms ((h ≡ a_number) × (tries : Tries g w scan (length ops)) × (at < tries.attempt.turn) × IsAt g at (GRD scan.resource) x.line
+      × BehindScanAt g scan ops k)
 
   pub TakesLocation : Setting → Block → Context → ℕ → List ℤ → List Arm → Option TypeId → AwaitsLocation → Type 0
   TakesLocation g b x at ops arms t (read_for u) =
@@ -216,7 +222,7 @@ abbrev mutual
       let s = site_of g b x in
       let code = expr_code s e ⨾ one s (STORE (type_cells (forms_of s) (expr_type s.env e))) in
       Clear arms ((v : TypeId) × (t ≡ Some v) × HasShape s e (shape_of v) × (type_cells (forms_of s) (expr_type s.env e) ≡ shape_cells (forms_of s) (shape_of v))
-      × (n : ℕ) × Stands g at n (suc (length ops)) code × Performs g b x.env (at + code.size) ops [] k)
+      × (n : ℕ) × Stands g at n (suc (length ops)) code × Performs g b x.env (at + code.size) ops [] k × IsValueType (forms_of s) v)
   TakesLocation g b x at ops arms t (input_to u k) =
       Clear arms ((v : TypeId) × (t ≡ Some v) × (is_simple v ≡ true) × IsAt g at (read_instr (simple_of u)) x.line × Performs g b x.env (at + 1) ops [] k)
   TakesLocation g b x at ops arms t (pass_variable rest args given call) =
@@ -227,14 +233,17 @@ abbrev mutual
       × (n : ℕ) × Stands g at n (suc (length ops)) code × CallsAt g b x (at + code.size) below arms (before ++ f ∷ rest) call
   TakesLocation g b x at ops arms t (ask_empty u) =
       (t ≡ Some condition) × IsAt g at OBJ x.line × (suc (length ops) ≤ g.room) × IsAt g (at + 1) EMPTY x.line × TakesValue g b x (at + 2) ops arms a_number u
+  -- a single process is activated without a selector, so its address is not awaited
   TakesLocation g b x at ops arms t (activate_with formals args k) =
       let s = site_of g b x in
-      Clear arms ((n : ℕ) × IsProcessType s n t × (formals ≡ (process_at (blocks_of s) n).formals)
+      Clear arms ((n : ℕ) × (v : TypeId) × (t ≡ Some v) × HasProcessForm s n v × (n < length (blocks_of s).processes)
+      × (formals ≡ (process_at (blocks_of s) n).formals)
       × ObjectThen g s at ops (args_code s formals args ⨾ one s (NEW (block_number g.program (process_at (blocks_of s) n).scope))) (λ end. Performs g b x.env end ops [] k)
       × AreArguments s formals args × TakesCells s (process_at (blocks_of s) n).scope formals)
   TakesLocation g b x at ops arms t (enter_with entry formals args k) =
       let s = site_of g b x in
-      Clear arms ((n : ℕ) × IsProcessType s n t × (formals ≡ entry_at (blocks_of s) n entry)
+      Clear arms ((n : ℕ) × (v : TypeId) × (t ≡ Some v) × HasProcessForm s n v × (n < length (blocks_of s).processes)
+      × (formals ≡ entry_at (blocks_of s) n entry)
       × ObjectThen g s at ops (args_code s formals args ⨾ one s (ECALL entry (formals_cells (forms_of s) formals))) (λ end. Performs g b x.env end ops [] k)
       × AreArguments s formals args)
   TakesLocation g b x at ops arms t (initial_to e k) =
@@ -259,7 +268,7 @@ abbrev mutual
       × ObjectThen g s at ops (receiver_code s d ⨾ one s (RECV (receiver_cells s d))) (λ end. Performs g b x.env end ops [] k))
   TakesLocation g b x at ops arms t (receive_into channel k) =
       let s = site_of g b x in
-      Clear arms ((c : Option TypeId) × (u : TypeId) × (n : ℤ) × (below : List ℤ) × (t ≡ Some u) × (0 < shape_cells (forms_of s) (shape_of u))
+      Clear arms ((c : Option TypeId) × (u : TypeId) × (n : ℤ) × (below : List ℤ) × (t ≡ Some u) × IsCarried (forms_of s) u
       × IsChannel (forms_of s) c u × (ops ≡ n ∷ below) × IsObject g s channel c n × IsAt g at (RECV (shape_cells (forms_of s) (shape_of u))) x.line × Performs g b x.env (at + 1) below [] k)
   TakesLocation g b x at ops arms t (offer_to m a rest sel k) =
       let s = site_of g b x in
@@ -271,7 +280,7 @@ abbrev mutual
       × CommAt g s x (at + 1) (suc (length ops)) (length ops) a rest sel arms (λ between. receiver_code s d ⨾ over s (λ to. ARMR (receiver_cells s d) to) between) (λ end. Performs g b x.env end ops [] k)
   TakesLocation g b x at ops arms t (offer_into channel a rest sel k) =
       let s = site_of g b x in
-      (c : Option TypeId) × (u : TypeId) × (n : ℤ) × (below : List ℤ) × (t ≡ Some u) × (0 < shape_cells (forms_of s) (shape_of u))
+      (c : Option TypeId) × (u : TypeId) × (n : ℤ) × (below : List ℤ) × (t ≡ Some u) × IsCarried (forms_of s) u
       × IsChannel (forms_of s) c u × (ops ≡ n ∷ below) × IsObject g s channel c n
       × ArmAt g s x at (length below) a rest sel arms (λ to. ARMR (shape_cells (forms_of s) (shape_of u)) to) (λ end. Performs g b x.env end below [] k)
 
@@ -279,28 +288,30 @@ abbrev mutual
   pub CallsAt : Setting → Block → Context → ℕ → List ℤ → List Arm → List Formal → Call → Type 0
   CallsAt g b x at ops arms formals (to_procedure scope k) =
       let s = site_of g b x in
-      Clear arms (TakesCells s scope formals × LeavesCells s scope 0
+      Clear arms (IsOfSub s scope formals × TakesCells s scope formals × LeavesCells s scope 0
       × IsAt g at (CALL (block_number g.program scope) (links_to s (block_at g.program scope).outer)) x.line × Performs g b x.env (at + 1) ops [] k)
   CallsAt g b x at ops arms formals (to_function scope u) =
       let s = site_of g b x in
-      TakesCells s scope formals × LeavesCells s scope 1
+      IsOfSub s scope formals × TakesCells s scope formals × LeavesCells s scope 1
       × IsAt g at (CALL (block_number g.program scope) (links_to s (block_at g.program scope).outer)) x.line
       × (suc (length ops) ≤ g.room) × TakesValue g b x (at + 1) ops arms a_number u
   CallsAt g b x at ops arms formals (to_module n scope k) =
       let s = site_of g b x in
-      Clear arms (TakesCells s scope formals
+      Clear arms (IsOfSub s scope formals × TakesCells s scope formals
       × IsAt g at (enter_instr (module_at (blocks_of s) n).resource (module_number (blocks_of s) n) (block_number g.program scope)) x.line
       × Performs g b x.env (at + 1) ops [] k)
   CallsAt g b x at ops arms formals (to_requeue scope) =
       let s = site_of g b x in
-      Clear arms (TakesCells s scope formals × IsAt g at (REQ (resource_of s) (block_number g.program scope)) x.line)
+      Clear arms (IsOfSub s scope formals × TakesCells s scope formals × IsAt g at (REQ (resource_of s) (block_number g.program scope)) x.line)
   CallsAt g b x at ops arms formals (to_process v k) =
       let s = site_of g b x in
-      Clear arms ((t : Option TypeId) × (n : ℕ) × (i : ℤ) × (below : List ℤ) × IsProcessType s n t × (formals ≡ (process_at (blocks_of s) n).formals)
+      Clear arms ((t : Option TypeId) × (n : ℕ) × (i : ℤ) × (below : List ℤ) × IsProcessType s n v t × (n < length (blocks_of s).processes)
+      × (formals ≡ (process_at (blocks_of s) n).formals)
       × TakesCells s (process_at (blocks_of s) n).scope formals × (ops ≡ i ∷ below) × IsObject g s v t i
       × IsAt g at (NEW (block_number g.program (process_at (blocks_of s) n).scope)) x.line × Performs g b x.env (at + 1) below [] k)
   CallsAt g b x at ops arms formals (to_entry v entry k) =
       let s = site_of g b x in
-      Clear arms ((t : Option TypeId) × (n : ℕ) × (i : ℤ) × (below : List ℤ) × IsProcessType s n t × (formals ≡ entry_at (blocks_of s) n entry)
+      Clear arms ((t : Option TypeId) × (n : ℕ) × (i : ℤ) × (below : List ℤ) × IsProcessType s n v t × (n < length (blocks_of s).processes)
+      × (formals ≡ entry_at (blocks_of s) n entry)
       × (ops ≡ i ∷ below) × IsObject g s v t i
       × IsAt g at (ECALL entry (formals_cells (forms_of s) formals)) x.line × Performs g b x.env (at + 1) below [] k)

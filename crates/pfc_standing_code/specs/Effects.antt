@@ -6,11 +6,11 @@ use Rattle.pfc_code.specs.declared.instructions.Instr.{Instr}
 use Rattle.pfc_code.specs.declared.instructions.Instr.TheVariants.{ADDR, REF, OBJ, GRD, ARMS, ARMR, ARMA, ARMT, ARMX}
 use Rattle.pfc_code.specs.Operands.{receiving}
 use Rattle.pfc_values.specs.Numbers.{is_true}
-use Rattle.pfc_machine.specs.Stacks.{operand}
-use Rattle.pfc_machine.specs.Fits.{Reckons}
-use Rattle.pfc_machine.specs.Rows.{Alone, quiet, action, fault, more, alone}
+use Rattle.pfc_stacks.specs.Stacks.{operand}
+use Rattle.pfc_stacks.specs.Conditions.{Reckons}
+use Rattle.pfc_stacks.specs.Effects.{OwnEffect, quiet, action, fault, more, own_effect}
 use Rattle.pfc_translation.specs.Operands.{reads}
-use Rattle.pfc_standing_code.specs.Settings.{View, Trial, Setting, of_own, of_another}
+use Rattle.pfc_standing_code.specs.Settings.{View, Trial, Setting, of_own, of_turn, of_another}
 
 -- an alternative of a select: the instruction that made it, and the operands that it took, top first
 pub record Arm : Type 0 where
@@ -24,11 +24,11 @@ pub data Effect : Type 0 where
   -- none of these: the instruction is an action, or needs more
   otherwise : Effect
 
-abbrev pub of_alone : Alone → List Arm → Effect
-of_alone (quiet at ops) arms = onward at ops arms
-of_alone (action at ops) arms = otherwise
-of_alone (fault f) arms = refuses f
-of_alone more arms = otherwise
+abbrev pub of_own_effect : OwnEffect → List Arm → Effect
+of_own_effect (quiet at ops) arms = onward at ops arms
+of_own_effect (action at ops) arms = otherwise
+of_own_effect (fault f) arms = refuses f
+of_own_effect more arms = otherwise
 
 -- the operands become one more alternative
 abbrev pub arming : Instr → ℕ → ℕ → List ℤ → List Arm → Effect
@@ -41,7 +41,8 @@ numbered at ops arms (Some n) = onward (at + 1) (n ∷ ops) arms
 -- the own guard goes on where it is true; that of a barred process goes to the next turn of the scan where it is false
 abbrev pub guarded : Trial → ℕ → ℤ → List ℤ → List Arm → Effect
 guarded of_own at v ops arms = if is_true v then onward (at + 1) ops arms else otherwise
-guarded (of_another turn seen) at v ops arms = if is_true v then otherwise else onward turn ops arms
+guarded (of_turn scan back) at v ops arms = otherwise
+guarded (of_another attempt) at v ops arms = if is_true v then otherwise else onward attempt.turn ops arms
 
 abbrev pub effect_of : Setting → Instr → ℕ → List ℤ → List Arm → Effect
 effect_of g (ADDR l d) at ops arms = onward (at + 1) (pos (g.view.first l + d) ∷ ops) arms
@@ -53,7 +54,7 @@ effect_of g (ARMR z a) at ops arms = arming (ARMR z a) (receiving z) at ops arms
 effect_of g (ARMA e d z a) at ops arms = arming (ARMA e d z a) 0 at ops arms
 effect_of g (ARMT a) at ops arms = if int_lt (operand ops 0) (pos 0) then refuses Below else arming (ARMT a) 1 at ops arms
 effect_of g ARMX at ops arms = arming ARMX 0 at ops arms
-effect_of g i at ops arms = of_alone (alone i at ops) arms
+effect_of g i at ops arms = of_own_effect (own_effect i at ops) arms
 
 -- the cells that an address instruction names are in view
 abbrev pub InSight : View → Instr → Type 0

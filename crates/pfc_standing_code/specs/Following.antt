@@ -12,22 +12,24 @@ use Rattle.pfc_types.specs.declared.heads.Formal.{Formal}
 use Rattle.pfc_values.specs.declared.simple.Simple.{Simple}
 use Rattle.pfc_values.specs.Pieces.{shown, padded}
 use Rattle.pfc_values.specs.Numbers.{is_true}
-use Rattle.pfc_machine.specs.Rows.{is_before, value_behind}
+use Rattle.pfc_stacks.specs.Effects.{is_before, value_behind}
 use Rattle.pfc_semantics.specs.Values.{Value, ordinal}
 use Rattle.pfc_semantics.specs.Displays.{Spot}
 use Rattle.pfc_semantics.specs.Operators.{simple_of}
 use Rattle.pfc_semantics.specs.Programs.{Block}
-use Rattle.pfc_semantics.specs.Remainders.{Context, Offer, Open, Remainder, Action, to_send, to_receive, to_accept, to_wait, to_end, reads, writes, turns, calls, finishes, prints, inputs, skips, asks_eof, asks_eoln, asks_clock, asks_empty, draws, joins, initials, waits, signals, delays, resumes, sleeps, meets, decides, parts, scans, bars, passes, faults}
+use Rattle.pfc_semantics.specs.Remainders.{Context, Offer, Open, Scan, Remainder, Action, to_send, to_receive, to_accept, to_wait, to_end, reads, writes, turns, calls, finishes, prints, inputs, skips, asks_eof, asks_eoln, asks_clock, asks_empty, draws, joins, initials, waits, signals, delays, resumes, sleeps, meets, decides, parts, scans, bars, passes, faults}
 use Rattle.pfc_semantics.specs.Rewriting.{Doing, going, holding}
 use Rattle.pfc_translation.specs.Sites.{forms_of}
 use Rattle.pfc_translation.specs.Calls.{write_instr, read_instr}
 use Rattle.pfc_translation.specs.Selects.{accept_cell, accept_cells}
-use Rattle.pfc_standing_code.specs.Shapes.{Shape, a_number, shape_of, shape_cells, IsOf, IsShaped, words_of}
-use Rattle.pfc_standing_code.specs.Settings.{View, Setting, of_own, of_another, site_of, IsAt}
+use Rattle.pfc_cells.specs.Shapes.{words_of}
+use Rattle.pfc_standing_code.specs.Shapes.{Shape, a_number, shape_of, shape_cells, IsOf, IsShaped}
+use Rattle.pfc_standing_code.specs.ValueTypes.{IsValueType}
+use Rattle.pfc_standing_code.specs.Settings.{Trial, Setting, of_own, of_turn, of_another, site_of, parted, IsAt}
 use Rattle.pfc_standing_code.specs.Effects.{Arm, onward, refuses, effect_of, CanPerform}
 use Rattle.pfc_standing_code.specs.Words.{IsWord, IsSimpleWord, IsObject, IsChecked, AreHeld}
-use Rattle.pfc_standing_code.specs.Performs.{MetAt, DecidesAt, IsSent, IsReceived, AreOpen, WayAt, own_again, Clear, Performs}
-use Rattle.pfc_standing_code.specs.Awaits.{TurnAt, PerformsAnywhere, TakesValue, CallsAt}
+use Rattle.pfc_standing_code.specs.Performs.{MetAt, DecidesAt, IsSent, IsReceived, AreOpen, own_room, IsOwnBar, Tries, IsCheckedFor, Clear, Performs}
+use Rattle.pfc_standing_code.specs.Awaits.{TurnAt, PerformsAnywhere, BehindScanAt, TakesValue, CallsAt}
 
 -- a number or a string that is printed, with or without a width
 pub data IsPiece (g : Setting) (line at : ℕ) (ops below : List ℤ) (bytes : List ℕ) : Type 0 where
@@ -77,17 +79,23 @@ abbrev pub ObjectAt : Setting → Block → Context → ℕ → List ℤ → Spo
 ObjectAt g b x at ops v t i k =
     (n : ℤ) × (below : List ℤ) × (ops ≡ n ∷ below) × IsObject g (site_of g b x) v (Some t) n × IsAt g at i x.line × Performs g b x.env (at + 1) below [] k
 
+-- a turn of this scan comes: that before which the process is, or behind the guard of another, past that one's ticket
+abbrev pub IsTurnOf : Trial → Scan → Type 0
+IsTurnOf of_own scan = ⊥
+IsTurnOf (of_turn next back) scan = next ≡ scan
+IsTurnOf (of_another attempt) scan = record attempt.scan { after = Some attempt.whom.ticket } ≡ scan
+
 -- The code is at the action, and performs behind it what is left then. The names that are in view there are those of the action.
 abbrev pub ArrivedBy : Setting → Block → ℕ → List ℤ → List Arm → Action → Type 0
 ArrivedBy g b at ops arms (reads x v u) =
     (t : TypeId) × (w : ℤ) × (below : List ℤ) × (ops ≡ w ∷ below) × IsWord g.view (site_of g b x) v (Some t) w
     × IsAt g at (LOAD (shape_cells g.program.state.forms (shape_of t))) x.line × (length below + shape_cells g.program.state.forms (shape_of t) ≤ g.room)
-    × TakesValue g b x (at + 1) below arms (shape_of t) u
+    × TakesValue g b x (at + 1) below arms (shape_of t) u × IsValueType g.program.state.forms t
 ArrivedBy g b at ops arms (writes x v new k) = IsWrite g b x at ops arms v new k
 ArrivedBy g b at ops arms (turns x k) = Clear arms (IsTurn g b x at ops k)
 ArrivedBy g b at ops arms (calls x call given) =
     (formals : List Formal) × (below : List ℤ) × AreHeld g.view (site_of g b x) formals given ops below × CallsAt g b x at below arms formals call
-ArrivedBy g b at ops arms (finishes line) = Clear arms ((ops ≡ g.under) × IsAt g at g.last line)
+ArrivedBy g b at ops arms (finishes line) = Clear arms ((ops ≡ g.under) × IsAt g at g.last line × (g.trial ≡ of_own) × (g.meetings ≡ []))
 ArrivedBy g b at ops arms (prints x bytes k) = Clear arms ((below : List ℤ) × IsPiece g x.line at ops below bytes × Performs g b x.env (at + 1) below [] k)
 ArrivedBy g b at ops arms (inputs x t v k) =
     Clear arms ((w : ℤ) × (below : List ℤ) × (ops ≡ w ∷ below) × IsSimpleWord g.view (site_of g b x) v w × IsAt g at (read_instr (simple_of t)) x.line
@@ -114,19 +122,21 @@ ArrivedBy g b at ops arms (decides x sel k) =
     let s = site_of g b x in
     let behind = λ (end : ℕ). Performs g b x.env end ops [] k in
     DecidesAt g s at (length ops) sel.pri sel.otherwise behind × AreOpen g s (length ops) sel.offered arms behind
-ArrivedBy g b at ops arms (parts x caller k) = Clear arms (IsAt g at EACC x.line × Performs g b x.env (at + 1) ops [] k)
+ArrivedBy g b at ops arms (parts x caller k) =
+    Clear arms (IsAt g at EACC x.line × (slice_get g.meetings 0 ≡ Some caller) × IsCheckedFor (parted g) b x.env k
+    × Performs (parted g) b x.env (at + 1) ops [] k)
 -- a turn of the process itself, or behind the false guard of a barred process
 ArrivedBy g b at ops arms (scans x scan k) =
-    Clear arms (TurnAt g at scan × WayAt (own_again g) b scan.way g.behind_scan (length ops) (λ end. PerformsAnywhere (own_again g) b end ops k))
+    Clear arms (IsTurnOf g.trial scan × (length ops ≤ own_room g.trial g.room) × TurnAt g at scan × BehindScanAt g scan ops k)
 ArrivedBy g b at ops arms (bars x bar k) =
-    Clear arms ((v : ℤ) × (below : List ℤ) × (ops ≡ v ∷ below) × (is_true v ≡ false) × (g.trial ≡ of_own) × IsAt g at (GRD bar.resource) x.line
-    × PerformsAnywhere g b (at + 1) below k)
+    Clear arms ((v : ℤ) × (below : List ℤ) × (ops ≡ v ∷ below) × (is_true v ≡ false) × (g.trial ≡ of_own) × IsOwnBar g b bar
+    × IsAt g at (GRD bar.resource) x.line × PerformsAnywhere g b (at + 1) below k)
 ArrivedBy g b at ops arms (passes x w scan k) =
-    Clear arms ((v : ℤ) × (below : List ℤ) × (turn : ℕ) × (seen : View) × (ops ≡ v ∷ below) × (is_true v ≡ true) × (g.trial ≡ of_another turn seen)
-    × IsAt g at (GRD scan.resource) x.line × WayAt (own_again g) b scan.way g.behind_scan (length below) (λ end. PerformsAnywhere (own_again g) b end below k))
+    Clear arms ((v : ℤ) × (below : List ℤ) × Tries g w scan (length below) × (ops ≡ v ∷ below) × (is_true v ≡ true)
+    × IsAt g at (GRD scan.resource) x.line × BehindScanAt g scan below k)
 ArrivedBy g b at ops arms (faults x f) = IsFault g x.line at ops arms f
 
--- the names in view at an action; an end and a fault need none
+-- the names in view at an action; an end, a fault and a turn of a scan need none
 abbrev pub names_of : Action → Option Env
 names_of (reads x v u) = Some x.env
 names_of (writes x v new k) = Some x.env
@@ -152,8 +162,8 @@ names_of (meets x o k) = Some x.env
 names_of (decides x sel k) = Some x.env
 names_of (parts x caller k) = Some x.env
 names_of (scans x scan k) = None
-names_of (bars x bar k) = None
-names_of (passes x w scan k) = None
+names_of (bars x bar k) = Some x.env
+names_of (passes x w scan k) = Some x.env
 names_of (faults x f) = None
 
 abbrev pub AreChecked : Setting → Block → Option Env → Type 0
@@ -168,9 +178,12 @@ pub data Follows (g : Setting) (n : Action) : ℕ → List ℤ → List Arm → 
   arrives : (at : ℕ) (ops : List ℤ) (arms : List Arm) → Arrived g at ops arms n → Follows g n at ops arms
   moves : (at : ℕ) (ops : List ℤ) (arms : List Arm) (i : Instr) (line to : ℕ) (left : List ℤ) (more : List Arm) → IsAt g at i line → CanPerform g i ops → effect_of g i at ops arms ≡ onward to left more → at < to → length left ≤ g.room → length more ≤ g.arms → Follows g n to left more → Follows g n at ops arms
 
--- a process is at this address, with these operands and alternatives, where this is still to do
-abbrev pub DoesAt : Setting → ℕ → List ℤ → List Arm → Doing → Type 0
-DoesAt g at ops arms (going env k) = (b : Block) × IsChecked g b env × Performs g b env at ops arms k
-DoesAt g at ops arms (holding x v u) =
-    (b : Block) × (h : Shape) × (below : List ℤ) × IsChecked g b x.env × IsShaped (forms_of (site_of g b x)) h v × (ops ≡ reverse (words_of v) ++ below)
+-- a process is at this address of a block, with these operands and alternatives, where this is still to do
+abbrev pub DoesIn : Setting → Block → ℕ → List ℤ → List Arm → Doing → Type 0
+DoesIn g b at ops arms (going env k) = IsCheckedFor g b env k × Performs g b env at ops arms k
+DoesIn g b at ops arms (holding x v u) =
+    (h : Shape) × (below : List ℤ) × IsChecked g b x.env × IsShaped (forms_of (site_of g b x)) h v × (ops ≡ reverse (words_of v) ++ below)
     × TakesValue g b x at below arms h u
+
+abbrev pub DoesAt : Setting → ℕ → List ℤ → List Arm → Doing → Type 0
+DoesAt g at ops arms d = (b : Block) × DoesIn g b at ops arms d

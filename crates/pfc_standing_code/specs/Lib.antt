@@ -7,4 +7,5 @@ pub mod Sizes
 pub mod Shapes
 pub mod Typed
 pub mod TypedStatements
+pub mod ValueTypes
 pub mod Words

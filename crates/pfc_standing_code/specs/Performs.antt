@@ -3,29 +3,33 @@
 -- Everything is said of a place of the code, of the operands that are held there, top first, and of the alternatives of a select that is
 -- gone through. All but such a select begins without alternatives.
 use Rattle.std.specs.Prelude.{ℕ, ◌+◌, ◌<◌, ◌≤◌, ◌≡◌, ℤ, pos, int_lt, Bool, false, if◌then◌else◌, List, [], ◌∷◌, ◌++◌, length, drop, reverse, Option, Some, None}
+use Rattle.std.specs.List.{slice_get}
 use Rattle.pfc_code.specs.declared.instructions.Instr.TheVariants.{TURN, FORW, FORT, CERR, GRD, SCAN, COEND, EACC, ARMS, ARMR, ARMA, ARMT, ARMX, SEL}
 use Rattle.pfc_tree.specs.trees.Stmts.{StmtTree, StmtTrees, ArmTrees, CommTree, repeat_until, comm_accept, terminate}
+use Rattle.pfc_types.specs.Types.{synchronous}
 use Rattle.pfc_types.specs.rules.Expressions.{Env}
 use Rattle.pfc_types.specs.rules.Statements.{comm_scopes}
 use Rattle.pfc_types.specs.declared.types.TypeId.{TypeId}
 use Rattle.pfc_semantics.specs.Values.{Value}
 use Rattle.pfc_semantics.specs.Displays.{Spot}
-use Rattle.pfc_semantics.specs.Programs.{Block}
-use Rattle.pfc_semantics.specs.Remainders.{Context, Count, Replica, Accepting, Offer, Open, Alternative, Otherwise, Selecting, Bar, Way, Remainder, to_send, to_receive, to_accept, to_wait, to_end, leave, own, ends, perform, in_names, turn, until, behind_pass, next_pass, write_on, read_on, at_coend, part_from, write_again, go_through, try_guard, scan_on, try_other}
+use Rattle.pfc_semantics.specs.Programs.{Block, Guard}
+use Rattle.pfc_semantics.specs.Remainders.{Context, Count, Replica, Accepting, Offer, Open, Alternative, Otherwise, Selecting, Bar, Way, Scan, Tried, Remainder, to_send, to_receive, to_accept, to_wait, to_end, leave, own, ends, perform, in_names, turn, until, behind_pass, next_pass, write_on, read_on, at_coend, part_from, write_again, go_through, try_guard, scan_on, try_other}
 use Rattle.pfc_semantics.specs.Alternatives.{context, accepting_of, a_signal}
 use Rattle.pfc_semantics.specs.Statements.{is_past}
 use Rattle.pfc_semantics.specs.Rewriting.{loop_line}
-use Rattle.pfc_translation.specs.Sites.{Site, in_accept, forms_of}
+use Rattle.pfc_semantics.specs.Resources.{bar_of}
+use Rattle.pfc_translation.specs.Sites.{Site, in_accept, forms_of, blocks_of}
 use Rattle.pfc_translation.specs.Codes.{Code, ◌⨾◌, one}
 use Rattle.pfc_translation.specs.Expressions.{expr_code}
 use Rattle.pfc_translation.specs.Calls.{writes_code, reads_code}
 use Rattle.pfc_translation.specs.Statements.{stmt_code, stmts_code, tests_code, arms_code}
 use Rattle.pfc_translation.specs.Selects.{accept_cell, accept_cells, replica_code, comm_code, guarded_code, alternatives_code, first_of}
-use Rattle.pfc_standing_code.specs.Shapes.{a_number, shape_of, shape_cells, IsOf, words_of}
-use Rattle.pfc_standing_code.specs.Settings.{View, Trial, Setting, of_own, of_another, site_of, IsAt, Stands, Jumped}
+use Rattle.pfc_cells.specs.Shapes.{words_of}
+use Rattle.pfc_standing_code.specs.Shapes.{a_number, shape_of, shape_cells, IsOf}
+use Rattle.pfc_standing_code.specs.Settings.{View, Trial, Attempt, Setting, of_own, of_turn, of_another, site_of, IsBeside, parted, IsAt, Stands, Jumped}
 use Rattle.pfc_standing_code.specs.Effects.{Arm}
 use Rattle.pfc_standing_code.specs.Typed.{HasShape}
-use Rattle.pfc_standing_code.specs.TypedStatements.{IsChannel, IsTyped, AreTyped, AreArmsTyped, AreWritten, AreRead, IsReplica, IsGuard, IsComm, AreAlternatives}
+use Rattle.pfc_standing_code.specs.TypedStatements.{IsChannel, IsCarried, AcceptsEntry, IsTyped, AreTyped, AreArmsTyped, AreWritten, AreRead, IsReplica, IsGuard, IsComm, AreAlternatives}
 use Rattle.pfc_standing_code.specs.Words.{IsWord, IsSimpleWord, IsObject, IsChecked}
 
 -- ## Statements at a place
@@ -73,11 +77,13 @@ pub record HasPass (g : Setting) (s : Site) (f : Count) (at n held : ℕ) : Type
 
 -- ## Alternatives of a select
 
--- what stands behind a communication: of an accept its statement, in which its parameters are in view, and its end; then the statements
+-- What stands behind a communication: of an accept, whose parameters are those of its entry, its statement, in which they are in view, and its end;
+-- then the statements.
 abbrev pub MetAt : Setting → Site → ℕ → ℕ → Option Accepting → ℕ → StmtTrees → (ℕ → Type 0) → Type 0
 MetAt g s at held None m ts behind = StmtsThen g s at held m ts behind
 MetAt g s at held (Some a) m ts behind =
-    StmtThen g (in_accept s a.scope) at held (a.scope + 1) a.stmt (λ to. IsAt g to EACC a.line × StmtsThen g s (to + 1) held m ts behind)
+    AcceptsEntry (blocks_of s) s.block.scope a.entry a.scope
+    × StmtThen g (in_accept s a.scope) at held (a.scope + 1) a.stmt (λ to. IsAt g to EACC a.line × StmtsThen g s (to + 1) held m ts behind)
 
 -- the branch of an alternative: a replicated one writes its variable again, at the line of the select
 abbrev pub BranchAt : Setting → Site → ℕ → ℕ → Option Replica → Option Accepting → ℕ → StmtTrees → (ℕ → Type 0) → Type 0
@@ -119,13 +125,21 @@ pub record AlternativesAt (g : Setting) (s : Site) (x : Context) (at held : ℕ)
 
 -- The operands of a send, top first: the message over the channel's number; over a channel of `synchronous` the number alone.
 pub data IsSent (g : Setting) (s : Site) (channel : Spot) (v : Value) (z : ℕ) (ops : List ℤ) : Type 0 where
-  of_message : (t : Option TypeId) (u : TypeId) (n : ℤ) → IsChannel (forms_of s) t u → IsObject g s channel t n → IsOf (forms_of s) u v → z ≡ shape_cells (forms_of s) (shape_of u) → ops ≡ reverse (words_of v) ++ n ∷ [] → IsSent g s channel v z ops
-  of_signal : (t : Option TypeId) (u : TypeId) (n : ℤ) → IsChannel (forms_of s) t u → IsObject g s channel t n → v ≡ a_signal → z ≡ 0 → ops ≡ n ∷ [] → IsSent g s channel v z ops
+  of_message :
+      (t : Option TypeId) (u : TypeId) (n : ℤ) → IsChannel (forms_of s) t u → IsObject g s channel t n → IsCarried (forms_of s) u → IsOf (forms_of s) u v
+      → z ≡ shape_cells (forms_of s) (shape_of u) → ops ≡ reverse (words_of v) ++ n ∷ [] → IsSent g s channel v z ops
+  of_signal :
+      (t : Option TypeId) (u : TypeId) (n : ℤ) → IsChannel (forms_of s) t u → IsObject g s channel t n → u ≡ synchronous → v ≡ a_signal → z ≡ 0
+      → ops ≡ n ∷ [] → IsSent g s channel v z ops
 
 -- those of a receive: the variable's address over the channel's number, or the number alone, which the instruction tells by the cells
 pub data IsReceived (g : Setting) (s : Site) (channel : Spot) (z : ℕ) (ops : List ℤ) : Option Spot → Type 0 where
-  into_variable : (t : Option TypeId) (u : TypeId) (n w : ℤ) (target : Spot) → IsChannel (forms_of s) t u → IsObject g s channel t n → IsWord g.view s target (Some u) w → z ≡ shape_cells (forms_of s) (shape_of u) → 0 < z → ops ≡ w ∷ n ∷ [] → IsReceived g s channel z ops (Some target)
-  into_nothing : (t : Option TypeId) (u : TypeId) (n : ℤ) → IsChannel (forms_of s) t u → IsObject g s channel t n → z ≡ 0 → ops ≡ n ∷ [] → IsReceived g s channel z ops None
+  into_variable :
+      (t : Option TypeId) (u : TypeId) (n w : ℤ) (target : Spot) → IsChannel (forms_of s) t u → IsObject g s channel t n → IsCarried (forms_of s) u
+      → IsWord g.view s target (Some u) w → z ≡ shape_cells (forms_of s) (shape_of u) → ops ≡ w ∷ n ∷ [] → IsReceived g s channel z ops (Some target)
+  into_nothing :
+      (t : Option TypeId) (u : TypeId) (n : ℤ) → IsChannel (forms_of s) t u → IsObject g s channel t n → u ≡ synchronous → z ≡ 0 → ops ≡ n ∷ []
+      → IsReceived g s channel z ops None
 
 -- an alternative of the machine is an open one: its operands are those of what is offered, and it leads to its branch
 abbrev pub IsOpen : Setting → Site → ℕ → Open → Offer → Arm → (ℕ → Type 0) → Type 0
@@ -172,29 +186,87 @@ GuardAt g b bar at held behind =
     let code = expr_code s bar.test ⨾ one s (GRD bar.resource) in
     IsChecked g b bar.context.env × HasShape s bar.test a_number × (n : ℕ) × Stands g at n held code × behind (at + code.size)
 
+-- the guard of the own procedure, which is that of the block
+abbrev pub IsOwnBar : Setting → Block → Bar → Type 0
+IsOwnBar g b bar = (guard : Guard) × (b.guard ≡ Some guard) × (bar ≡ bar_of g.program bar.resource b guard)
+
 -- what a process does behind a scan: what is left, or its own guard first
 abbrev pub WayAt : Setting → Block → Way → ℕ → ℕ → (ℕ → Type 0) → Type 0
 WayAt g b leave at held behind = behind at
-WayAt g b (own bar) at held behind = (g.trial ≡ of_own) × GuardAt g b bar at held behind
+WayAt g b (own bar) at held behind = (g.trial ≡ of_own) × IsOwnBar g b bar × GuardAt g b bar at held behind
 
--- the view and the trial of the process itself, where it may be trying the guard of another
+-- what the process itself sees, where it may be trying the guard of another
 abbrev pub own_view : Trial → View → View
 own_view of_own view = view
-own_view (of_another at seen) view = seen
+own_view (of_turn scan back) view = view
+own_view (of_another attempt) view = attempt.seen.view
+
+abbrev pub own_accepts : Trial → List ℕ → List ℕ
+own_accepts of_own accepts = accepts
+own_accepts (of_turn scan back) accepts = accepts
+own_accepts (of_another attempt) accepts = attempt.seen.accepts
+
+-- and so the block in whose code it stands, and the room for its operands
+abbrev pub own_block : Trial → Block → Block
+own_block of_own b = b
+own_block (of_turn scan back) b = b
+own_block (of_another attempt) b = attempt.block
+
+abbrev pub own_room : Trial → ℕ → ℕ
+own_room of_own room = room
+own_room (of_turn scan back) room = room
+own_room (of_another attempt) room = attempt.room
+
+-- the address at which the process goes on behind the scan that it is in
+abbrev pub behind_scan : Trial → ℕ
+behind_scan of_own = 0
+behind_scan (of_turn scan back) = back
+behind_scan (of_another attempt) = attempt.back
 
 abbrev pub own_again : Setting → Setting
-own_again g = record g { view = own_view g.trial g.view; trial = of_own }
+own_again g =
+    record g {
+      view = own_view g.trial g.view;
+      accepts = own_accepts g.trial g.accepts;
+      block = own_block g.trial g.block;
+      room = own_room g.trial g.room;
+      trial = of_own;
+    }
+
+-- The process tries the guard of this barred process in this scan; there is room of its own for what it holds.
+pub record Tries (g : Setting) (w : Tried) (scan : Scan) (held : ℕ) : Type 0 where
+  pub attempt : Attempt
+  pub trial : g.trial ≡ of_another attempt
+  pub whom : attempt.whom ≡ w
+  pub within : attempt.scan ≡ scan
+  pub turn : IsAt g attempt.turn (SCAN scan.resource) scan.line
+  pub room : held ≤ own_room g.trial g.room
 
 -- ## What is left behind a statement
+
+-- What is asked of the names in view where this is left: nothing where it needs none, or begins with names of its own. So has a guard, and while one
+-- is tried for another process it is the names of that one that are seen.
+abbrev pub AskedOf : (Env → Type 0) → Env → Remainder → Type 0
+AskedOf P env (ends line) = Unit {0}
+AskedOf P env (in_names inner k) = Unit {0}
+AskedOf P env (try_guard bar k) = Unit {0}
+AskedOf P env (scan_on scan k) = Unit {0}
+AskedOf P env (try_other w scan k) = Unit {0}
+AskedOf P env k = P env
+
+abbrev pub IsCheckedFor : Setting → Block → Env → Remainder → Type 0
+IsCheckedFor g b env k = AskedOf (λ (e : Env). IsChecked g b e) env k
 
 abbrev pub Clear : List Arm → Type 0 → Type 0
 Clear arms P = (arms ≡ []) × P
 
+-- While the guard of another is tried, the block is the one in whose code that stands, and what is left behind the scan is of the own block.
 abbrev pub Performs : Setting → Block → Env → ℕ → List ℤ → List Arm → Remainder → Type 0
-Performs g b env at ops arms (ends line) = Clear arms (Jumped g at (λ to. (ops ≡ g.under) × IsAt g to g.last line))
+Performs g b env at ops arms (ends line) = Clear arms (Jumped g at (λ to.
+    (ops ≡ g.under) × IsAt g to g.last line × (g.trial ≡ of_own) × (g.meetings ≡ [])))
 Performs g b env at ops arms (perform m ts k) = Clear arms (Jumped g at (λ to.
     (line : ℕ) × StmtsThen g (site_of g b (context env line)) to (length ops) m ts (λ end. Performs g b env end ops [] k)))
-Performs g b env at ops arms (in_names inner k) = (c : Block) × IsChecked g c inner × Performs g c inner at ops arms k
+Performs g b env at ops arms (in_names inner k) = (c : Block) × IsBeside g b c × IsChecked g c inner × Performs g c inner at ops arms k
 Performs g b env at ops arms (turn m loop k) = Clear arms (Jumped g at (λ to.
     (line a : ℕ) × IsAt g to (TURN a) (loop_line loop)
     × StmtThen g (site_of g b (context env line)) a (length ops) m loop (λ end. Performs g b env end ops [] k)))
@@ -216,7 +288,8 @@ Performs g b env at ops arms (read_on line args skip k) = Clear arms (Jumped g a
     let s = site_of g b (context env line) in
     AreRead s args × (n : ℕ) × Stands g to n (length ops) (reads_code s args skip) × Performs g b env (to + (reads_code s args skip).size) ops [] k))
 Performs g b env at ops arms (at_coend line k) = Clear arms (Jumped g at (λ to. IsAt g to COEND line × Performs g b env (to + 1) ops [] k))
-Performs g b env at ops arms (part_from caller line k) = Clear arms (Jumped g at (λ to. IsAt g to EACC line × Performs g b env (to + 1) ops [] k))
+Performs g b env at ops arms (part_from caller line k) = Clear arms (Jumped g at (λ to.
+    IsAt g to EACC line × (slice_get g.meetings 0 ≡ Some caller) × IsCheckedFor (parted g) b env k × Performs (parted g) b env (to + 1) ops [] k))
 Performs g b env at ops arms (write_again r k) = Clear arms (Jumped g at (λ to.
     let s = site_of g b (context env r.line) in
     IsReplica s (Some r) × (n : ℕ) × Stands g to n (length ops) (replica_code s (Some r)) × Performs g b env (to + (replica_code s (Some r)).size) ops [] k))
@@ -226,11 +299,12 @@ Performs g b env at ops arms (go_through line a rest sel k) = Jumped g at (λ to
     IsGuard s a.guard
     × CommAt g s x to (length ops) (length ops) a rest sel arms (λ between. guarded_code s a.guard (comm_code s a.next a.comm between)) (λ end. Performs g b env end ops [] k))
 Performs g b env at ops arms (try_guard bar k) = Clear arms (Jumped g at (λ to.
-    (g.trial ≡ of_own) × GuardAt g b bar to (length ops) (λ end. (e : Env) → Performs g b e end ops [] k)))
+    (g.trial ≡ of_own) × IsOwnBar g b bar × GuardAt g b bar to (length ops) (λ end. (e : Env) → IsCheckedFor g b e k × Performs g b e end ops [] k)))
 Performs g b env at ops arms (scan_on scan k) = Clear arms (Jumped g at (λ to.
-    IsAt g to (SCAN scan.resource) scan.line
-    × WayAt (own_again g) b scan.way g.behind_scan (length ops) (λ end. (e : Env) → Performs (own_again g) b e end ops [] k)))
+    ((back : ℕ) × (g.trial ≡ of_turn scan back)) × IsAt g to (SCAN scan.resource) scan.line
+    × WayAt (own_again g) (own_block g.trial g.block) scan.way (behind_scan g.trial) (length ops)
+    (λ end. (e : Env) → IsCheckedFor (own_again g) (own_block g.trial g.block) e k × Performs (own_again g) (own_block g.trial g.block) e end ops [] k)))
 Performs g b env at ops arms (try_other w scan k) = Clear arms (Jumped g at (λ to.
-    (turn : ℕ) × (seen : View) × (c : Block) × (g.trial ≡ of_another turn seen) × IsAt g turn (SCAN scan.resource) scan.line
-    × (w.bar.resource ≡ scan.resource) × GuardAt g c w.bar to (length ops) (λ end. end ≤ turn)
-    × WayAt (own_again g) b scan.way g.behind_scan (length ops) (λ end. (e : Env) → Performs (own_again g) b e end ops [] k)))
+    (tries : Tries g w scan (length ops)) × (w.bar.resource ≡ scan.resource) × GuardAt g b w.bar to (length ops) (λ end. end ≤ tries.attempt.turn)
+    × WayAt (own_again g) (own_block g.trial g.block) scan.way (behind_scan g.trial) (length ops)
+    (λ end. (e : Env) → IsCheckedFor (own_again g) (own_block g.trial g.block) e k × Performs (own_again g) (own_block g.trial g.block) e end ops [] k)))

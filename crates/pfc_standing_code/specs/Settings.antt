@@ -1,11 +1,11 @@
 -- The code of a program, and what the activation at hand sees of the machine.
-use Rattle.std.specs.Prelude.{ℕ, ◌+◌, ◌<◌, ◌≤◌, ◌≡◌, ℤ, Bool, List, [], ◌∷◌, Option, Some}
+use Rattle.std.specs.Prelude.{ℕ, ◌+◌, ◌<◌, ◌≤◌, ◌≡◌, ℤ, Bool, List, [], ◌∷◌, drop, Option, Some}
 use Rattle.std.specs.List.{slice_get}
 use Rattle.pfc_code.specs.declared.instructions.Instr.{Instr}
 use Rattle.pfc_code.specs.declared.instructions.Instr.TheVariants.{JMP}
 use Rattle.pfc_tree.specs.Symbols.{Text}
 use Rattle.pfc_semantics.specs.Programs.{Block, Program}
-use Rattle.pfc_semantics.specs.Remainders.{Context}
+use Rattle.pfc_semantics.specs.Remainders.{Context, Scan, Tried}
 use Rattle.pfc_translation.specs.Sites.{Site}
 use Rattle.pfc_translation.specs.Codes.{Code, Lined}
 use Rattle.pfc_translation.specs.Operands.{most_operands}
@@ -19,20 +19,43 @@ pub record View : Type 0 where
   pub first : ℕ → ℕ
   pub held : ℕ → ℕ → ℕ
 
--- whose guard a `GRD` ends: the own one, or in a scan that of a barred process, where the next turn stands at this address, and this is what the
--- process that scans sees itself
+-- what an activation sees: its view, and the scopes of its accepts that are open, the last begun first
+pub record Sight : Type 0 where
+  pub view : View
+  pub accepts : List ℕ
+
+-- A process tries the guard of a barred process: of which one, in which scan, at which address the next turn stands, and at which the process goes on
+-- behind the scan. The rest is its own: what it sees itself, the block in whose code it stands, and the room for its operands.
+pub record Attempt : Type 0 where
+  pub whom : Tried
+  pub scan : Scan
+  pub turn : ℕ
+  pub back : ℕ
+  pub seen : Sight
+  pub block : Block
+  pub room : ℕ
+
+-- where a process is in a scan: in none, so that a `GRD` ends its own guard; before the next turn of one, behind which it goes on at this address; in the
+-- guard of another
 pub data Trial : Type 0 where
   of_own : Trial
-  of_another : ℕ → View → Trial
+  of_turn : Scan → ℕ → Trial
+  of_another : Attempt → Trial
 
 pub record Setting : Type 0 where
   pub program : Program
+  -- the block in whose code the process stands; of several bodies of main any
+  pub block : Block
   -- all instructions with their lines, by address, and the strings
   pub code : Lined
   pub texts : List Text
   -- the number of the object at an address
   pub number : ℤ → Option ℤ
   pub view : View
+  -- the scopes of the accepts that are open, the last begun first
+  pub accepts : List ℕ
+  -- and the callers in their meetings
+  pub meetings : List ℕ
   -- the operands of the callers, and the instruction that ends the body
   pub under : List ℤ
   pub last : Instr
@@ -40,11 +63,29 @@ pub record Setting : Type 0 where
   pub room : ℕ
   pub arms : ℕ
   pub trial : Trial
-  -- where the process goes on behind a scan
-  pub behind_scan : ℕ
 
 abbrev pub site_of : Setting → Block → Context → Site
 site_of g b x = record { program = g.program; block = b; env = x.env; line = x.line }
+
+-- ## Blocks beside one another
+
+-- main's own body and the initialising bodies
+abbrev pub IsMains : Setting → Block → Type 0
+IsMains g b = (i : ℕ) × (slice_get (g.program.main ∷ g.program.modules) i ≡ Some b)
+
+-- names are of the same block, or both blocks are main's
+pub data IsBeside (g : Setting) (b : Block) : Block → Type 0 where
+  same_block : IsBeside g b b
+  both_mains : (c : Block) → IsMains g b → IsMains g c → IsBeside g b c
+
+-- ## Accepts
+
+-- one more accept is open, with this caller; the last begun is at its end
+abbrev pub with_accept : Setting → ℕ → ℕ → Setting
+with_accept g i caller = record g { accepts = i ∷ g.accepts; meetings = caller ∷ g.meetings }
+
+abbrev pub parted : Setting → Setting
+parted g = record g { accepts = drop 1 g.accepts; meetings = drop 1 g.meetings }
 
 -- ## Code at a place
 

@@ -1,13 +1,12 @@
 -- Values as the code holds them: their shape, their words, and where their parts lie among the cells of the whole.
-use Rattle.std.specs.Prelude.{ℕ, zero, suc, ◌+◌, ◌*◌, ◌<◌, ◌≡◌, ℤ, Bool, true, false, ◌||◌, if◌then◌else◌, List, [], ◌∷◌, ◌++◌, length, Option, Some, None}
-use Rattle.std.specs.List.{slice_get}
+use Rattle.std.specs.Prelude.{ℕ, zero, suc, ◌*◌, ◌≡◌, ℤ, Bool, true, false, ◌||◌, if◌then◌else◌, [], ◌∷◌, length, Option, Some, None}
 use Rattle.pfc_tree.specs.Symbols.{Text}
 use Rattle.pfc_types.specs.Types.{Forms, semaphore, condition, form_of, cells_in, extent, is_same, is_simple, has_bounds}
 use Rattle.pfc_types.specs.Fields.{FieldList}
 use Rattle.pfc_types.specs.declared.types.TypeId.{TypeId}
 use Rattle.pfc_types.specs.declared.types.TypeForm.{TypeForm}
 use Rattle.pfc_types.specs.declared.types.TypeForm.TheVariants.{Channel, Array, Record, Process}
-use Rattle.pfc_semantics.specs.Values.{Value, Values, ordinal, compound, points, no_values, more_values}
+use Rattle.pfc_semantics.specs.Values.{Value, Values, ordinal, compound, no_values, more_values}
 use Rattle.pfc_translation.specs.Addresses.{fields_before}
 
 -- ## Shapes
@@ -37,17 +36,7 @@ pub record IsSound (forms : Forms) : Type 0 where
   -- an index is of a simple type, and the low bound is not above the high one
   pub bounds : (t : TypeId) (form : TypeForm) → form_of forms t ≡ Some form → has_bounds form ≡ true
 
--- ## Words
-
-abbrev mutual
-  pub words_of : Value → List ℤ
-  words_of (ordinal n) = n ∷ []
-  words_of (compound vs) = words_in vs
-  words_of (points l) = []
-
-  pub words_in : Values → List ℤ
-  words_in no_values = []
-  words_in (more_values v vs) = words_of v ++ words_in vs
+-- ## Values of a type
 
 -- a value has the shape of its type
 mutual
@@ -70,14 +59,6 @@ mutual
 abbrev pub IsShaped : Forms → Shape → Value → Type 0
 IsShaped forms a_number v = (n : ℤ) × (v ≡ ordinal n)
 IsShaped forms (a_whole t) v = IsOf forms t v
-
--- ## Parts
-
--- A path from a value of type t to a part of type u, so many cells behind its first. A single process has no type, and no parts.
-pub data IsPath (forms : Forms) : Option TypeId → List ℕ → Option TypeId → ℕ → Type 0 where
-  here : (t : Option TypeId) → IsPath forms t [] t 0
-  into_element : (t over element : TypeId) (u : Option TypeId) (low high : ℤ) (i : ℕ) (path : List ℕ) (o : ℕ) → form_of forms t ≡ Some (Array over low high element) → i < extent low high → IsPath forms (Some element) path u o → IsPath forms (Some t) (i ∷ path) u (i * cells_in forms element + o)
-  into_field : (t v : TypeId) (u : Option TypeId) (x : Text) (fields : FieldList) (i : ℕ) (path : List ℕ) (o : ℕ) → form_of forms t ≡ Some (Record fields) → slice_get fields i ≡ Some (x, v) → IsPath forms (Some v) path u o → IsPath forms (Some t) (i ∷ path) u (fields_before forms fields i + o)
 
 -- ## Objects
 

@@ -1,13 +1,13 @@
 -- Expressions, variables and arguments whose parts have the shapes that their code needs: those of checked programs.
 --
 -- It is said of the parts themselves, so that no type is asked for again.
-use Rattle.std.specs.Prelude.{ℕ, ◌==◌, ◌≡◌, ℤ, Bool, true, false, ◌||◌, List, [], ◌∷◌, Option, Some, None}
+use Rattle.std.specs.Prelude.{ℕ, ◌==◌, ◌<◌, ◌≡◌, ℤ, Bool, true, false, ◌||◌, if◌then◌else◌, List, [], ◌∷◌, length, Option, Some, None}
 use Rattle.std.specs.List.{slice_get, list_any}
 use Rattle.pfc_tree.specs.Symbols.{Text}
 use Rattle.pfc_tree.specs.trees.Exprs.{ExprTree, SimpleTree, SummandTrees, TermTree, MultiplierTrees, FactorTree, DesigTree, SelectorTrees, ExprTrees, ActualTree, ActualTrees, plain, related, sum, no_summands, more_summands, product, no_multipliers, more_multipliers, number, literal, negation, paren, applied as used, desig, index, field, no_selectors, more_selectors, no_exprs, more_exprs, actual, actual_width, no_actuals, more_actuals}
 use Rattle.pfc_types.specs.Types.{Forms, condition, form_of}
 use Rattle.pfc_types.specs.Fields.{FieldList, type_named, position_of}
-use Rattle.pfc_types.specs.Scopes.{Level, meaning_of}
+use Rattle.pfc_types.specs.Scopes.{Level, meaning_of, scope_at}
 use Rattle.pfc_types.specs.Blocks.{sub_at}
 use Rattle.pfc_types.specs.rules.Expressions.{find, selected, field_type}
 use Rattle.pfc_types.specs.declared.types.TypeId.{TypeId}
@@ -16,7 +16,7 @@ use Rattle.pfc_types.specs.declared.scope.Meaning.{Meaning}
 use Rattle.pfc_types.specs.declared.scope.Meaning.TheVariants.{Constant, Variable, Sub, Predeclared}
 use Rattle.pfc_types.specs.declared.heads.Formal.{Formal}
 use Rattle.pfc_types.specs.declared.heads.SubHead.{SubHead}
-use Rattle.pfc_semantics.specs.Layouts.{is_laid}
+use Rattle.pfc_semantics.specs.Layouts.{is_laid, laid_names, sub_with}
 use Rattle.pfc_semantics.specs.Displays.{Spot, TypedSpot}
 use Rattle.pfc_semantics.specs.Predeclared.{Function, eof, eoln, empty, clock, no_function, function_of}
 use Rattle.pfc_semantics.specs.Programs.{block_number}
@@ -25,7 +25,9 @@ use Rattle.pfc_translation.specs.Sites.{Site, at_line, forms_of, blocks_of, is_m
 use Rattle.pfc_translation.specs.Addresses.{element_in, type_behind}
 use Rattle.pfc_translation.specs.Calls.{formals_cells}
 use Rattle.pfc_translation.specs.Operands.{arguments, results}
+use Rattle.pfc_cells.specs.Homes.{laid_type}
 use Rattle.pfc_standing_code.specs.Shapes.{Shape, a_number, shape_of}
+use Rattle.pfc_standing_code.specs.ValueTypes.{IsValueType}
 
 -- ## Variables
 
@@ -33,18 +35,30 @@ use Rattle.pfc_standing_code.specs.Shapes.{Shape, a_number, shape_of}
 abbrev pub is_seen : Site → ℕ → Bool
 is_seen s i = is_mains (blocks_of s) i || list_any (λ (level : Level). level.scope == i) s.env.view
 
--- the type of what is laid out; a single process has none
-abbrev pub laid_type : Meaning → Option TypeId
-laid_type (Variable t reference) = Some t
-laid_type m = None
-
 -- the line of a place does not matter to its variables
 abbrev pub unlined : Site → Site
 unlined s = at_line s 0
 
+abbrev pub variables_by : Site → ℕ → Option SubHead → ℕ
+variables_by s i (Some head) = length (layout_with s i)
+variables_by s i None = length (laid_names (scope_at (blocks_of s).scopes i))
+
+-- How many variables a scope has: behind those of a process its layout has the parameters of its accepts, which are of scopes of their own.
+abbrev pub variables_of : Site → ℕ → ℕ
+variables_of s i = if is_mains (blocks_of s) i then length (layout_with s i) else variables_by s i (sub_with (blocks_of s).subs i)
+
+-- the layout that has the variable has this at its place
+abbrev pub StandsAt : Site → Spot → Meaning → Type 0
+StandsAt s v m = slice_get (layout_with (unlined s) v.scope) (place_of (unlined s) v) ≡ Some m
+
+-- the variable of which a spot is a part
+abbrev pub whole_of : Spot → Spot
+whole_of v = record v { selectors = [] }
+
 -- a whole variable in view, with its type
 pub record IsDeclaredAt (s : Site) (v : Spot) (t : Option TypeId) : Type 0 where
   pub seen : is_seen s v.scope ≡ true
+  pub own : v.variable < variables_of s v.scope
   pub meaning : Meaning
   pub laid : slice_get (layout_with s v.scope) (place_of s v) ≡ Some meaning
   pub variable : is_laid meaning ≡ true
@@ -88,18 +102,26 @@ TakesCells s scope formals = arguments s.program (block_number s.program scope) 
 abbrev pub LeavesCells : Site → ℕ → ℕ → Type 0
 LeavesCells s scope left = results s.program (block_number s.program scope) ≡ left
 
+-- a sub of the program has this scope and these parameters
+pub record IsOfSub (s : Site) (scope : ℕ) (formals : List Formal) : Type 0 where
+  pub number : ℕ
+  pub among : number < length (blocks_of s).subs
+  pub own_scope : scope ≡ (sub_at (blocks_of s) number).scope
+  pub own_formals : formals ≡ (sub_at (blocks_of s) number).formals
+
 -- a sub that is called where it stands in view, and leaves so many operands
 pub record IsSub (s : Site) (head : SubHead) (left : ℕ) : Type 0 where
+  pub headed : IsOfSub s head.scope head.formals
   pub taken : TakesCells s head.scope head.formals
   pub leaves : LeavesCells s head.scope left
 
--- an argument for a reference is a variable of the parameter's type; else it is a value of that type
+-- an argument for a reference is a variable of the parameter's type; else it is a value of that type, which has no object in it
 abbrev pub Either : Bool → Type 0 → Type 0 → Type 0
 Either true lent given = lent
 Either false lent given = given
 
-abbrev pub IsPassed : Formal → Type 0 → (Shape → Type 0) → Type 0
-IsPassed f lent given = Either f.reference lent ((t : TypeId) × (f.t ≡ Some t) × given (shape_of t))
+abbrev pub IsPassed : Forms → Formal → Type 0 → (Shape → Type 0) → Type 0
+IsPassed forms f lent given = Either f.reference lent ((t : TypeId) × (f.t ≡ Some t) × given (shape_of t) × IsValueType forms t)
 
 -- ## Names
 
@@ -184,7 +206,7 @@ abbrev mutual
   AreArguments s [] no_actuals = Unit {0}
   AreArguments s (f ∷ formals) no_actuals = ⊥
   AreArguments s [] (more_actuals a rest) = ⊥
-  AreArguments s (f ∷ formals) (more_actuals a rest) = IsPassed f (IsLent s a f.t) (λ h. IsGiven s a h) × AreArguments s formals rest
+  AreArguments s (f ∷ formals) (more_actuals a rest) = IsPassed (forms_of s) f (IsLent s a f.t) (λ h. IsGiven s a h) × AreArguments s formals rest
 
   -- selectors that lead from something of one type to a part of another
   pub AreSelectors : Site → Option TypeId → SelectorTrees → Option TypeId → Type 0

@@ -1,32 +1,35 @@
 -- Statements whose parts have the shapes that their code needs: those of checked programs.
-use Rattle.std.specs.Prelude.{ℕ, ◌+◌, ◌<◌, ◌≡◌, true, List, [], ◌∷◌, Option, Some, None}
+use Rattle.std.specs.Prelude.{ℕ, ◌+◌, ◌<◌, ◌≡◌, ◌≢◌, true, List, [], ◌∷◌, length, map, Option, Some, None}
 use Rattle.pfc_base.specs.declared.places.Place.{Place}
 use Rattle.pfc_tree.specs.Symbols.{Text}
 use Rattle.pfc_tree.specs.declared.tree.Constant.{Constant}
 use Rattle.pfc_tree.specs.declared.tree.Spread.{Spread}
 use Rattle.pfc_tree.specs.trees.Exprs.{ExprTree, DesigTree, SelectorTrees, ActualTree, ActualTrees, desig, no_selectors, actual, actual_width, no_actuals, more_actuals}
 use Rattle.pfc_tree.specs.trees.Stmts.{StmtTree, StmtTrees, ArmTrees, AcceptTree, AltTree, AltTrees, CommTree, empty, null, block, if_then, if_then_else, case_of, while_do, repeat_until, repeat_forever, for_do, cobegin, accepting, requeue, select, select_else, assign, send, receive, call, no_stmts, more_stmts, body, arm, no_arms, more_arms, accept, accept_do, alt, no_alts, more_alts, comm_accept, comm_send, comm_receive, timeout, terminate}
-use Rattle.pfc_types.specs.Types.{Forms, semaphore, condition, is_simple, form_of, process_form}
+use Rattle.pfc_types.specs.Types.{Forms, semaphore, condition, synchronous, is_simple, form_of, process_form}
 use Rattle.pfc_types.specs.Scopes.{meaning_of, meaning_in, scope_at}
-use Rattle.pfc_types.specs.Blocks.{sub_at, module_at, process_at, entry_at}
+use Rattle.pfc_types.specs.Blocks.{Blocks, sub_at, module_at, process_at, entry_at}
+use Rattle.pfc_types.specs.rules.Kinds.{variable_meaning}
 use Rattle.pfc_types.specs.rules.Constants.{Ordinal, constant_value}
 use Rattle.pfc_types.specs.rules.Expressions.{find, as_desig, expr_type, selected}
 use Rattle.pfc_types.specs.rules.Calls.{last_field, before_last}
 use Rattle.pfc_types.specs.rules.Statements.{scopes_in, arm_scopes, comm_scopes, alt_scopes, alts_scopes}
 use Rattle.pfc_types.specs.declared.types.TypeId.{TypeId}
 use Rattle.pfc_types.specs.declared.types.TypeForm.TheVariants.{Channel}
+use Rattle.pfc_types.specs.declared.heads.Formal.{Formal}
 use Rattle.pfc_types.specs.declared.scope.Meaning.{Meaning}
 use Rattle.pfc_types.specs.declared.scope.Meaning.TheVariants.{Variable, Sub, Module, Process, Entry, Predeclared}
 use Rattle.pfc_semantics.specs.Displays.{Spot, TypedSpot}
 use Rattle.pfc_semantics.specs.Predeclared.{Procedure, reader, writer, initial, wait, signal, delay, resume, sleep, no_procedure, procedure_of}
 use Rattle.pfc_semantics.specs.Remainders.{Replica, Alternative}
 use Rattle.pfc_semantics.specs.Expressions.{spot_of}
-use Rattle.pfc_semantics.specs.Alternatives.{message_of, receiver_of}
+use Rattle.pfc_semantics.specs.Alternatives.{entry_number, message_of, receiver_of}
 use Rattle.pfc_semantics.specs.Statements.{as_string, item_of, expr_of, behind_first, name_in_process, process_of_type}
 use Rattle.pfc_translation.specs.Sites.{Site, at_line, in_accept, context_of, forms_of, blocks_of, type_cells}
 use Rattle.pfc_translation.specs.Selects.{message_cells, receiver_cells}
 use Rattle.pfc_standing_code.specs.Shapes.{a_number, shape_of, shape_cells}
-use Rattle.pfc_standing_code.specs.Typed.{IsDeclared, TakesCells, IsSub, HasShape, IsGivenFirst, IsLentFirst, AreArguments, IsPartOf, IsDesig}
+use Rattle.pfc_standing_code.specs.ValueTypes.{IsValueType}
+use Rattle.pfc_standing_code.specs.Typed.{StandsAt, IsDeclared, TakesCells, IsSub, HasShape, IsGivenFirst, IsLentFirst, AreArguments, IsPartOf, IsDesig}
 
 -- a variable of a simple type that is named alone
 abbrev pub IsSimpleVariable : Site → Spot → Type 0
@@ -34,12 +37,13 @@ IsSimpleVariable s v = (u : TypeId) × (is_simple u ≡ true) × IsDeclared s v 
 
 -- ## Assignments and messages
 
--- the value fills the cells of the variable
+-- the value fills the cells of the variable, and has no object in it
 pub record IsAssignment (s : Site) (d : DesigTree) (e : ExprTree) : Type 0 where
   pub t : TypeId
   pub target : IsDesig s d (Some t)
   pub value : HasShape s e (shape_of t)
   pub cells : type_cells (forms_of s) (expr_type s.env e) ≡ shape_cells (forms_of s) (shape_of t)
+  pub values : IsValueType (forms_of s) t
 
 -- a channel of messages of a type
 pub record IsChannel (forms : Forms) (t : Option TypeId) (u : TypeId) : Type 0 where
@@ -47,16 +51,21 @@ pub record IsChannel (forms : Forms) (t : Option TypeId) (u : TypeId) : Type 0 w
   pub typed : t ≡ Some channel
   pub form : form_of forms channel ≡ Some (Channel u)
 
+-- a message of this type takes some operands, and has no object in it; over a channel of `synchronous` there is none
+abbrev pub IsCarried : Forms → TypeId → Type 0
+IsCarried forms u = (0 < shape_cells forms (shape_of u)) × (u ≢ synchronous) × IsValueType forms u
+
 -- a message of the channel's type, or none over a channel of `synchronous`
 abbrev pub IsMessage : Site → Option ExprTree → TypeId → Type 0
-IsMessage s None u = Unit {0}
-IsMessage s (Some e) u = HasShape s e (shape_of u) × (message_cells s (Some e) ≡ shape_cells (forms_of s) (shape_of u))
+IsMessage s None u = u ≡ synchronous
+IsMessage s (Some e) u =
+    HasShape s e (shape_of u) × (message_cells s (Some e) ≡ shape_cells (forms_of s) (shape_of u)) × IsCarried (forms_of s) u
 
 -- a variable of that type, or none
 abbrev pub IsReceiver : Site → Option DesigTree → TypeId → Type 0
-IsReceiver s None u = Unit {0}
+IsReceiver s None u = u ≡ synchronous
 IsReceiver s (Some d) u =
-    IsDesig s d (Some u) × (receiver_cells s (Some d) ≡ shape_cells (forms_of s) (shape_of u)) × (0 < receiver_cells s (Some d))
+    IsDesig s d (Some u) × (receiver_cells s (Some d) ≡ shape_cells (forms_of s) (shape_of u)) × IsCarried (forms_of s) u
 
 pub record IsSend (s : Site) (d : DesigTree) (m : Option ExprTree) : Type 0 where
   pub t : Option TypeId
@@ -119,22 +128,29 @@ IsProcedure s no_procedure args = Unit {0}
 
 -- ## Calls
 
--- the type is that of a process of the n-th declaration; a single process has none
-abbrev pub IsProcessType : Site → ℕ → Option TypeId → Type 0
-IsProcessType s n None = Unit {0}
-IsProcessType s n (Some t) = process_form (form_of (forms_of s) t) ≡ Some n
+-- the type of a process of the n-th declaration
+abbrev pub HasProcessForm : Site → ℕ → TypeId → Type 0
+HasProcessForm s n t = process_form (form_of (forms_of s) t) ≡ Some n
+
+-- The part is a process of the n-th declaration: it has the type of one, or it is a single process, which has no type, and the variable is declared
+-- as that process.
+abbrev pub IsProcessType : Site → ℕ → Spot → Option TypeId → Type 0
+IsProcessType s n v None = StandsAt s v (Process n)
+IsProcessType s n v (Some t) = HasProcessForm s n t
 
 pub record IsActivation (s : Site) (n : ℕ) (v : TypedSpot) (ss : SelectorTrees) (args : ActualTrees) : Type 0 where
   pub t : Option TypeId
   pub called : IsPartOf s v ss t
-  pub process : IsProcessType s n t
+  pub process : IsProcessType s n v.spot t
+  pub among : n < length (blocks_of s).processes
   pub arguments : AreArguments s (process_at (blocks_of s) n).formals args
   pub taken : TakesCells s (process_at (blocks_of s) n).scope (process_at (blocks_of s) n).formals
 
 pub record IsEntryCall (s : Site) (n : ℕ) (entry : ℕ) (v : TypedSpot) (ss : SelectorTrees) (args : ActualTrees) : Type 0 where
   pub t : Option TypeId
   pub called : IsPartOf s v ss t
-  pub process : IsProcessType s n t
+  pub process : IsProcessType s n v.spot t
+  pub among : n < length (blocks_of s).processes
   pub arguments : AreArguments s (entry_at (blocks_of s) n entry) args
 
 -- a name among those of a process is that of an entry
@@ -219,6 +235,14 @@ abbrev pub AreAlternatives : Site → List Alternative → Type 0
 AreAlternatives s [] = Unit {0}
 AreAlternatives s (a ∷ alts) = IsAlternative s a × AreAlternatives s alts
 
+-- The scope n is that of an accept of this entry, in the block of a process whose own scope is i: its names stand for the parameters of the entry,
+-- in their order.
+pub record AcceptsEntry (blocks : Blocks) (i entry n : ℕ) : Type 0 where
+  pub process : ℕ
+  pub among : process < length blocks.processes
+  pub own : (process_at blocks process).scope ≡ i
+  pub parameters : map (λ y. y.1) (scope_at blocks.scopes n) ≡ map (λ (f : Formal). variable_meaning f.reference f.t) (entry_at blocks process entry)
+
 abbrev mutual
   -- the number is that of the next scope of the text
   pub IsTyped : Site → ℕ → StmtTree → Type 0
@@ -255,8 +279,9 @@ abbrev mutual
   AreArmsTyped s n (more_arms (arm ls t) arms) = HaveValues s ls × IsTyped s n t × AreArmsTyped s (n + arm_scopes (arm ls t)) arms
 
   pub IsAcceptTyped : Site → ℕ → AcceptTree → Type 0
-  IsAcceptTyped s n (accept x gs p) = Unit {0}
-  IsAcceptTyped s n (accept_do x gs t p) = IsTyped (in_accept s n) (n + 1) t
+  IsAcceptTyped s n (accept x gs p) = AcceptsEntry (blocks_of s) s.block.scope (entry_number (meaning_of (find s.env x))) n
+  IsAcceptTyped s n (accept_do x gs t p) =
+      AcceptsEntry (blocks_of s) s.block.scope (entry_number (meaning_of (find s.env x))) n × IsTyped (in_accept s n) (n + 1) t
 
   pub IsMetTyped : Site → ℕ → CommTree → Type 0
   IsMetTyped s n (comm_accept a p) = IsAcceptTyped s n a

@@ -1,18 +1,21 @@
 -- Variables and objects as words of the machine, and what is true of the names in view.
-use Rattle.std.specs.Prelude.{ℕ, ◌+◌, ◌^◌, ◌<◌, ◌≡◌, ℤ, pos, true, false, if◌then◌else◌, List, [], ◌∷◌, ◌++◌, reverse, Option, Some}
+use Rattle.std.specs.Prelude.{ℕ, ◌+◌, ◌^◌, ◌<◌, ◌==◌, ◌||◌, ◌≡◌, ℤ, pos, Bool, true, false, if◌then◌else◌, List, [], ◌∷◌, ◌++◌, reverse, Option, Some}
+use Rattle.std.specs.List.{list_any}
 use Rattle.pfc_types.specs.Types.{is_simple}
+use Rattle.pfc_types.specs.Blocks.{Blocks}
 use Rattle.pfc_types.specs.rules.Expressions.{Env}
 use Rattle.pfc_types.specs.declared.types.TypeId.{TypeId}
 use Rattle.pfc_types.specs.declared.heads.Formal.{Formal}
 use Rattle.pfc_semantics.specs.Values.{path_of}
 use Rattle.pfc_semantics.specs.Displays.{Spot, TypedSpot}
-use Rattle.pfc_semantics.specs.Programs.{Block}
+use Rattle.pfc_semantics.specs.Programs.{Block, Program}
 use Rattle.pfc_semantics.specs.Remainders.{Argument, by_value, by_reference}
 use Rattle.pfc_semantics.specs.Alternatives.{context}
-use Rattle.pfc_translation.specs.Sites.{Site, links_to, cell_of, refers, type_cells, forms_of}
-use Rattle.pfc_standing_code.specs.Shapes.{IsSound, IsOf, IsPath, words_of, is_object_type}
-use Rattle.pfc_standing_code.specs.Settings.{View, Setting, site_of}
-use Rattle.pfc_standing_code.specs.Typed.{unlined, IsDeclaredAt}
+use Rattle.pfc_translation.specs.Sites.{Site, is_mains, linked, links_to, cell_of, refers, type_cells, forms_of}
+use Rattle.pfc_cells.specs.Shapes.{IsPath, words_of}
+use Rattle.pfc_standing_code.specs.Shapes.{IsSound, IsOf, is_object_type}
+use Rattle.pfc_standing_code.specs.Settings.{View, Setting, site_of, IsBeside}
+use Rattle.pfc_standing_code.specs.Typed.{unlined, whole_of, IsDeclaredAt, is_seen}
 
 -- ## Variables
 
@@ -25,9 +28,9 @@ first_word view s v =
 pub record IsWordAt (view : View) (s : Site) (v : Spot) (t : Option TypeId) (w : ℤ) : Type 0 where
   pub whole : Option TypeId
   pub behind : ℕ
-  pub declared : IsDeclaredAt s (record v { selectors = [] }) whole
+  pub declared : IsDeclaredAt s (whole_of v) whole
   pub path : IsPath (forms_of s) whole (path_of v.selectors) t behind
-  pub word : w ≡ pos (first_word view s (record v { selectors = [] }) + behind)
+  pub word : w ≡ pos (first_word view s (whole_of v) + behind)
 
 abbrev pub IsWord : View → Site → Spot → Option TypeId → ℤ → Type 0
 IsWord view s v t w = IsWordAt view (unlined s) v t w
@@ -52,11 +55,21 @@ IsInView view s v =
     let d = cell_of s v in
     (view.reaches l d ≡ true) × (refers s v ≡ true → view.refers l d ≡ true)
 
+-- The scope's variables are main's, or of an activation that static links lead to, or parameters of an accept that is open.
+abbrev pub is_known : Blocks → Block → List ℕ → ℕ → Bool
+is_known blocks b accepts i = is_mains blocks i || (list_any (λ j. j == i) (linked blocks b.env.view) || list_any (λ j. j == i) accepts)
+
+-- the names that are in view somewhere are known there
+abbrev pub AreKnown : Program → Block → List ℕ → Env → Type 0
+AreKnown g b accepts env =
+    (i : ℕ) → is_seen (record { program = g; block = b; env = env; line = 0 }) i ≡ true → is_known g.state.blocks b accepts i ≡ true
+
 abbrev pub names_at : Setting → Block → Env → Site
 names_at g b env = site_of g b (context env 0)
 
 pub record IsChecked (g : Setting) (b : Block) (env : Env) : Type 0 where
   pub sound : IsSound g.program.state.forms
+  pub known : AreKnown g.program b g.accepts env
   -- the cells of variables in view are there, and their addresses are addresses
   pub seen : (v : Spot) (t : Option TypeId) → IsDeclaredAt (names_at g b env) v t → IsInView g.view (names_at g b env) v
   pub placed : (v : Spot) (t : Option TypeId) → IsDeclaredAt (names_at g b env) v t → first_word g.view (names_at g b env) v + type_cells g.program.state.forms t < 2 ^ 42
@@ -64,6 +77,8 @@ pub record IsChecked (g : Setting) (b : Block) (env : Env) : Type 0 where
   pub objects : (v : Spot) (t : Option TypeId) (w : ℤ) → IsWordAt g.view (names_at g b env) v t w → is_object_type g.program.state.forms t ≡ true → (n : ℤ) × (g.number w ≡ Some n)
   -- the types and blocks that are known there are the program's
   pub state : env.state ≡ g.program.state
+  -- the block is the one at hand, or one beside it
+  pub beside : IsBeside g g.block b
 
 -- ## Arguments
 

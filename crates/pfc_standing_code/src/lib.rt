@@ -6,4 +6,7 @@
 
 mod laws;
 
-pub use laws::code_has_its_size;
+pub use laws::{
+    awaited_values_hold_no_object, code_has_its_size, names_are_enough, names_stay_known,
+    spots_have_one_word, values_hold_no_object,
+};

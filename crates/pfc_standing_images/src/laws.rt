@@ -7,12 +7,12 @@ ghost use Rattle.pfc_tree.specs.forget.Parts.{forget_program};
 ghost use Rattle.pfc_tree.specs.lawful.Parts.{IsLawful};
 ghost use Rattle.pfc_types.specs.rules.Expressions.{Env};
 ghost use Rattle.pfc_semantics.specs.Programs.{Block, Guard, Program, block_at, block_number, program_of};
-ghost use Rattle.pfc_semantics.specs.Resources.{bar_of, guarded_body};
+ghost use Rattle.pfc_semantics.specs.Resources.{bar_of, scan_of, way_to, guarded_body};
 ghost use Rattle.pfc_semantics.specs.Configurations.{body_of, main_remainder};
 ghost use Rattle.pfc_translation.specs.Codes.{Code};
 ghost use Rattle.pfc_translation.specs.Calls.{resource_of};
 ghost use Rattle.pfc_translation.specs.Images.{site_in, image_of};
-ghost use Rattle.pfc_standing_code.specs.Settings.{Setting, of_own, IsAt, Stands};
+ghost use Rattle.pfc_standing_code.specs.Settings.{Setting, of_own, of_turn, IsAt, Stands, IsMains};
 ghost use Rattle.pfc_standing_code.specs.Performs.{GuardAt, own_again, Performs};
 ghost use Rattle.pfc_standing_images.specs.Images.{IsOfImage, IsOfBlock, HasPhrase, BlockStands, MainStands};
 ghost use Rattle.pfc_standing_images.specs.Bodies.{requeued_body, IsReady, AreReady, IsGuardReady, EachGuardReady};
@@ -42,7 +42,7 @@ pub fn operands_have_room()
 /// turn stands behind the guard. Main's code performs the initialising bodies before the main body.
 pub fn bodies_are_performed()
     ensures bodies { (t : ProgramTree) (g : Setting) (k : ℕ) (b : Block) (c : CodeBlock) → IsOfImage t g
-        → slice_get g.program.blocks k ≡ Some b → slice_get (image_of t).blocks k ≡ Some c → IsOfBlock g b c → IsReady g b
+        → slice_get g.program.blocks k ≡ Some b → slice_get (image_of t).blocks k ≡ Some c → IsOfBlock g b c → g.trial ≡ of_own → g.meetings ≡ [] → IsReady g b
         → Performs g b b.env c.body g.under [] (body_of b) }
     ensures guards { (t : ProgramTree) (g : Setting) (k held : ℕ) (b : Block) (c : CodeBlock) (guard : Guard) → IsOfImage t g
         → slice_get g.program.blocks k ≡ Some b → slice_get (image_of t).blocks k ≡ Some c → b.guard ≡ Some guard
@@ -55,14 +55,17 @@ pub fn bodies_are_performed()
         × GuardAt g b (bar_of g.program (resource_of (site_in g.program b)) b guard) c.entry held (λ end. end ≤ turn) }
     ensures guarded { (t : ProgramTree) (g : Setting) (k : ℕ) (b : Block) (c : CodeBlock) → IsOfImage t g
         → slice_get g.program.blocks k ≡ Some b → slice_get (image_of t).blocks k ≡ Some c → IsOfBlock g b c → g.trial ≡ of_own
-        → EachGuardReady g b b.guard → IsReady g b
+        → g.meetings ≡ [] → EachGuardReady g b b.guard → IsReady g b
         → Performs g b b.env c.entry g.under [] (guarded_body g.program (resource_of (site_in g.program b)) b b.guard) }
     ensures requeues { (t : ProgramTree) (g : Setting) (k at : ℕ) (b : Block) (c : CodeBlock) (env : Env) → IsOfImage t g
-        → slice_get g.program.blocks k ≡ Some b → slice_get (image_of t).blocks k ≡ Some c → IsOfBlock g b c → g.behind_scan ≡ c.entry
+        → slice_get g.program.blocks k ≡ Some b → slice_get (image_of t).blocks k ≡ Some c → IsOfBlock g b c
+        → (let r = resource_of (site_in g.program b) in g.trial ≡ of_turn (scan_of g.program r (way_to g.program r b b.guard)) c.entry)
+        → g.block ≡ b → g.meetings ≡ []
         → slice_get (image_of t).scans (resource_of (site_in g.program b)) ≡ Some at
         → EachGuardReady (own_again g) b b.guard → IsReady (own_again g) b
         → Performs g b env at g.under [] (requeued_body g.program (resource_of (site_in g.program b)) b) }
-    ensures main { (t : ProgramTree) (g : Setting) (b : Block) (c : CodeBlock) (env : Env) → IsOfImage t g
-        → slice_get (image_of t).blocks (length g.program.blocks) ≡ Some c → IsOfBlock g g.program.main c
+    ensures main { (t : ProgramTree) (g : Setting) (b : Block) (c : CodeBlock) (env : Env) → IsOfImage t g → IsMains g b
+        → slice_get (image_of t).blocks (length g.program.blocks) ≡ Some c → g.trial ≡ of_own → g.meetings ≡ []
+        → IsOfBlock g g.program.main c
         → AreReady g g.program.modules → IsReady g g.program.main → Performs g b env c.entry g.under [] (main_remainder g.program) }
 {}

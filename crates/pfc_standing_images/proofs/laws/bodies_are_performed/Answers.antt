@@ -8,9 +8,9 @@ use Rattle.pfc_standing_images.proofs.Guards.{turn_there}
 use Rattle.pfc_standing_images.proofs.laws.bodies_are_performed.Goals as goal
 
 pub returns-clause-bodies : goal.returns-clause-bodies
-returns-clause-bodies c = λ t g k b block of_image e f of_block ready.
+returns-clause-bodies c = λ t g k b block of_image e f of_block own none ready.
     let has = block_stands t g of_image k b block e f in
-    body_performs g block of_block.room b block.body (has.n + length (guard_code g.program b b.guard).texts) of_block has.body ready
+    body_performs g block of_block.room b block.body (has.n + length (guard_code g.program b b.guard).texts) own none of_block has.body ready
 
 pub returns-clause-guards : goal.returns-clause-guards
 returns-clause-guards c = λ t g k held b block guard of_image e f is room ready.
@@ -25,14 +25,14 @@ returns-clause-trials c = λ t g k held b block guard lawful of_image e f is roo
     )
 
 pub returns-clause-guarded : goal.returns-clause-guarded
-returns-clause-guarded c = λ t g k b block of_image e f of_block own guard ready.
-    guarded_performs g b block (block_stands t g of_image k b block e f) of_block own guard ready
+returns-clause-guarded c = λ t g k b block of_image e f of_block own none guard ready.
+    guarded_performs g b block (block_stands t g of_image k b block e f) of_block own none guard ready
 
 pub returns-clause-requeues : goal.returns-clause-requeues
-returns-clause-requeues c = λ t g k at b block env of_image e f of_block next turn guard ready.
-    requeued_performs g b block (block_stands t (own_again g) (image_again t g of_image) k b block e f) at env of_block next
+returns-clause-requeues c = λ t g k at b block env of_image e f of_block trial here none turn guard ready.
+    requeued_performs g b block at env trial here (block_stands t (own_again g) (image_again t g of_image) k b block e f) of_block none
     (scan_stands t g of_image (resource_of (site_in g.program b)) at turn) guard ready
 
 pub returns-clause-main : goal.returns-clause-main
-returns-clause-main c = λ t g b block env of_image e of_block inits main.
-    main_performs g block of_block.room b env of_block (main_stands t g of_image block e) inits main
+returns-clause-main c = λ t g b block env of_image own e alone none of_block inits main.
+    main_performs g block of_block.room b env alone none own of_block (main_stands t g of_image block e) inits main

@@ -1,0 +1,17 @@
+pub mod Lists
+pub mod Layouts
+pub mod Passing
+pub mod Places
+pub mod Displays
+pub mod Frames
+pub mod Inside
+pub mod Seeing
+pub mod Beginning
+pub mod Calling
+pub mod Creating
+pub mod Returning
+pub mod FirstValues
+pub mod Replacing
+pub mod Mains
+pub mod Agreeing
+pub mod Keeping

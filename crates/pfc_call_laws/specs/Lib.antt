@@ -1,0 +1,4 @@
+pub mod Blocks
+pub mod Around
+pub mod Inside
+pub mod Calls

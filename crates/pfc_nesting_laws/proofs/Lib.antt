@@ -1,0 +1,5 @@
+pub mod Chains
+pub mod Numbered
+pub mod Apart
+pub mod Layouts
+pub mod Programs

@@ -1,5 +1,5 @@
 -- What processes have to do with one another, beside their standings and their stacks.
-use Rattle.std.specs.Prelude.{ℕ, ◌+◌, ◌-◌, ℤ, List, [], ◌∷◌, ◌++◌, map, get_or, Option, Some, None}
+use Rattle.std.specs.Prelude.{ℕ, ◌+◌, ◌-◌, ℤ, List, [], ◌∷◌, ◌++◌, map, drop, get_or, Option, Some, None}
 use Rattle.std.specs.List.{slice_get}
 use Rattle.pfc_code.specs.declared.images.Block.{Block}
 use Rattle.pfc_code.specs.declared.images.ProcessInfo.{ProcessInfo}
@@ -7,6 +7,7 @@ use Rattle.pfc_machines.specs.declared.alternatives.Alternative.{Alternative}
 use Rattle.pfc_machines.specs.declared.descriptors.Descriptor.{Descriptor}
 use Rattle.pfc_machines.specs.declared.rooms.Room.{Room}
 use Rattle.pfc_machines.specs.Communications.{no_communications, made, with_room_above}
+use Rattle.pfc_machines.specs.Offers.{without}
 
 -- ## One process
 
@@ -46,6 +47,26 @@ keeping d words = record d { communications = record d.communications { words = 
 -- it has made one alternative more, with the words of its message
 abbrev pub with_made : Descriptor → Alternative → List ℤ → Descriptor
 with_made d a words = record d { communications = made d.communications a words }
+
+-- it offers its last n alternatives
+abbrev pub offering : ℕ → Descriptor → Descriptor
+offering n d = record d { offered = n }
+
+-- its last n alternatives are gone, with their messages
+abbrev pub forgetting : ℕ → Descriptor → Descriptor
+forgetting n d = record d { communications = without n d.communications }
+
+-- what it offers is gone
+abbrev pub withdrawn : Descriptor → Descriptor
+withdrawn d = record d { communications = without d.offered d.communications; offered = 0 }
+
+-- a meeting with a caller begins
+abbrev pub meeting : ℕ → Descriptor → Descriptor
+meeting caller d = record d { communications = record d.communications { callers = caller ∷ d.communications.callers } }
+
+-- the meeting that was begun last ends
+abbrev pub met : Descriptor → Descriptor
+met d = record d { communications = record d.communications { callers = drop 1 d.communications.callers } }
 
 -- ## Before the first action
 

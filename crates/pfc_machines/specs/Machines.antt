@@ -37,7 +37,7 @@ start_objects image = record {
 -- Besides, main has entered its block, and the others have begun nothing.
 abbrev pub start_machine : PlainImage → List ℕ → ℕ → Machine
 start_machine image input seed =
-    let rooms = rooms_of image.code image.blocks in
+    let rooms = rooms_of (length image.processes) image.code image.blocks in
     let objects = start_objects image in
     record {
       stacks = start_stacks image;

@@ -2,7 +2,7 @@
 ghost use Rattle.std.specs.Prelude.{◌≡◌, ◌≤◌, ◌<◌, ◌+◌, ◌^◌, [], length, take, set, IfOk, OnOk, OnErr};
 ghost use Rattle.pfc_stacks.specs.Stacks.{operands_of};
 ghost use Rattle.pfc_machines.specs.Communications.{IsRoomBetween};
-ghost use Rattle.pfc_machines.specs.Descriptors.{descriptor_by, descriptor_of, roomier, entered, left, begun_in, keeping, with_made, line_of_block, declared_descriptors, start_descriptors};
+ghost use Rattle.pfc_machines.specs.Descriptors.{descriptor_by, descriptor_of, roomier, entered, left, begun_in, keeping, with_made, offering, withdrawn, forgetting, meeting, met, line_of_block, declared_descriptors, start_descriptors};
 
 use crate::{Alternative, Communications, Room};
 use pfc_base::Memory;
@@ -34,7 +34,8 @@ pub struct Descriptor {
     /// The alternatives of selects that its activations have made and that no `SEL` has taken, and, where it waits in a select, those that it
     /// offers; and its meetings.
     pub communications: Communications,
-    /// How many of them, those made last, it offers or has offered in a select in which it waited. They are gone when it acts again.
+    /// How many of them, those made last, it offers or has offered while it waited, in a plain communication one. They are gone before it
+    /// goes on.
     pub offered: u32,
     pub scan: Option<Scan>,
 }
@@ -248,5 +249,69 @@ impl Descriptors {
     {
         let descriptor = &mut self.items[p as usize];
         descriptor.communications.make(a);
+    }
+}
+
+impl Descriptors {
+    /// What a process has made and begun.
+    pub fn communications(&self, p: u32) -> &Communications
+        requires { p < length self.now }
+        ensures { result.now ≡ (descriptor_of self.now p).communications }
+    {
+        &self.items[p as usize].communications
+    }
+
+    /// How many of its last alternatives a process offers.
+    pub fn offered(&self, p: u32) -> u32
+        requires { p < length self.now }
+        ensures { result ≡ (descriptor_of self.now p).offered }
+    {
+        self.items[p as usize].offered
+    }
+
+    /// A process offers its last n alternatives, while it waits.
+    pub fn offer(&mut self, p: u32, n: u32)
+        requires { p < length self.old }
+        ensures { self.new ≡ set self.old p (offering n (descriptor_of self.old p)) }
+    {
+        self.items[p as usize].offered = n;
+    }
+
+    /// What a process offers is gone.
+    pub fn withdraw(&mut self, p: u32)
+        requires { p < length self.old }
+        ensures { self.new ≡ set self.old p (withdrawn (descriptor_of self.old p)) }
+    {
+        let descriptor = &mut self.items[p as usize];
+        descriptor.communications.forget(descriptor.offered);
+        descriptor.offered = 0;
+    }
+
+    /// The last n alternatives of a process are gone, with their messages.
+    pub fn forget(&mut self, p: u32, n: u32)
+        requires { p < length self.old }
+        ensures { self.new ≡ set self.old p (forgetting n (descriptor_of self.old p)) }
+    {
+        let descriptor = &mut self.items[p as usize];
+        descriptor.communications.forget(n);
+    }
+
+    /// A meeting of a process with a caller begins.
+    pub fn begin_meeting(&mut self, p: u32, caller: u32)
+        requires process { p < length self.old }
+        requires room { length (descriptor_of self.old p).communications.callers < (descriptor_of self.old p).communications.room.meetings }
+        ensures { self.new ≡ set self.old p (meeting caller (descriptor_of self.old p)) }
+    {
+        let descriptor = &mut self.items[p as usize];
+        descriptor.communications.begin_meeting(caller);
+    }
+
+    /// The meeting of a process that was begun last ends.
+    pub fn end_meeting(&mut self, p: u32)
+        requires { p < length self.old }
+        ensures { self.new ≡ set self.old p (met (descriptor_of self.old p)) }
+    {
+        let descriptor = &mut self.items[p as usize];
+        descriptor.communications.end_meeting();
     }
 }

@@ -11,11 +11,12 @@ mod communications;
 mod descriptors;
 mod machine;
 mod moving;
+mod partners;
 mod quiet;
 mod rooms;
 
 pub use actions::ActionFault;
-pub use alternatives::{Alternative, Offer};
+pub use alternatives::{Alternative, KeptAlternative, Offer, Sought};
 pub use communications::Communications;
 pub use descriptors::{Descriptor, Descriptors, Scan};
 pub use machine::Machine;

@@ -117,7 +117,7 @@ impl Machine {
         requires { CanStart (plain_image image.now) }
         ensures { IfOk result (λ m. m ≡ start_machine (plain_image image.now) input.now seed) }
     {
-        let rooms = Rooms::of(alloc, &image.code, &image.blocks)?;
+        let rooms = Rooms::of(alloc, image.processes.len(), &image.code, &image.blocks)?;
         let room = rooms.of_block(main_block(&image.processes));
         let descriptors = Descriptors::start(alloc, &image.processes, &image.blocks, room)?;
         let objects = Objects::start(alloc, image)?;

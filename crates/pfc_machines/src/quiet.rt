@@ -80,7 +80,7 @@ impl Machine {
     }
 
     /// The last activation of a process makes an alternative of so many operands, with a branch, which sends nothing.
-    fn make(&mut self, p: u32, offer: Offer, branch: u32, n: u32)
+    pub fn make(&mut self, p: u32, offer: Offer, branch: u32, n: u32)
         requires stack { p < length self.old.stacks }
         requires descriptor { p < length self.old.descriptors }
         requires place { length (descriptor_of self.old.descriptors p).communications.alternatives < (descriptor_of self.old.descriptors p).communications.room.alternatives }
@@ -97,8 +97,8 @@ impl Machine {
         leave(&mut self.stacks, p, n);
     }
 
-    /// To send a message of z words on top, over the channel's number.
-    fn make_sending(&mut self, p: u32, z: u32, branch: u32)
+    /// One to send a message of z words on top, over the channel's number.
+    pub fn make_sending(&mut self, p: u32, z: u32, branch: u32)
         requires { CanGo (Instr.ARMS z branch) p self.old }
         ensures { let ops = operands_of self.old.stacks p in
             self.new ≡ makes self.old p (offered.Send (number_of (operand ops z)) z) branch (z + 1) (take z ops) }
@@ -109,8 +109,8 @@ impl Machine {
         self.make(p, Offer::Send { channel, size: z }, branch, 1);
     }
 
-    /// To receive a message of z words at the address on top, over the channel's number; without words there is no address.
-    fn make_receiving(&mut self, p: u32, z: u32, branch: u32)
+    /// One to receive a message of z words at the address on top, over the channel's number; without words there is no address.
+    pub fn make_receiving(&mut self, p: u32, z: u32, branch: u32)
         requires { CanGo (Instr.ARMR z branch) p self.old }
         ensures { self.new ≡ receiving z branch p self.old }
     {

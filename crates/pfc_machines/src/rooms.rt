@@ -7,8 +7,8 @@ use pfc_code::{Block, Instr};
 use std::alloc::Global;
 use std::marker::Model;
 
-/// How much room an activation takes: for so many alternatives of selects, so many words of the messages that they send, and so many
-/// meetings.
+/// How much room an activation takes: for so many alternatives, of selects and of plain communications, so many words of the messages that they
+/// send, and so many meetings that are open at once.
 #[derive(Clone, Copy, Debug, PartialEq, Eq)]
 pub struct Room {
     pub alternatives: usize,
@@ -38,17 +38,19 @@ impl Model for Rooms {
     ghost view = { λ r. r.rooms.items };
 }
 
-/// The room that one instruction takes.
-fn room_for(i: Instr) -> Room
-    ensures { result ≡ room_for i }
+/// The room that one instruction takes, in a program of so many processes.
+fn room_for(processes: usize, i: Instr) -> Room
+    ensures { result ≡ room_for processes i }
 {
     let (alternatives, words, meetings) = match i {
+        Instr::SEND(z) => (1, z as usize, 0),
+        Instr::RECV(_) => (1, 0, 0),
+        Instr::ACC(_, _, _) => (1, 0, processes),
         Instr::ARMS(z, _) => (1, z as usize, 0),
         Instr::ARMR(_, _) => (1, 0, 0),
-        Instr::ARMA(_, _, _, _) => (1, 0, 1),
+        Instr::ARMA(_, _, _, _) => (1, 0, processes),
         Instr::ARMT(_) => (1, 0, 0),
         Instr::ARMX => (1, 0, 0),
-        Instr::ACC(_, _, _) => (0, 0, 1),
         _ => (0, 0, 0),
     };
     Room {
@@ -68,9 +70,7 @@ fn together(a: Room, b: Room) -> Result<Room, Memory>
     let Some(words) = a.words.checked_add(b.words) else {
         return Err(Memory);
     };
-    let Some(meetings) = a.meetings.checked_add(b.meetings) else {
-        return Err(Memory);
-    };
+    let meetings = a.meetings.max(b.meetings);
     Ok(Room {
         alternatives,
         words,
@@ -78,13 +78,13 @@ fn together(a: Room, b: Room) -> Result<Room, Memory>
     })
 }
 
-/// As much as all of these instructions take, each once.
-fn room_of_all(code: &[Instr]) -> Result<Room, Memory>
-    ensures { IfOk result (λ room. room ≡ room_of_all code.now) }
+/// As much as all of these instructions take, in a program of so many processes.
+fn room_of_all(processes: usize, code: &[Instr]) -> Result<Room, Memory>
+    ensures { IfOk result (λ room. room ≡ room_of_all processes code.now) }
 {
     let mut room = NO_ROOM;
     for i in code {
-        room = together(room, room_for(*i))?;
+        room = together(room, room_for(processes, *i))?;
     }
     Ok(room)
 }
@@ -111,14 +111,20 @@ fn end_of(code: &[Instr], blocks: &[Block], k: usize) -> usize
 }
 
 impl Rooms {
-    /// The room that an activation of each of these blocks takes, in this code. Its only refusal is want of memory.
-    pub fn of(alloc: Global, code: &[Instr], blocks: &[Block]) -> Result<Rooms, Memory>
-        ensures { IfOk result (λ rooms. rooms ≡ rooms_of code.now blocks.now) }
+    /// The room that an activation of each of these blocks takes, in this code of a program of so many processes. Its only refusal is want of
+    /// memory.
+    pub fn of(
+        alloc: Global,
+        processes: usize,
+        code: &[Instr],
+        blocks: &[Block],
+    ) -> Result<Rooms, Memory>
+        ensures { IfOk result (λ rooms. rooms ≡ rooms_of processes code.now blocks.now) }
     {
         let mut rooms = Vec::with_capacity(alloc, blocks.len())?;
         for k in 0..blocks.len() {
             let to = end_of(code, blocks, k);
-            let room = room_of_all(stretch(code, blocks[k].entry as usize, to))?;
+            let room = room_of_all(processes, stretch(code, blocks[k].entry as usize, to))?;
             rooms.push(room)?;
         }
         Ok(Rooms { rooms })

@@ -107,38 +107,51 @@ fn after_read(alloc: Global, t: Simple, input: &[u8]) -> Result<(After, Output),
     Ok((state_of(&machine, answer), Output::new(alloc)))
 }
 
-/// The same of a creation at a block, with 42: of main, where q is 0, and else of the other process.
+/// What is left where main creates itself at the first block, with 42.
+fn main_at_first(alloc: Global) -> Result<After, Memory> {
+    let image = image_of(alloc)?;
+    let mut machine = machine_of(alloc, &image, 0, 42, None, b"", 7)?;
+    let main = machine.world.begin(0);
+    let answer = create(&mut machine, &image, main, 0);
+    Ok(state_of(&machine, answer))
+}
+
+/// The same of the other process.
+fn other_at_first(alloc: Global) -> Result<After, Memory> {
+    let image = image_of(alloc)?;
+    let mut machine = machine_of(alloc, &image, 1, 42, None, b"", 7)?;
+    let main = machine.world.begin(0);
+    let answer = create(&mut machine, &image, main, 0);
+    Ok(state_of(&machine, answer))
+}
+
+/// The same of main at the second block.
+fn main_at_second(alloc: Global) -> Result<After, Memory> {
+    let image = image_of(alloc)?;
+    let mut machine = machine_of(alloc, &image, 0, 42, None, b"", 7)?;
+    let main = machine.world.begin(0);
+    let answer = create(&mut machine, &image, main, 1);
+    Ok(state_of(&machine, answer))
+}
+
+/// The same of the other process.
+fn other_at_second(alloc: Global) -> Result<After, Memory> {
+    let image = image_of(alloc)?;
+    let mut machine = machine_of(alloc, &image, 1, 42, None, b"", 7)?;
+    let main = machine.world.begin(0);
+    let answer = create(&mut machine, &image, main, 1);
+    Ok(state_of(&machine, answer))
+}
+
+/// The same by the number of the block, and of the process.
 fn after_create(alloc: Global, k: u32, q: u32) -> Result<(After, Output), Memory> {
-    match (k, q) {
-        (0, 0) => {
-            let image = image_of(alloc)?;
-            let mut machine = machine_of(alloc, &image, 0, 42, None, b"", 7)?;
-            let main = machine.world.begin(0);
-            let answer = create(&mut machine, &image, main, 0);
-            Ok((state_of(&machine, answer), Output::new(alloc)))
-        }
-        (0, _) => {
-            let image = image_of(alloc)?;
-            let mut machine = machine_of(alloc, &image, 1, 42, None, b"", 7)?;
-            let main = machine.world.begin(0);
-            let answer = create(&mut machine, &image, main, 0);
-            Ok((state_of(&machine, answer), Output::new(alloc)))
-        }
-        (_, 0) => {
-            let image = image_of(alloc)?;
-            let mut machine = machine_of(alloc, &image, 0, 42, None, b"", 7)?;
-            let main = machine.world.begin(0);
-            let answer = create(&mut machine, &image, main, 1);
-            Ok((state_of(&machine, answer), Output::new(alloc)))
-        }
-        (_, _) => {
-            let image = image_of(alloc)?;
-            let mut machine = machine_of(alloc, &image, 1, 42, None, b"", 7)?;
-            let main = machine.world.begin(0);
-            let answer = create(&mut machine, &image, main, 1);
-            Ok((state_of(&machine, answer), Output::new(alloc)))
-        }
-    }
+    let left = match (k, q) {
+        (0, 0) => main_at_first(alloc)?,
+        (0, _) => other_at_first(alloc)?,
+        (_, 0) => main_at_second(alloc)?,
+        (_, _) => other_at_second(alloc)?,
+    };
+    Ok((left, Output::new(alloc)))
 }
 
 fn answer(alloc: Global, act: Act, top: i64, input: &[u8]) -> Result<(After, Output), Memory> {

@@ -44,7 +44,7 @@ fn rooms(alloc: Global) -> Result<[Room; 4], Memory> {
         block_at(alloc, 5)?,
         block_at(alloc, 12)?,
     ]?;
-    let rooms = Rooms::of(alloc, &CODE, &blocks)?;
+    let rooms = Rooms::of(alloc, 7, &CODE, &blocks)?;
     Ok([
         rooms.of_block(0),
         rooms.of_block(1),
@@ -64,6 +64,6 @@ fn room(alternatives: usize, words: usize, meetings: usize) -> Room {
 #[test]
 fn rooms_of_blocks(rt: HostRuntime) -> Result<(), Fail> {
     let none = room(0, 0, 0);
-    assert!(rt; rooms(rt.alloc())? == [room(3, 3, 0), room(2, 0, 2), none, none]);
+    assert!(rt; rooms(rt.alloc())? == [room(3, 3, 0), room(3, 0, 7), none, none]);
     Ok(())
 }

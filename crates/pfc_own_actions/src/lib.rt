@@ -15,4 +15,4 @@ pub use creating::create;
 pub use input::{ask_end, ask_line_end, draw, read, skip};
 pub use output::{write_line_end, write_text, write_value};
 pub use processes::{finish, join};
-pub use time::{ask_clock, sleep};
+pub use time::{ask_clock, moment_after, sleep};

@@ -39,7 +39,7 @@ pub fn ask_clock(machine: &mut Machine, r: Running) -> Result<(), RunFault>
 }
 
 /// The moment so many seconds behind this one; None where there is no wait. The fault is that of a moment too late.
-fn moment_after(moment: u64, seconds: u64) -> Result<Option<u64>, RunFault>
+pub fn moment_after(moment: u64, seconds: u64) -> Result<Option<u64>, RunFault>
     requires { moment < 2 * 10 ^ 18 }
     ensures { result ≡ due_after moment seconds }
 {

@@ -3,13 +3,14 @@ ghost use Rattle.std.specs.Prelude.{◌≡◌, ◌≤◌, ◌<◌, ◌+◌, ◌-
 ghost use Rattle.std.specs.List.{slice_get};
 ghost use Rattle.pfc_code.specs.declared.images.Block.{Block};
 ghost use Rattle.pfc_code.specs.declared.instructions.Instr.{Instr};
+ghost use Rattle.pfc_stacks.specs.declared.instructed.Performed.{Performed};
 ghost use Rattle.pfc_stacks.specs.declared.marks.Mark.{Mark};
-ghost use Rattle.pfc_stacks.specs.Activations.{most_cells, returned, params_of, arguments, entered, mark_in, has_mark, main_link};
+ghost use Rattle.pfc_stacks.specs.Activations.{has_place, most_cells, returned, returned_with, result_in, params_of, arguments, entered, mark_in, has_mark, main_link};
 ghost use Rattle.pfc_stacks.specs.Answers.{IsCallBy, IsCreatedBy, IsReplacedBy, IsDone};
-ghost use Rattle.pfc_stacks.specs.Effects.{effect};
-ghost use Rattle.pfc_stacks.specs.Stacks.{stack_of, operands_of};
+ghost use Rattle.pfc_stacks.specs.Effects.{effect, last_block};
+ghost use Rattle.pfc_stacks.specs.Stacks.{stack_of, operands_of, in_view};
 
-use crate::cells::{BLOCK_PLACE, MAIN_LINK, others_of, size_of};
+use crate::cells::{BLOCK_PLACE, MAIN_LINK, has_place, others_of, size_of};
 use crate::instructed::{CallFault, Performed};
 use crate::stack::ProcessStack;
 use crate::{Mark, Stacks};
@@ -34,6 +35,44 @@ impl Stacks {
         ensures { (b : Block) → slice_get image.now.blocks.items block ≡ Some b → IsCallBy p block b main_link mark self.old result self.new }
     {
         self.call_block(p, block, &image.blocks[block as usize], MAIN_LINK, mark)
+    }
+
+    /// A call by a process of a block, by its number in the image, whose static link is l links up, without a mark: of a
+    /// procedure or a function that is called from where it is in view. The arguments are the last operands. It goes on at the
+    /// block's entry, and its caller behind the instruction at which the process is. All memory is taken before anything is
+    /// changed.
+    pub fn call_inside(
+        &mut self,
+        image: &Image,
+        p: u32,
+        block: u32,
+        l: u32,
+    ) -> Result<(), CallFault>
+        requires process { p < length self.old }
+        requires block { block < length image.now.blocks.items }
+        requires arguments { params_of (slice_get image.now.blocks.items block) ≤ length (operands_of self.old p) }
+        ensures { (b : Block) → slice_get image.now.blocks.items block ≡ Some b → IsCallBy p block b (in_view self.old p l) Mark.Plain self.old result self.new }
+    {
+        let link = self.links_up(p, l);
+        self.call_block(p, block, &image.blocks[block as usize], link, Mark::Plain)
+    }
+
+    /// Whether an activation of a block may stand over the cells of a process.
+    pub fn has_place(&self, p: u32, block: &Block) -> bool
+        requires { p < length self.now }
+        ensures { result ≡ has_place p (length (stack_of self.now p).cells) block.now }
+    {
+        let below = self.stacks[p as usize].cells.len();
+        has_place(below, size_of(block), most_cells(p))
+    }
+
+    /// Whether an activation of a block may stand in the place of the last activation of a process.
+    pub fn may_replace(&self, p: u32, block: &Block) -> bool
+        requires { p < length self.now }
+        ensures { result ≡ has_place p (stack_of self.now p).base block.now }
+    {
+        let below = self.stacks[p as usize].base();
+        has_place(below as usize, size_of(block), most_cells(p))
     }
 
     /// The creation of process p at a block, by its number in the image, by a process that has the arguments as its last
@@ -64,6 +103,15 @@ impl Stacks {
     {
         let stack = &mut self.stacks[p as usize];
         stack.end_call();
+    }
+
+    /// The last activation of a process, which is a function's, ends, and its caller goes on with the result.
+    pub fn end_function(&mut self, image: &Image, p: u32)
+        requires process { p < length self.old }
+        requires room { length (operands_of self.old p) < (stack_of self.old p).room }
+        ensures { let s = stack_of self.old p in self.new ≡ set self.old p (returned_with (result_in (last_block image.now.blocks.items s) s) s) }
+    {
+        self.end_function_of(&image.blocks, p);
     }
 
     /// Puts a block, by its number in the image, in the place of that of the last activation of a process, which is not its
@@ -162,10 +210,11 @@ impl Stacks {
     }
 
     /// The end of a function's activation, whose result its caller gets.
-    pub(crate) fn end_function(&mut self, blocks: &[Block], p: u32) -> Performed
+    pub(crate) fn end_function_of(&mut self, blocks: &[Block], p: u32) -> Performed
         requires process { p < length self.old }
         requires room { length (operands_of self.old p) < (stack_of self.old p).room }
-        ensures { IsDone (effect blocks.now Instr.RETF p self.old) self.old result self.new }
+        ensures done { result ≡ Performed.Action }
+        ensures returned { let s = stack_of self.old p in self.new ≡ set self.old p (returned_with (result_in (last_block blocks.now s) s) s) }
     {
         let stack = &mut self.stacks[p as usize];
         let block = stack.own_number(BLOCK_PLACE);

@@ -1,5 +1,5 @@
 //! The cells of a new activation.
-ghost use Rattle.std.specs.Prelude.{◌≡◌, ◌≤◌, ◌<◌, ◌+◌, ◌-◌, ◌^◌, ◌++◌, length, nat_le, set, vec_capacity};
+ghost use Rattle.std.specs.Prelude.{◌≡◌, ◌≤◌, ◌<◌, ◌+◌, ◌-◌, ◌^◌, ◌++◌, pos, length, nat_le, get_or, set, vec_capacity};
 ghost use Rattle.pfc_stacks.specs.Activations.{own_words, block_cells, size_of};
 
 use crate::Mark;
@@ -97,6 +97,14 @@ pub(crate) fn push_block(cells: &mut Vec<i64>, args: &[i64], others: usize)
     cells.extend_from_slice(args).unwrap();
     let all = cells.len() + others;
     cells.resize(all, 0).unwrap();
+}
+
+/// The word at a place, from 0.
+pub(crate) fn word_at(words: &[i64], k: usize) -> i64
+    requires { k < length words.now }
+    ensures { result ≡ get_or words.now k (pos 0) }
+{
+    words[k]
 }
 
 /// Writes the cell at a place, from 0, where there is one.

@@ -96,7 +96,7 @@ impl Stacks {
                 Performed::Action
             }
             Instr::RET => self.end_plain(p),
-            Instr::RETF => self.end_function(blocks, p),
+            Instr::RETF => self.end_function_of(blocks, p),
             _ => self.perform_own(p, i),
         }
     }
@@ -153,7 +153,7 @@ impl Stacks {
     }
 
     /// The word of the first own cell of the activation that lies l static links up.
-    fn links_up(&self, p: u32, l: u32) -> i64
+    pub(crate) fn links_up(&self, p: u32, l: u32) -> i64
         requires { p < length self.now }
         ensures up { result ≡ in_view self.now p l }
         ensures own { l ≡ 0 → IsAddress result }

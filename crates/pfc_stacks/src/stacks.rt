@@ -9,7 +9,7 @@ ghost use Rattle.pfc_stacks.specs.Stacks.{Stack, stack_of, cells_of, operand, op
 ghost use Rattle.pfc_stacks.specs.Starts.{begun, guard_room, is_guarded, main_entered, start_stacks};
 
 use crate::Ref;
-use crate::cells::BLOCK_PLACE;
+use crate::cells::{BLOCK_PLACE, word_at};
 use crate::instructed::Performed;
 use crate::stack::ProcessStack;
 use pfc_base::Memory;
@@ -156,6 +156,16 @@ impl Stacks {
         }
     }
 
+    /// Writes words to the cells from an address on, the first word to the first cell. The cells are there.
+    pub fn write_words(&mut self, to: Ref, words: &[i64])
+        requires { AreLive self.old to (length words.now) }
+        ensures { self.new ≡ written self.old to words.now }
+    {
+        for j in 0..words.len() {
+            self.set_cell(to.process, to.cell as usize + j, word_at(words, j));
+        }
+    }
+
     /// The process goes on at an address.
     pub fn go(&mut self, p: u32, at: u32)
         ensures { self.new ≡ set self.old p (record (stack_of self.old p) { at = at }) }
@@ -182,6 +192,17 @@ impl Stacks {
     {
         let at = self.at(p);
         image.lines.get(at as usize).copied().unwrap_or(0)
+    }
+
+    /// Where the own cells of the current activation of a process begin.
+    pub fn base(&self, p: u32) -> u32
+        ensures base { result ≡ (stack_of self.now p).base }
+        ensures few { length self.now ≤ 1024 }
+    {
+        match self.stacks.get(p as usize) {
+            Some(stack) => stack.base(),
+            None => 0,
+        }
     }
 
     /// The number of the block of the last activation of a process; 0 where it has none.
@@ -222,17 +243,6 @@ impl Stacks {
         if (q as usize) < self.stacks.len() {
             let stack = &mut self.stacks[q as usize];
             stack.set_cell(k, v);
-        }
-    }
-
-    /// Where the own cells of the current activation of a process begin.
-    pub(crate) fn base(&self, p: u32) -> u32
-        ensures base { result ≡ (stack_of self.now p).base }
-        ensures few { length self.now ≤ 1024 }
-    {
-        match self.stacks.get(p as usize) {
-            Some(stack) => stack.base(),
-            None => 0,
         }
     }
 

@@ -4,4 +4,4 @@ use Rattle.pfc_machines.proofs.rooms.room_of_all.Given as goal
 
 -- the instructions so far, and those that are left
 abbrev pub invariant-loop-i : goal.invariant-loop-i
-invariant-loop-i l = together l.room (room_of_all (drop l.i-index l.code)) ≡ room_of_all l.code
+invariant-loop-i l = together l.room (room_of_all l.processes (drop l.i-index l.code)) ≡ room_of_all l.processes l.code

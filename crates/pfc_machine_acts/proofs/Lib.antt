@@ -1,0 +1,5 @@
+pub mod Blocks
+pub mod Clock
+pub mod Ends
+pub mod Runs
+pub mod Tried

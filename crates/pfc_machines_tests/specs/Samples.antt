@@ -48,7 +48,7 @@ main_with ops = record {
 -- main in its first activation, with this scan
 abbrev pub main_descriptor : Option Scan → Descriptor
 main_descriptor scan =
-    record { line = 9; activations = 1; communications = record no_communications { room = room_by 5 2 1 }; offered = 0; scan = scan }
+    record { line = 9; activations = 1; communications = record no_communications { room = room_by 5 2 2 }; offered = 0; scan = scan }
 
 -- who acts, if somebody does
 abbrev pub world_with : Option ℕ → Table
@@ -63,7 +63,7 @@ machine_with ops scan acting input seed = record {
   monitors = record { holders = []; owners = [] };
   resources = None ∷ None ∷ [];
   descriptors = main_descriptor scan ∷ descriptor_by 5 ∷ [];
-  rooms = room_by 1 0 1 ∷ room_by 0 0 0 ∷ room_by 5 2 1 ∷ [];
+  rooms = room_by 1 0 2 ∷ room_by 0 0 0 ∷ room_by 5 2 2 ∷ [];
   input = opened input;
   draws = first_draws seed;
   in_line = false;
@@ -88,7 +88,7 @@ other_with ops = record {
 }
 
 abbrev pub other_descriptor : Descriptor
-other_descriptor = record { line = 5; activations = 1; communications = record no_communications { room = room_by 1 0 1 }; offered = 0; scan = None }
+other_descriptor = record { line = 5; activations = 1; communications = record no_communications { room = room_by 1 0 2 }; offered = 0; scan = None }
 
 -- main has created the other, and is over 50
 abbrev pub created_machine : Machine

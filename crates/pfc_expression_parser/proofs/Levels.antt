@@ -1,16 +1,17 @@
 -- What the reader of an expression or a factor is, by the levels that are left.
-use Rattle.std.proofs.Common.{◌≡◌, ℕ, zero, suc, List, length, Some, None, Ok, Err, sym, ap, subst, ◌∙◌, refl}
+use Rattle.std.proofs.Common.{◌≡◌, ℕ, zero, suc, List, [], length, Option, Some, None, Ok, Err, ap, ◌∙◌, refl}
 use Rattle.pfc_base.specs.declared.places.Place.{Place}
 use Rattle.pfc_base.specs.declared.tokens.Token.{Token}
 use Rattle.pfc_base.specs.declared.word.TheConstants.{NOT}
-use Rattle.pfc_tree.specs.trees.Exprs.{FactorTree, negation}
+use Rattle.pfc_tree.specs.Symbols.{Symbol}
+use Rattle.pfc_tree.specs.trees.Exprs.{negation}
 use Rattle.pfc_grammar.specs.Heads.{as_word, is_word}
 use Rattle.pfc_grammar.specs.Reading.{deep}
-use Rattle.pfc_grammar.specs.placed.Reading.{pure, bind, stop_deep}
+use Rattle.pfc_grammar.specs.placed.Reading.{Reader, pure, bind, many, stop_deep}
 use Rattle.pfc_grammar.specs.placed.Exprs.{plain_factor, no_expr, factor_at, factor_with, expr_at, expr_with}
-use Rattle.pfc_token_parser.specs.declared.tokens.Halt as fault
-use Rattle.pfc_token_parser.specs.Giving.{Halts, taken}
-use Rattle.pfc_token_parser.proofs.Branches.{branch_taken, branch_not_taken, choose_seen, choose_not_seen, seen_taken, seen_not_taken, bind_given, bind_halts}
+use Rattle.pfc_token_parser.specs.Giving.{taken}
+use Rattle.pfc_token_parser.proofs.Branches.{branch_taken, branch_not_taken, choose_seen, choose_not_seen, seen_taken, seen_not_taken}
+use Rattle.pfc_token_parser.proofs.Loops.{turning_begins, turning_ends}
 
 pub expr_below : (n m : ℕ) (ts : List Token) → n ≡ suc m → expr_at n ts ≡ expr_with (factor_at m) ts
 unfolding expr_at
@@ -33,9 +34,7 @@ pub factor_not : (n m : ℕ) (ts more : List Token) (o : Unit {0} × Place) → 
 unfolding factor_at factor_with
 factor_not n m ts more o k e = ap (λ l. factor_at l ts) k ∙ branch_taken (as_word NOT) (λ t. bind (factor_at m) (λ x. pure (negation x t.1))) (plain_factor (expr_with (factor_at m))) ts more o e
 
-pub factor_negated : (n m : ℕ) (ts more rest : List Token) (o : Unit {0} × Place) (x : FactorTree) → n ≡ suc m → taken (as_word NOT) ts ≡ Some (o, more) → factor_at m more ≡ Ok (x, rest) → factor_at n ts ≡ Ok (negation x o.1, rest)
-unfolding pure
-factor_negated n m ts more rest o x k e g = factor_not n m ts more o k e ∙ bind_given (factor_at m) (λ x. pure (negation x o.1)) more rest x (Ok (negation x o.1, rest)) g refl
-
-pub factor_halts : (n m : ℕ) (ts more : List Token) (o : Unit {0} × Place) (h : fault.Halt) → n ≡ suc m → taken (as_word NOT) ts ≡ Some (o, more) → Halts h (factor_at m more) → Halts h (factor_at n ts)
-factor_halts n m ts more o h k e g = subst (λ w. Halts h w) (sym (factor_not n m ts more o k e)) (bind_halts (factor_at m) (λ x. pure (negation x o.1)) more h g)
+-- no items, where no token is taken
+pub many_ended : {O A : Type 0} (f : Symbol → Option O) (g : O × Place → Reader A) (ts : List Token) → taken f ts ≡ None → many f g ts ≡ Ok ([], ts)
+unfolding many
+many_ended f g ts e = turning_ends f g [] ts (many f g ts) (turning_begins f g [] [] ts (many f g ts) refl refl) e

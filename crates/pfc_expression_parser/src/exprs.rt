@@ -1,19 +1,20 @@
 //! The reading of expressions. An expression takes one of the levels that are left, and so does a `not`.
 ghost use Rattle.std.specs.Prelude.{◌≡◌, ◌<◌, ◌≤◌, zero, Bool, false, [], ◌∷◌, length, map, IfOk};
-ghost use Rattle.pfc_base.specs.declared.sign.TheConstants.{COMMA};
+ghost use Rattle.pfc_base.specs.declared.sign.TheConstants.{CLOSE_PAREN, COMMA};
 ghost use Rattle.pfc_tree.specs.trees.Exprs.{ExprTree, FactorTree};
-ghost use Rattle.pfc_tree.specs.views.Exprs.{expr_view, simple_view, term_view, factor_view, desig_view, selector_view, actual_view, actuals_view};
-ghost use Rattle.pfc_grammar.specs.Heads.{as_sign, as_add_op, as_mul_op, begins_factor, begins_expr};
-ghost use Rattle.pfc_grammar.specs.placed.Reading.{Reader, many, many_onto};
-ghost use Rattle.pfc_grammar.specs.placed.Exprs.{selector_behind, desig_behind, desig_with, actual_with, actuals_with, plain_factor, multiplier_behind, term_with, summand_behind, simple_behind, simple_with, expr_with, factor_at, expr_at};
+ghost use Rattle.pfc_tree.specs.trees.Exprs as trees;
+ghost use Rattle.pfc_tree.specs.views.Exprs.{actuals_of, expr_view, simple_view, term_view, factor_view, desig_view, selector_view, actual_view, actuals_view};
+ghost use Rattle.pfc_grammar.specs.Heads.{as_sign, as_add_op, as_mul_op, as_selector, begins_factor, begins_expr};
+ghost use Rattle.pfc_grammar.specs.placed.Reading.{Reader, bind, pure, take_as, list_of, many, many_onto};
+ghost use Rattle.pfc_grammar.specs.placed.Exprs.{selector_behind, desig_behind, desig_with, actual_with, actuals_with, paren_behind, applied_behind, plain_factor, multiplier_behind, term_with, summand_behind, simple_behind, simple_with, expr_with, factor_at, expr_at};
 ghost use Rattle.pfc_token_parser.specs.Giving.{Halts, Gives, sees};
 
-use pfc_base::{Name, Place, Token, sign, word};
+use pfc_base::{Name, Place, Text, Token, sign, word};
 use pfc_token_parser::{
     Halt, add_op, expect_name, expect_sign, first_place, is_word, literal, mul_op, name, number,
     plus_minus, relation, selector, sign, word,
 };
-use pfc_tree::{Actual, AddOp, Desig, Expr, Factor, MulOp, Selector, Sign, Simple, Term};
+use pfc_tree::{Actual, AddOp, Desig, Expr, Factor, MulOp, Relation, Selector, Sign, Simple, Term};
 use std::alloc::Global;
 
 /// Whether the first token begins a factor.
@@ -53,6 +54,7 @@ fn sign_before(tokens: &[Token]) -> (Option<(Sign, Place)>, &[Token])
 
 /// An expression where so many levels are left, of which it takes one.
 #[cycle(exprs)]
+#[inline(never)]
 pub fn expr(levels: u8, tokens: &[Token], alloc: Global) -> Result<(Expr, &[Token]), Halt>
     ensures gives { Gives (λ r. (expr_view r.0, r.1.now)) result (expr_at levels tokens.now) }
     ensures kept { IfOk result (λ r. length r.1.now < length tokens.now) }
@@ -65,6 +67,7 @@ pub fn expr(levels: u8, tokens: &[Token], alloc: Global) -> Result<(Expr, &[Toke
 
 /// `simple [("=" | "<>" | "<" | "<=" | ">" | ">=") simple]`, where so many levels are left for the factors in it
 #[cycle(exprs)]
+#[inline(always)]
 #[tactic(auto, unfolding(pfc_grammar::specs::placed::Exprs::expr_with, pfc_grammar::specs::placed::Exprs::expr_from, pfc_grammar::specs::placed::Reading::bind, pfc_grammar::specs::placed::Reading::branch, pfc_grammar::specs::placed::Reading::peek, pfc_grammar::specs::placed::Reading::pure))]
 fn relating(levels: u8, tokens: &[Token], alloc: Global) -> Result<(Expr, &[Token]), Halt>
     ensures gives { Gives (λ r. (expr_view r.0, r.1.now)) result (expr_with (factor_at levels) tokens.now) }
@@ -72,23 +75,39 @@ fn relating(levels: u8, tokens: &[Token], alloc: Global) -> Result<(Expr, &[Toke
 {
     let place = first_place(tokens);
     let (left, rest) = simple(levels, tokens, alloc)?;
-    let Some((op, behind)) = relation(rest) else {
-        return Ok((
-            Expr {
-                left,
-                right: None,
-                place,
-            },
-            rest,
-        ));
-    };
-    let (right, rest) = simple(levels, behind, alloc)?;
+    match relation(rest) {
+        Some((op, behind)) => related(levels, left, op, place, behind, alloc),
+        None => {
+            let right = None;
+            Ok((Expr { left, right, place }, rest))
+        }
+    }
+}
+
+/// `simple` behind its left side and the relation, in an expression that begins at `place`. It stands apart, so that an expression
+/// without a relation has no room for a second side.
+#[cycle(exprs)]
+#[inline(never)]
+#[tactic(auto, unfolding(pfc_grammar::specs::placed::Reading::bind, pfc_grammar::specs::placed::Reading::pure))]
+fn related(
+    levels: u8,
+    left: Simple,
+    op: (Relation, Place),
+    place: Place,
+    tokens: &[Token],
+    alloc: Global,
+) -> Result<(Expr, &[Token]), Halt>
+    ensures gives { Gives (λ r. (expr_view r.0, r.1.now)) result (bind (simple_with (factor_at levels)) (λ right. pure (trees.related (simple_view left) op right place)) tokens.now) }
+    ensures kept { IfOk result (λ r. length r.1.now < length tokens.now) }
+{
+    let (right, rest) = simple(levels, tokens, alloc)?;
     let right = Some((op, right));
     Ok((Expr { left, right, place }, rest))
 }
 
 /// `["+" | "-"] term {("+" | "-" | "or") term}`
 #[cycle(exprs)]
+#[inline(always)]
 #[tactic(auto, unfolding(pfc_grammar::specs::placed::Exprs::simple_behind, pfc_grammar::specs::placed::Reading::bind, pfc_grammar::specs::placed::Reading::pure))]
 fn simple(levels: u8, tokens: &[Token], alloc: Global) -> Result<(Simple, &[Token]), Halt>
     ensures gives { Gives (λ r. (simple_view r.0, r.1.now)) result (simple_with (factor_at levels) tokens.now) }
@@ -107,7 +126,25 @@ fn simple(levels: u8, tokens: &[Token], alloc: Global) -> Result<(Simple, &[Toke
 
 /// `{("+" | "-" | "or") term}`
 #[cycle(exprs)]
+#[inline(always)]
 fn summands(
+    levels: u8,
+    tokens: &[Token],
+    alloc: Global,
+) -> Result<(Vec<((AddOp, Place), Term)>, &[Token]), Halt>
+    ensures gives { Gives (λ r. (map (λ u. (u.0, term_view u.1)) r.0.items, r.1.now)) result (many as_add_op (summand_behind (factor_at levels)) tokens.now) }
+    ensures kept { IfOk result (λ r. length r.1.now ≤ length tokens.now) }
+{
+    match add_op(tokens) {
+        Some(_) => some_summands(levels, tokens, alloc),
+        None => Ok((Vec::new(alloc), tokens)),
+    }
+}
+
+/// The same where an operator comes.
+#[cycle(exprs)]
+#[inline(never)]
+fn some_summands(
     levels: u8,
     tokens: &[Token],
     alloc: Global,
@@ -127,6 +164,7 @@ fn summands(
 
 /// `factor {("*" | "div" | "mod" | "and") factor}`
 #[cycle(exprs)]
+#[inline(always)]
 #[tactic(auto, unfolding(pfc_grammar::specs::placed::Exprs::term_with, pfc_grammar::specs::placed::Reading::bind, pfc_grammar::specs::placed::Reading::pure))]
 fn term(levels: u8, tokens: &[Token], alloc: Global) -> Result<(Term, &[Token]), Halt>
     ensures gives { Gives (λ r. (term_view r.0, r.1.now)) result (term_with (factor_at levels) tokens.now) }
@@ -143,7 +181,25 @@ fn term(levels: u8, tokens: &[Token], alloc: Global) -> Result<(Term, &[Token]),
 
 /// `{("*" | "div" | "mod" | "and") factor}`
 #[cycle(exprs)]
+#[inline(always)]
 fn multipliers(
+    levels: u8,
+    tokens: &[Token],
+    alloc: Global,
+) -> Result<(Vec<((MulOp, Place), Factor)>, &[Token]), Halt>
+    ensures gives { Gives (λ r. (map (λ m. (m.0, factor_view m.1)) r.0.items, r.1.now)) result (many as_mul_op (multiplier_behind (factor_at levels)) tokens.now) }
+    ensures kept { IfOk result (λ r. length r.1.now ≤ length tokens.now) }
+{
+    match mul_op(tokens) {
+        Some(_) => some_multipliers(levels, tokens, alloc),
+        None => Ok((Vec::new(alloc), tokens)),
+    }
+}
+
+/// The same where an operator comes.
+#[cycle(exprs)]
+#[inline(never)]
+fn some_multipliers(
     levels: u8,
     tokens: &[Token],
     alloc: Global,
@@ -163,6 +219,7 @@ fn multipliers(
 
 /// `number | literal | "not" factor | "(" expr ")" | desig [actuals]`, where a `not` takes one of the levels
 #[cycle(exprs)]
+#[inline(always)]
 fn factor(levels: u8, tokens: &[Token], alloc: Global) -> Result<(Factor, &[Token]), Halt>
     ensures gives { Gives (λ r. (factor_view r.0, r.1.now)) result (factor_at levels tokens.now) }
     ensures kept { IfOk result (λ r. length r.1.now < length tokens.now) }
@@ -170,16 +227,33 @@ fn factor(levels: u8, tokens: &[Token], alloc: Global) -> Result<(Factor, &[Toke
     let Some((place, behind)) = word(tokens, word::NOT) else {
         return plain_factor(levels, tokens, alloc);
     };
-    let Some(below) = levels.checked_sub(1) else {
-        return Err(Halt::Deep(tokens.len()));
-    };
-    let (negated, rest) = factor(below, behind, alloc)?;
+    match levels.checked_sub(1) {
+        Some(below) => negation_behind(below, place, behind, alloc),
+        None => Err(Halt::Deep(tokens.len())),
+    }
+}
+
+/// `factor` behind `not`, which stands at `place`, where so many levels are left for it
+#[cycle(exprs)]
+#[inline(never)]
+#[tactic(auto, unfolding(pfc_grammar::specs::placed::Reading::bind, pfc_grammar::specs::placed::Reading::pure))]
+fn negation_behind(
+    levels: u8,
+    place: Place,
+    tokens: &[Token],
+    alloc: Global,
+) -> Result<(Factor, &[Token]), Halt>
+    ensures gives { Gives (λ r. (factor_view r.0, r.1.now)) result (bind (factor_at levels) (λ x. pure (trees.negation x place)) tokens.now) }
+    ensures kept { IfOk result (λ r. length r.1.now < length tokens.now) }
+{
+    let (negated, rest) = factor(levels, tokens, alloc)?;
     Ok((Factor::Not(Box::new(alloc, negated)?, place), rest))
 }
 
-/// `number | literal | "(" expr ")" | desig [actuals]`
+/// `number | literal | "(" expr ")" | desig [actuals]`. What is more than a number stands apart, so that a number has no room for it.
 #[cycle(exprs)]
-#[tactic(auto, unfolding(pfc_grammar::specs::placed::Exprs::plain_factor, pfc_grammar::specs::placed::Exprs::paren_behind, pfc_grammar::specs::placed::Exprs::applied_behind, pfc_grammar::specs::placed::Reading::bind, pfc_grammar::specs::placed::Reading::branch, pfc_grammar::specs::placed::Reading::pure, pfc_grammar::specs::placed::Reading::stop))]
+#[inline(always)]
+#[tactic(auto, unfolding(pfc_grammar::specs::placed::Exprs::plain_factor, pfc_grammar::specs::placed::Reading::branch, pfc_grammar::specs::placed::Reading::pure, pfc_grammar::specs::placed::Reading::stop))]
 fn plain_factor(levels: u8, tokens: &[Token], alloc: Global) -> Result<(Factor, &[Token]), Halt>
     ensures gives { Gives (λ r. (factor_view r.0, r.1.now)) result (plain_factor (expr_at levels) tokens.now) }
     ensures kept { IfOk result (λ r. length r.1.now < length tokens.now) }
@@ -188,25 +262,75 @@ fn plain_factor(levels: u8, tokens: &[Token], alloc: Global) -> Result<(Factor, 
         return Ok((Factor::Number(n, place), rest));
     }
     if let Some(((text, place), rest)) = literal(tokens) {
-        let copy = text.copy(alloc)?;
-        return Ok((Factor::Literal(copy, place), rest));
+        return copied(text, place, rest, alloc);
     }
     if let Some((place, behind)) = sign(tokens, sign::OPEN_PAREN) {
-        let (inner, rest) = expr(levels, behind, alloc)?;
-        let (_, rest) = expect_sign(rest, sign::CLOSE_PAREN)?;
-        return Ok((Factor::Paren(Box::new(alloc, inner)?, place), rest));
+        return paren_behind(levels, place, behind, alloc);
     }
-    let Some(((x, place), behind)) = name(tokens) else {
-        return Err(Halt::Unexpected(tokens.len()));
-    };
+    match name(tokens) {
+        Some(((x, place), behind)) => applied_behind(levels, x, place, behind, alloc),
+        None => Err(Halt::Unexpected(tokens.len())),
+    }
+}
+
+/// A literal that stands at `place` before these tokens.
+#[inline(never)]
+#[tactic(auto, unfolding(pfc_grammar::specs::placed::Reading::pure))]
+fn copied<'a>(
+    text: &Text,
+    place: Place,
+    rest: &'a [Token],
+    alloc: Global,
+) -> Result<(Factor, &'a [Token]), Halt>
+    ensures gives { Gives (λ r. (factor_view r.0, r.1.now)) result (pure (trees.literal text.now place) rest.now) }
+    ensures kept { IfOk result (λ r. length r.1.now ≤ length rest.now) }
+{
+    let copy = text.copy(alloc)?;
+    Ok((Factor::Literal(copy, place), rest))
+}
+
+/// `expr ")"`, behind `(`, which stands at `place`
+#[cycle(exprs)]
+#[inline(never)]
+#[tactic(auto, unfolding(pfc_grammar::specs::placed::Exprs::paren_behind, pfc_grammar::specs::placed::Reading::bind, pfc_grammar::specs::placed::Reading::pure))]
+fn paren_behind(
+    levels: u8,
+    place: Place,
+    tokens: &[Token],
+    alloc: Global,
+) -> Result<(Factor, &[Token]), Halt>
+    ensures gives { Gives (λ r. (factor_view r.0, r.1.now)) result (paren_behind (expr_at levels) place tokens.now) }
+    ensures kept { IfOk result (λ r. length r.1.now ≤ length tokens.now) }
+{
+    let (inner, rest) = expr(levels, tokens, alloc)?;
+    let (_, rest) = expect_sign(rest, sign::CLOSE_PAREN)?;
+    Ok((Factor::Paren(Box::new(alloc, inner)?, place), rest))
+}
+
+/// `desig [actuals]`, behind its name, which stands at `place`
+#[cycle(exprs)]
+#[inline(never)]
+#[tactic(auto, unfolding(pfc_grammar::specs::placed::Exprs::applied_behind, pfc_grammar::specs::placed::Reading::bind, pfc_grammar::specs::placed::Reading::pure))]
+fn applied_behind<'a>(
+    levels: u8,
+    x: &Name,
+    place: Place,
+    tokens: &'a [Token],
+    alloc: Global,
+) -> Result<(Factor, &'a [Token]), Halt>
+    ensures gives { Gives (λ r. (factor_view r.0, r.1.now)) result (applied_behind (expr_at levels) (x.now, place) tokens.now) }
+    ensures kept { IfOk result (λ r. length r.1.now ≤ length tokens.now) }
+{
     let copy = x.copy(alloc)?;
-    let (desig, rest) = desig_behind(levels, (copy, place), behind, alloc)?;
+    let (desig, rest) = desig_behind(levels, (copy, place), tokens, alloc)?;
     let (args, rest) = actuals(levels, rest, alloc)?;
     Ok((Factor::Use(desig, args, place), rest))
 }
 
 /// `{"[" expr {"," expr} "]" | "." name}`, behind its name
 #[cycle(exprs)]
+#[inline(always)]
+#[tactic(auto, unfolding(pfc_grammar::specs::placed::Exprs::desig_behind, pfc_grammar::specs::placed::Reading::bind, pfc_grammar::specs::placed::Reading::pure))]
 pub fn desig_behind(
     levels: u8,
     first: (Name, Place),
@@ -216,6 +340,39 @@ pub fn desig_behind(
     ensures gives { Gives (λ r. (desig_view r.0, r.1.now)) result (desig_behind (expr_at levels) first tokens.now) }
     ensures kept { IfOk result (λ r. length r.1.now ≤ length tokens.now) }
 {
+    let (selectors, rest) = selectors(levels, tokens, alloc)?;
+    let desig = Desig {
+        name: first.0,
+        selectors,
+        place: first.1,
+    };
+    Ok((desig, rest))
+}
+
+/// `{"[" expr {"," expr} "]" | "." name}`
+#[cycle(exprs)]
+#[inline(always)]
+fn selectors(levels: u8, tokens: &[Token], alloc: Global) -> Result<(Vec<Selector>, &[Token]), Halt>
+    ensures gives { Gives (λ r. (map selector_view r.0.items, r.1.now)) result (many as_selector (λ o. selector_behind (expr_at levels) o.0 o.1) tokens.now) }
+    ensures kept { IfOk result (λ r. length r.1.now ≤ length tokens.now) }
+{
+    match selector(tokens) {
+        Some(_) => some_selectors(levels, tokens, alloc),
+        None => Ok((Vec::new(alloc), tokens)),
+    }
+}
+
+/// The same where one comes.
+#[cycle(exprs)]
+#[inline(never)]
+fn some_selectors(
+    levels: u8,
+    tokens: &[Token],
+    alloc: Global,
+) -> Result<(Vec<Selector>, &[Token]), Halt>
+    ensures gives { Gives (λ r. (map selector_view r.0.items, r.1.now)) result (many as_selector (λ o. selector_behind (expr_at levels) o.0 o.1) tokens.now) }
+    ensures kept { IfOk result (λ r. length r.1.now ≤ length tokens.now) }
+{
     let mut selectors = Vec::new(alloc);
     let mut rest = tokens;
     while let Some(((index, place), behind)) = selector(rest) {
@@ -223,12 +380,7 @@ pub fn desig_behind(
         selectors.push(item)?;
         rest = after;
     }
-    let desig = Desig {
-        name: first.0,
-        selectors,
-        place: first.1,
-    };
-    Ok((desig, rest))
+    Ok((selectors, rest))
 }
 
 /// `expr {"," expr} "]"` behind `[`, for which `index` is true and which stands at `place`, or `name` behind `.`
@@ -278,15 +430,32 @@ fn exprs_behind(
 
 /// `["(" expr [":" expr] {"," expr [":" expr]} ")"]`
 #[cycle(exprs)]
-#[tactic(auto, unfolding(pfc_grammar::specs::placed::Exprs::actuals_with, pfc_grammar::specs::placed::Reading::list_of, pfc_grammar::specs::placed::Reading::bind, pfc_grammar::specs::placed::Reading::branch, pfc_grammar::specs::placed::Reading::pure))]
+#[inline(always)]
+#[tactic(auto, unfolding(pfc_grammar::specs::placed::Exprs::actuals_with, pfc_grammar::specs::placed::Reading::branch, pfc_grammar::specs::placed::Reading::pure))]
 pub fn actuals(levels: u8, tokens: &[Token], alloc: Global) -> Result<(Vec<Actual>, &[Token]), Halt>
     ensures gives { Gives (λ r. (actuals_view r.0.items, r.1.now)) result (actuals_with (expr_at levels) tokens.now) }
     ensures kept { IfOk result (λ r. length r.1.now ≤ length tokens.now) }
 {
-    let Some((_, behind)) = sign(tokens, sign::OPEN_PAREN) else {
-        return Ok((Vec::new(alloc), tokens));
-    };
-    let (first, rest) = actual(levels, behind, alloc)?;
+    match sign(tokens, sign::OPEN_PAREN) {
+        Some((_, behind)) => actuals_within(levels, behind, alloc),
+        None => Ok((Vec::new(alloc), tokens)),
+    }
+}
+
+/// `expr [":" expr] {"," expr [":" expr]} ")"`, behind `(`. It stands apart, so that a name without arguments has no room for them.
+#[cycle(exprs)]
+#[inline(never)]
+#[tactic(auto, unfolding(pfc_grammar::specs::placed::Reading::list_of, pfc_grammar::specs::placed::Reading::bind, pfc_grammar::specs::placed::Reading::pure))]
+fn actuals_within(
+    levels: u8,
+    tokens: &[Token],
+    alloc: Global,
+) -> Result<(Vec<Actual>, &[Token]), Halt>
+    ensures gives { Gives (λ r. (actuals_view r.0.items, r.1.now)) result
+        (bind (list_of (as_sign COMMA) (actual_with (expr_at levels))) (λ args. bind (take_as (as_sign CLOSE_PAREN)) (λ u. pure (actuals_of args))) tokens.now) }
+    ensures kept { IfOk result (λ r. length r.1.now ≤ length tokens.now) }
+{
+    let (first, rest) = actual(levels, tokens, alloc)?;
     let (args, rest) = actuals_behind(levels, first, rest, alloc)?;
     let (_, rest) = expect_sign(rest, sign::CLOSE_PAREN)?;
     Ok((args, rest))
@@ -300,10 +469,26 @@ fn actual(levels: u8, tokens: &[Token], alloc: Global) -> Result<(Actual, &[Toke
     ensures kept { IfOk result (λ r. length r.1.now < length tokens.now) }
 {
     let (value, rest) = expr(levels, tokens, alloc)?;
-    let Some((_, behind)) = sign(rest, sign::COLON) else {
-        return Ok((Actual { value, width: None }, rest));
-    };
-    let (width, rest) = expr(levels, behind, alloc)?;
+    match sign(rest, sign::COLON) {
+        Some((_, behind)) => wide(levels, value, behind, alloc),
+        None => Ok((Actual { value, width: None }, rest)),
+    }
+}
+
+/// `expr` behind a value and `:`
+#[cycle(exprs)]
+#[inline(never)]
+#[tactic(auto, unfolding(pfc_grammar::specs::placed::Reading::bind, pfc_grammar::specs::placed::Reading::pure))]
+fn wide(
+    levels: u8,
+    value: Expr,
+    tokens: &[Token],
+    alloc: Global,
+) -> Result<(Actual, &[Token]), Halt>
+    ensures gives { Gives (λ r. (actual_view r.0, r.1.now)) result (bind (expr_at levels) (λ width. pure (trees.actual_width (expr_view value) width)) tokens.now) }
+    ensures kept { IfOk result (λ r. length r.1.now < length tokens.now) }
+{
+    let (width, rest) = expr(levels, tokens, alloc)?;
     let width = Some(width);
     Ok((Actual { value, width }, rest))
 }

@@ -57,7 +57,8 @@ pub fn most_operands(code: &[Instr], callees: Callees) -> u64
     let mut held = 0u64;
     for instr in code {
         most = most.max(held);
-        held = held.saturating_sub(takes(*instr, callees)) + leaves(*instr, callees);
+        let own = instr.operands();
+        held = held.saturating_sub(number_of(own.takes, callees)) + number_of(own.leaves, callees);
     }
     most.max(held)
 }

@@ -148,6 +148,7 @@ fn begins_with_word(tokens: &[Token]) -> bool
 
 /// `expr w`
 #[tactic(auto, unfolding(pfc_grammar::specs::placed::Stmts::test_before, pfc_grammar::specs::placed::Reading::bind, pfc_grammar::specs::placed::Reading::pure))]
+#[inline(always)]
 pub(crate) fn test_before(
     levels: u8,
     w: u8,

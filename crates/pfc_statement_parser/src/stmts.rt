@@ -9,28 +9,34 @@ ghost use Rattle.pfc_grammar.specs.placed.Exprs.{expr_at};
 ghost use Rattle.pfc_grammar.specs.placed.Stmts as reader;
 ghost use Rattle.pfc_token_parser.specs.Giving.{Gives};
 
-use crate::actions::{action_or_nothing, comm_plain, requeue_behind};
+use crate::actions::{action_behind, action_or_nothing, comm_plain, requeue_behind};
 use crate::heads::{accept_head, alt_head, for_head, labels, no_stmt, test_before};
 use pfc_base::{Place, Token, sign, word};
 use pfc_expression_parser::expr;
-use pfc_token_parser::{Halt, expect_word, is_word, sign, word};
+use pfc_token_parser::{Halt, expect_word, is_word, name, sign, word};
 use pfc_tree::{Accept, Alt, Body, CaseArm, Comm, Stmt};
 use std::alloc::Global;
 
-/// A statement. Each statement takes a level, but for an empty one, which has no token.
+/// A statement. Each statement takes a level, but for an empty one, which has no token. Most begin with a name, which is looked
+/// for first.
 #[cycle(stmts)]
+#[inline(always)]
 pub(crate) fn stmt(levels: u8, tokens: &[Token], alloc: Global) -> Result<(Stmt, &[Token]), Halt>
     ensures gives { Gives (λ r. (stmt_view r.0, r.1.now)) result (reader.stmt_at levels tokens.now) }
     ensures kept { IfOk result (λ r. length r.1.now ≤ length tokens.now) }
 {
-    match levels.checked_sub(1) {
-        Some(below) => stmt_form(below, tokens, alloc),
-        None => no_stmt(tokens),
+    let Some(below) = levels.checked_sub(1) else {
+        return no_stmt(tokens);
+    };
+    match name(tokens) {
+        Some(((x, place), rest)) => action_behind(below, x, place, rest, alloc),
+        None => stmt_form(below, tokens, alloc),
     }
 }
 
 /// A statement of one of the first forms: `null`, a block, or one with a test or a repetition; or else of the others.
 #[cycle(stmts)]
+#[inline(never)]
 #[tactic(auto, using(pfc_token_parser::proofs::Branches::branch_taken, pfc_token_parser::proofs::Branches::branch_not_taken), unfolding(pfc_grammar::specs::placed::Stmts::stmt_with, pfc_grammar::specs::placed::Reading::pure))]
 fn stmt_form(levels: u8, tokens: &[Token], alloc: Global) -> Result<(Stmt, &[Token]), Halt>
     ensures gives { Gives (λ r. (stmt_view r.0, r.1.now)) result (reader.stmt_with (expr_at levels) (reader.stmt_at levels) tokens.now) }

@@ -10,73 +10,103 @@ use Rattle.pfc_token_parser.proofs.Loops.{Turning}
 use Rattle.pfc_expression_parser.proofs.exprs.+exprs.Given as goal
 
 abbrev pub decreases-expr : goal.decreases-expr
-decreases-expr l = 20 * l.levels
+decreases-expr l = 40 * l.levels
 
 abbrev pub decreases-relating : goal.decreases-relating
-decreases-relating l = 20 * l.levels + 19
+decreases-relating l = 40 * l.levels + 35
+
+abbrev pub decreases-related : goal.decreases-related
+decreases-related l = 40 * l.levels + 34
 
 abbrev pub decreases-simple : goal.decreases-simple
-decreases-simple l = 20 * l.levels + 18
+decreases-simple l = 40 * l.levels + 33
 
 abbrev pub decreases-summands : goal.decreases-summands
-decreases-summands l = 20 * l.levels + 17
+decreases-summands l = 40 * l.levels + 32
+
+abbrev pub decreases-some_summands : goal.decreases-some_summands
+decreases-some_summands l = 40 * l.levels + 31
 
 abbrev pub decreases-term : goal.decreases-term
-decreases-term l = 20 * l.levels + 16
+decreases-term l = 40 * l.levels + 29
 
 abbrev pub decreases-multipliers : goal.decreases-multipliers
-decreases-multipliers l = 20 * l.levels + 15
+decreases-multipliers l = 40 * l.levels + 28
+
+abbrev pub decreases-some_multipliers : goal.decreases-some_multipliers
+decreases-some_multipliers l = 40 * l.levels + 27
 
 abbrev pub decreases-factor : goal.decreases-factor
-decreases-factor l = 20 * l.levels + 14
+decreases-factor l = 40 * l.levels + 25
+
+abbrev pub decreases-negation_behind : goal.decreases-negation_behind
+decreases-negation_behind l = 40 * l.levels + 26
 
 abbrev pub decreases-plain_factor : goal.decreases-plain_factor
-decreases-plain_factor l = 20 * l.levels + 13
+decreases-plain_factor l = 40 * l.levels + 24
+
+abbrev pub decreases-paren_behind : goal.decreases-paren_behind
+decreases-paren_behind l = 40 * l.levels + 23
+
+abbrev pub decreases-applied_behind : goal.decreases-applied_behind
+decreases-applied_behind l = 40 * l.levels + 23
 
 abbrev pub decreases-desig_behind : goal.decreases-desig_behind
-decreases-desig_behind l = 20 * l.levels + 6
+decreases-desig_behind l = 40 * l.levels + 20
+
+abbrev pub decreases-selectors : goal.decreases-selectors
+decreases-selectors l = 40 * l.levels + 19
+
+abbrev pub decreases-some_selectors : goal.decreases-some_selectors
+decreases-some_selectors l = 40 * l.levels + 18
 
 abbrev pub decreases-selector_behind : goal.decreases-selector_behind
-decreases-selector_behind l = 20 * l.levels + 5
+decreases-selector_behind l = 40 * l.levels + 17
 
 abbrev pub decreases-exprs_behind : goal.decreases-exprs_behind
-decreases-exprs_behind l = 20 * l.levels + 4
+decreases-exprs_behind l = 40 * l.levels + 16
 
 abbrev pub decreases-actuals : goal.decreases-actuals
-decreases-actuals l = 20 * l.levels + 6
+decreases-actuals l = 40 * l.levels + 15
+
+abbrev pub decreases-actuals_within : goal.decreases-actuals_within
+decreases-actuals_within l = 40 * l.levels + 14
 
 abbrev pub decreases-actuals_behind : goal.decreases-actuals_behind
-decreases-actuals_behind l = 20 * l.levels + 5
+decreases-actuals_behind l = 40 * l.levels + 13
 
 abbrev pub decreases-actual : goal.decreases-actual
-decreases-actual l = 20 * l.levels + 4
+decreases-actual l = 40 * l.levels + 12
 
-abbrev pub invariant-summands-loop-op : goal.invariant-summands-loop-op
-invariant-summands-loop-op l = record {
+abbrev pub decreases-wide : goal.decreases-wide
+decreases-wide l = 40 * l.levels + 11
+
+abbrev pub invariant-some_summands-loop-op : goal.invariant-some_summands-loop-op
+invariant-some_summands-loop-op l = record {
   shorter : length l.rest ≤ length l.tokens;
   turning : Turning as_add_op (summand_behind (factor_at l.levels)) (map (λ u. (u.0, term_view u.1)) l.summands.items) l.rest (many as_add_op (summand_behind (factor_at l.levels)) l.tokens);
 }
 
-abbrev pub decreases-summands-loop-op : goal.decreases-summands-loop-op
-decreases-summands-loop-op l = length l.rest
+abbrev pub decreases-some_summands-loop-op : goal.decreases-some_summands-loop-op
+decreases-some_summands-loop-op l = length l.rest
 
-abbrev pub invariant-multipliers-loop-op : goal.invariant-multipliers-loop-op
-invariant-multipliers-loop-op l = record {
+abbrev pub invariant-some_multipliers-loop-op : goal.invariant-some_multipliers-loop-op
+invariant-some_multipliers-loop-op l = record {
   shorter : length l.rest ≤ length l.tokens;
   turning : Turning as_mul_op (multiplier_behind (factor_at l.levels)) (map (λ m. (m.0, factor_view m.1)) l.multipliers.items) l.rest (many as_mul_op (multiplier_behind (factor_at l.levels)) l.tokens);
 }
 
-abbrev pub decreases-multipliers-loop-op : goal.decreases-multipliers-loop-op
-decreases-multipliers-loop-op l = length l.rest
+abbrev pub decreases-some_multipliers-loop-op : goal.decreases-some_multipliers-loop-op
+decreases-some_multipliers-loop-op l = length l.rest
 
-abbrev pub invariant-desig_behind-loop-index : goal.invariant-desig_behind-loop-index
-invariant-desig_behind-loop-index l = record {
+abbrev pub invariant-some_selectors-loop-index : goal.invariant-some_selectors-loop-index
+invariant-some_selectors-loop-index l = record {
   shorter : length l.rest ≤ length l.tokens;
   turning : Turning as_selector (λ o. selector_behind (expr_at l.levels) o.0 o.1) (map selector_view l.selectors.items) l.rest (many as_selector (λ o. selector_behind (expr_at l.levels) o.0 o.1) l.tokens);
 }
 
-abbrev pub decreases-desig_behind-loop-index : goal.decreases-desig_behind-loop-index
-decreases-desig_behind-loop-index l = length l.rest
+abbrev pub decreases-some_selectors-loop-index : goal.decreases-some_selectors-loop-index
+decreases-some_selectors-loop-index l = length l.rest
 
 abbrev pub invariant-exprs_behind-loop-behind : goal.invariant-exprs_behind-loop-behind
 invariant-exprs_behind-loop-behind l = record {

@@ -1,4 +1,4 @@
-use Rattle.std.proofs.Common.{rules}
+use Rattle.std.proofs.Common.{rules, sym}
 use Rattle.pfc_grammar.specs.placed.Reading.{bind, pure}
 use Rattle.pfc_grammar.specs.placed.Stmts.{action_behind}
 use Rattle.pfc_tree.specs.declared.tree.Comm.{the_lemmas}
@@ -7,16 +7,8 @@ use Rattle.pfc_statement_parser.proofs.actions.action_behind.Goals as goal
 
 pub returns-in-Some-clause-gives : goal.returns-in-Some-clause-gives
 unfolding action_behind bind pure
-returns-in-Some-clause-gives c = rw (c.in_ok-target.ensures.gives, branch_taken _ _ _ _ _ _ c.in-Some.ensures.taken, c.in_ok-value.ensures.gives) (search (rules, the_lemmas))
-
-pub returns-in-Some-sign-clause-gives : goal.returns-in-Some-sign-clause-gives
-unfolding action_behind bind pure
-returns-in-Some-sign-clause-gives c = rw (c.in_ok-target.ensures.gives, branch_not_taken _ _ _ _ c.in_default.ensures.taken, branch_taken _ _ _ _ _ _ c.in-Some-sign.ensures.taken, c.in_ok-value-2.ensures.gives) (search (rules, the_lemmas))
-
-pub returns-in-Some-sign-2-clause-gives : goal.returns-in-Some-sign-2-clause-gives
-unfolding action_behind bind pure
-returns-in-Some-sign-2-clause-gives c = rw (c.in_ok-target.ensures.gives, branch_not_taken _ _ _ _ c.in_default.ensures.taken, branch_not_taken _ _ _ _ c.in_default-sign.ensures.taken, branch_taken _ _ _ _ _ _ c.in-Some-sign-2.ensures.taken, c.in_ok-variable.ensures.gives) (search (rules, the_lemmas))
+returns-in-Some-clause-gives c = rw (sym c.in_ok-copy.ensures, c.in_ok-target.ensures.gives, branch_taken _ _ _ _ _ _ c.in-Some.ensures.taken, c.in_ok-value.ensures.gives) (search (rules, the_lemmas))
 
 pub returns-clause-gives : goal.returns-clause-gives
 unfolding action_behind bind pure
-returns-clause-gives c = rw (c.in_ok-target.ensures.gives, branch_not_taken _ _ _ _ c.in_default.ensures.taken, branch_not_taken _ _ _ _ c.in_default-sign.ensures.taken, branch_not_taken _ _ _ _ c.in_default-sign-2.ensures.taken, c.in_ok-args.ensures.gives) (search (rules, the_lemmas))
+returns-clause-gives c = rw (sym c.in_ok-copy.ensures, c.in_ok-target.ensures.gives, branch_not_taken _ _ _ _ c.in_default.ensures.taken) c.message_or_call.ensures.gives

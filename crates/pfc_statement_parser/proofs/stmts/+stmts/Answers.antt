@@ -9,12 +9,16 @@ use Rattle.pfc_token_parser.proofs.Branches.{branch_taken, branch_not_taken, bin
 use Rattle.pfc_token_parser.proofs.Ended.{ending_begins, ending_goes, ending_ends, ending_closes, ending_halts}
 use Rattle.pfc_token_parser.proofs.Loops.{turning_begins, turning_goes, turning_ends, turning_halts}
 use Rattle.pfc_tree.specs.trees.Stmts.{StmtTree}
+use Rattle.pfc_statement_parser.proofs.Named.{stmt_named}
 use Rattle.pfc_statement_parser.proofs.Seen.{seen_if_then, seen_if_else}
 use Rattle.pfc_statement_parser.proofs.StmtLevels.{stmt_below}
 use Rattle.pfc_statement_parser.proofs.stmts.+stmts.Goals as goal
 
-pub stmt-returns-in-Some-clause-gives : goal.stmt-returns-in-Some-clause-gives
-stmt-returns-in-Some-clause-gives t c = rw (stmt_below c.args.levels c.in-Some.below c.args.tokens.now (omega (arith, c.in-Some.ensures))) c.stmt_form.ensures.gives
+pub stmt-returns-in-Some-name-clause-gives : goal.stmt-returns-in-Some-name-clause-gives
+stmt-returns-in-Some-name-clause-gives t c = rw (stmt_below c.args.levels c.in-Some.below c.args.tokens.now (omega (arith, c.in-Some.ensures)), stmt_named _ _ _ _ _ c.in-Some-name.ensures.taken) c.action_behind.ensures.gives
+
+pub stmt-returns-in-None-clause-gives : goal.stmt-returns-in-None-clause-gives
+stmt-returns-in-None-clause-gives t c = rw (stmt_below c.args.levels c.in-Some.below c.args.tokens.now (omega (arith, c.in-Some.ensures))) c.stmt_form.ensures.gives
 
 pub stmts_onto-loop-behind-init : goal.stmts_onto-loop-behind-init
 stmts_onto-loop-behind-init t c = search (rules, turning_begins)

@@ -79,11 +79,12 @@ module _ (g : Setting) (b : Block) (names : List Level) (around : Around) (check
       )
   location_follows (assign_to e k) t l w at ops arms few room lies h =
       let p = h.1 in
-      cleared at (w ∷ ops) arms h.0
-      (stored_follows g b names around checked none line l.spot p.0 e k w at p.4 ops (typed l.spot t (Some p.0) w p.1 lies) p.2 p.3 p.7 p.5 p.6)
+      cleared at (w ∷ ops) arms h.0.1
+      (stored_follows g b names around checked none h.0.0 line l.spot p.0 e k w at p.4 ops (typed l.spot t (Some p.0) w p.1 lies) p.2 p.3 p.7 p.5 p.6)
   location_follows (input_to u k) t l w at ops arms few room lies h =
       let p = h.1 in
-      cleared at (w ∷ ops) arms h.0 (arrives at (w ∷ ops) [] (b, checked, (refl, (w, ops, refl, (p.0, p.2, typed l.spot t (Some p.0) w p.1 lies), p.3, p.4))))
+      cleared at (w ∷ ops) arms h.0.1 (arrives at (w ∷ ops) []
+      (b, checked, ((h.0.0, refl), (w, ops, refl, (p.0, p.2, typed l.spot t (Some p.0) w p.1 lies), p.3, p.4))))
   location_follows (pass_variable rest args given call) t l w at ops arms few room lies h =
       let before = h.0 in
       let f = h.1 in
@@ -93,9 +94,25 @@ module _ (g : Setting) (b : Block) (names : List Level) (around : Around) (check
       arguments_follow g b x checked arms few args rest h.6 (before ++ f ∷ []) (given ++ by_reference l.spot ∷ []) call at h.7 (w ∷ ops) below
       (one_more before given ops below f (by_reference l.spot) (w ∷ []) h.5 (w, h.3, typed l.spot t f.t w (sym h.4) lies, refl)) h.8 calls
   location_follows (ask_empty u) t l w at ops arms few room lies h =
-      let lies_there = typed l.spot t (Some condition) w h.0 lies in
-      object_follows g b names around checked line arms few l.spot (Some condition) w at ops lies_there refl h.1 h.2
-      (λ i object. arrives (at + 1) (i ∷ ops) arms (b, checked, (i, ops, refl, object, h.3, value_moved g b names around checked line arms few (at + 2) (at + 1 + 1) ops a_number u (omega arith) h.4)))
+      let p = h.1 in
+      let lies_there = typed l.spot t (Some condition) w p.0 lies in
+      object_follows g b names around checked line arms few l.spot (Some condition) w at ops lies_there refl p.1 p.2
+      (λ i object. arrives (at + 1) (i ∷ ops) arms (
+        b,
+        checked,
+        (
+          h.0,
+          (
+            i,
+            ops,
+            refl,
+            object,
+            p.3,
+            value_moved g b names around checked line arms few (at + 2) (at + 1 + 1) ops a_number u
+                (omega arith) p.4,
+          ),
+        ),
+      ))
   location_follows (activate_with formals args k) t l w at ops arms few room lies h =
       let p = h.1 in
       let inner = args_code s formals args in
@@ -105,14 +122,14 @@ module _ (g : Setting) (b : Block) (names : List Level) (around : Around) (check
       let st = there.2 in
       let last = back g inner (one s i) (z + suc (length ops)) (sized_args s formals args)
       (held_grown g.program inner z (args_change s checked.sound formals args p.7) (at + 1) there.1 (suc (length ops))) st in
-      let after = performs_moved g b names around checked none line (at + 1 + (inner.size + 1)) (at + 1 + inner.size + 1) ops k (omega arith) there.3 in
-      cleared at (w ∷ ops) arms h.0
+      let after = performs_moved g b names around checked none h.0.0 line (at + 1 + (inner.size + 1)) (at + 1 + inner.size + 1) ops k (omega arith) there.3 in
+      cleared at (w ∷ ops) arms h.0.1
       (object_then l.spot (Some p.1) w at ops (inner ⨾ one s i) (λ end. Performs g b (env_in g names around) end ops [] k)
       (typed l.spot t (Some p.1) w p.2 lies)
       (process_is_object s p.0 l.spot (Some p.1) p.3) there
       (λ j object. arguments_follow g b x checked [] none args formals p.7 [] [] (to_process l.spot k) (at + 1) there.1 (j ∷ ops) (j ∷ ops)
       (none_held (j ∷ ops))
-      (front g inner (one s i) st) (refl, (Some p.1, p.0, j, ops, p.3, p.4, p.5, p.8, refl, object, lone g s (λ at n. i) last, after))))
+      (front g inner (one s i) st) ((h.0.0, refl), (Some p.1, p.0, j, ops, p.3, p.4, p.5, p.8, refl, object, lone g s (λ at n. i) last, after))))
   location_follows (enter_with entry formals args k) t l w at ops arms few room lies h =
       let p = h.1 in
       let inner = args_code s formals args in
@@ -122,59 +139,59 @@ module _ (g : Setting) (b : Block) (names : List Level) (around : Around) (check
       let st = there.2 in
       let last = back g inner (one s i) (z + suc (length ops)) (sized_args s formals args)
       (held_grown g.program inner z (args_change s checked.sound formals args p.7) (at + 1) there.1 (suc (length ops))) st in
-      let after = performs_moved g b names around checked none line (at + 1 + (inner.size + 1)) (at + 1 + inner.size + 1) ops k (omega arith) there.3 in
-      cleared at (w ∷ ops) arms h.0
+      let after = performs_moved g b names around checked none h.0.0 line (at + 1 + (inner.size + 1)) (at + 1 + inner.size + 1) ops k (omega arith) there.3 in
+      cleared at (w ∷ ops) arms h.0.1
       (object_then l.spot (Some p.1) w at ops (inner ⨾ one s i) (λ end. Performs g b (env_in g names around) end ops [] k)
       (typed l.spot t (Some p.1) w p.2 lies)
       (process_is_object s p.0 l.spot (Some p.1) p.3) there
       (λ j object. arguments_follow g b x checked [] none args formals p.7 [] [] (to_entry l.spot entry k) (at + 1) there.1 (j ∷ ops) (j ∷ ops)
       (none_held (j ∷ ops)) (front g inner (one s i) st)
-      (refl, (Some p.1, p.0, j, ops, p.3, p.4, p.5, refl, object, lone g s (λ at n. i) last, after))))
+      ((h.0.0, refl), (Some p.1, p.0, j, ops, p.3, p.4, p.5, refl, object, lone g s (λ at n. i) last, after))))
   location_follows (initial_to e k) t l w at ops arms few room lies h =
       let p = h.1 in
-      cleared at (w ∷ ops) arms h.0
+      cleared at (w ∷ ops) arms h.0.1
       (object_then l.spot (Some semaphore) w at ops (expr_code s e ⨾ one s SINI) (λ end. Performs g b (env_in g names around) end ops [] k) (typed l.spot t (Some semaphore) w p.0 lies) refl p.2
-      (λ i object. count_follows g b names around checked none line l.spot e k (at + 1) p.2.1 i ops p.1 object p.2.2 p.2.3))
+      (λ i object. count_follows g b names around checked none h.0.0 line l.spot e k (at + 1) p.2.1 i ops p.1 object p.2.2 p.2.3))
   location_follows (wait_at k) t l w at ops arms few room lies h =
       let p = h.1 in
-      cleared at (w ∷ ops) arms h.0
+      cleared at (w ∷ ops) arms h.0.1
       (object_then l.spot (Some semaphore) w at ops (one s SWAIT) (λ end. Performs g b (env_in g names around) end ops [] k) (typed l.spot t (Some semaphore) w p.0 lies) refl p.1
-      (λ i object. arrives (at + 1) (i ∷ ops) [] (b, checked, (refl, (i, ops, refl, object, lone g s (λ at n. SWAIT) p.1.2, p.1.3)))))
+      (λ i object. arrives (at + 1) (i ∷ ops) [] (b, checked, ((h.0.0, refl), (i, ops, refl, object, lone g s (λ at n. SWAIT) p.1.2, p.1.3)))))
   location_follows (signal_at k) t l w at ops arms few room lies h =
       let p = h.1 in
-      cleared at (w ∷ ops) arms h.0
+      cleared at (w ∷ ops) arms h.0.1
       (object_then l.spot (Some semaphore) w at ops (one s SSIG) (λ end. Performs g b (env_in g names around) end ops [] k) (typed l.spot t (Some semaphore) w p.0 lies) refl p.1
-      (λ i object. arrives (at + 1) (i ∷ ops) [] (b, checked, (refl, (i, ops, refl, object, lone g s (λ at n. SSIG) p.1.2, p.1.3)))))
+      (λ i object. arrives (at + 1) (i ∷ ops) [] (b, checked, ((h.0.0, refl), (i, ops, refl, object, lone g s (λ at n. SSIG) p.1.2, p.1.3)))))
   location_follows (delay_at rank k) t l w at ops arms few room lies h =
       let p = h.1 in
-      cleared at (w ∷ ops) arms h.0
+      cleared at (w ∷ ops) arms h.0.1
       (object_then l.spot (Some condition) w at ops _ (λ end. Performs g b (env_in g names around) end ops [] k) (typed l.spot t (Some condition) w p.0 lies) refl p.2
-      (λ i object. rank_follows g b names around checked none line l.spot rank k (at + 1) p.2.1 i ops p.1 object p.2.2 p.2.3))
+      (λ i object. rank_follows g b names around checked none h.0.0 line l.spot rank k (at + 1) p.2.1 i ops p.1 object p.2.2 p.2.3))
   location_follows (resume_at k) t l w at ops arms few room lies h =
       let p = h.1 in
-      cleared at (w ∷ ops) arms h.0
+      cleared at (w ∷ ops) arms h.0.1
       (object_then l.spot (Some condition) w at ops (one s RESUME) (λ end. Performs g b (env_in g names around) end ops [] k) (typed l.spot t (Some condition) w p.0 lies) refl p.1
-      (λ i object. arrives (at + 1) (i ∷ ops) [] (b, checked, (refl, (i, ops, refl, object, lone g s (λ at n. RESUME) p.1.2, p.1.3)))))
+      (λ i object. arrives (at + 1) (i ∷ ops) [] (b, checked, ((h.0.0, refl), (i, ops, refl, object, lone g s (λ at n. RESUME) p.1.2, p.1.3)))))
   location_follows (send_to m k) t l w at ops arms few room lies h =
       let p = h.1 in
-      cleared at (w ∷ ops) arms h.0
+      cleared at (w ∷ ops) arms h.0.1
       (object_then l.spot t w at ops _ (λ end. Performs g b (env_in g names around) end ops [] k) lies (channel_is_object g.program.state.forms t p.0 p.1) p.3
-      (λ i object. sent_follows g b names around checked none line l.spot t p.0 i m k (at + 1) p.3.1 ops p.1 object p.2 p.3.2 p.3.3))
+      (λ i object. sent_follows g b names around checked none h.0.0 line l.spot t p.0 i m k (at + 1) p.3.1 ops p.1 object p.2 p.3.2 p.3.3))
   location_follows (receive_from d k) t l w at ops arms few room lies h =
       let p = h.1 in
-      cleared at (w ∷ ops) arms h.0
+      cleared at (w ∷ ops) arms h.0.1
       (object_then l.spot t w at ops _ (λ end. Performs g b (env_in g names around) end ops [] k) lies (channel_is_object g.program.state.forms t p.0 p.1) p.3
-      (λ i object. received_follows g b names around checked none line l.spot t p.0 i d k (at + 1) p.3.1 ops p.1 object p.2 p.3.2 p.3.3))
+      (λ i object. received_follows g b names around checked none h.0.0 line l.spot t p.0 i d k (at + 1) p.3.1 ops p.1 object p.2 p.3.2 p.3.3))
   location_follows (receive_into channel k) t l w at ops arms few room lies h =
       let p = h.1 in
       let z = shape_cells g.program.state.forms (shape_of p.1) in
       let here = typed l.spot t (Some p.1) w p.4 lies in
-      cleared at (w ∷ ops) arms h.0
+      cleared at (w ∷ ops) arms h.0.1
       (arrives at (w ∷ ops) [] (
         b,
         checked,
         (
-          refl,
+          (h.0.0, refl),
           (
             (refl, refl),
             (
@@ -190,18 +207,24 @@ module _ (g : Setting) (b : Block) (names : List Level) (around : Around) (check
         ),
       ))
   location_follows (offer_to m a rest sel k) t l w at ops arms few room lies h =
-      let c = h.5 in
+      let p = h.1 in
+      let c = p.5 in
       let inner : suc (length ops) ≤ g.room = room_for g c.stands in
-      object_follows g b names around checked line arms few l.spot t w at ops lies (channel_is_object g.program.state.forms t h.0 h.1) h.3 inner
-      (λ i object. message_follows g b names around checked line k l.spot t h.0 i m a rest sel (at + 1) ops arms (all_follow g b names around checked line k rest) h.4 h.1 object h.2 c)
+      object_follows g b names around checked line arms few l.spot t w at ops lies (channel_is_object g.program.state.forms t p.0 p.1) p.3 inner
+      (λ i object. message_follows g b names around checked h.0 line k l.spot t p.0 i m a rest sel (at + 1) ops arms
+      (all_follow g b names around checked h.0 line k rest) p.4 p.1 object p.2 c)
   location_follows (offer_from d a rest sel k) t l w at ops arms few room lies h =
-      let c = h.5 in
+      let p = h.1 in
+      let c = p.5 in
       let inner : suc (length ops) ≤ g.room = room_for g c.stands in
-      object_follows g b names around checked line arms few l.spot t w at ops lies (channel_is_object g.program.state.forms t h.0 h.1) h.3 inner
-      (λ i object. receiver_follows g b names around checked line k l.spot t h.0 i d a rest sel (at + 1) ops arms (all_follow g b names around checked line k rest) h.4 h.1 object h.2 c)
+      object_follows g b names around checked line arms few l.spot t w at ops lies (channel_is_object g.program.state.forms t p.0 p.1) p.3 inner
+      (λ i object. receiver_follows g b names around checked h.0 line k l.spot t p.0 i d a rest sel (at + 1) ops arms
+      (all_follow g b names around checked h.0 line k rest) p.4 p.1 object p.2 c)
   location_follows (offer_into channel a rest sel k) t l w at ops arms few room lies h =
-      let below = h.3 in
-      let held = ap (λ (y : List ℤ). length y) h.7 in
+      let p = h.1 in
+      let below = p.3 in
+      let held = ap (λ (y : List ℤ). length y) p.7 in
       let left : length below ≤ g.room = omega (arith, held) in
-      subst (λ (y : List ℤ). Follows g (from_location x (offer_into channel a rest sel k) l) at (w ∷ y) arms) (sym h.7)
-      (target_armed g b names around checked line k channel h.0 h.1 h.2 w l.spot a rest sel at below arms (all_follow g b names around checked line k rest) h.5 h.6 h.8 (typed l.spot t (Some h.1) w h.4 lies) left h.9)
+      subst (λ (y : List ℤ). Follows g (from_location x (offer_into channel a rest sel k) l) at (w ∷ y) arms) (sym p.7)
+      (target_armed g b names around checked h.0 line k channel p.0 p.1 p.2 w l.spot a rest sel at below arms
+      (all_follow g b names around checked h.0 line k rest) p.5 p.6 p.8 (typed l.spot t (Some p.1) w p.4 lies) left p.9)

@@ -32,7 +32,7 @@ use Rattle.pfc_code_laws.proofs.Expressions.{plain_simple}
 use Rattle.pfc_standing_code.specs.Sizes.{IsSized}
 use Rattle.pfc_cells.specs.Shapes.{words_of}
 use Rattle.pfc_standing_code.specs.Shapes.{Shape, a_number, a_whole, shape_of, shape_cells, IsOf, IsShaped}
-use Rattle.pfc_standing_code.specs.Settings.{Setting, site_of, IsAt, Stands}
+use Rattle.pfc_standing_code.specs.Settings.{Setting, of_own, site_of, IsAt, Stands}
 use Rattle.pfc_standing_code.specs.Effects.{Arm}
 use Rattle.pfc_standing_code.specs.Typed.{AreSelectors, AreIndices}
 use Rattle.pfc_standing_code.specs.Words.{IsChecked, one_more}
@@ -90,11 +90,12 @@ module _ (g : Setting) (b : Block) (names : List Level) (around : Around) (check
   left k at ops room h = remainder_follows g k b (env_in g names around) at ops [] (checked_for g b (env_in g names around) k checked) room h
 
   stmt_then :
-      (l m : ℕ) (t : StmtTree) (k : Remainder) (at : ℕ) (ops : List ℤ) → length ops ≤ g.room
+      g.trial ≡ of_own → (l m : ℕ) (t : StmtTree) (k : Remainder) (at : ℕ) (ops : List ℤ) → length ops ≤ g.room
       → StmtThen g (site_of g b (context (env_in g names around) l)) at (length ops) m t (λ end. Performs g b x.env end ops [] k) → Follows g (from_stmt x.env m t k (from_remainder x.env k)) at ops []
-  stmt_then l m t k at ops room h =
+  stmt_then own l m t k at ops room h =
       let end = at + (stmt_code (site_of g b (context (env_in g names around) l)) m t).size in
-      every_statement_anywhere g b (env_in g names around) checked t l m k (from_remainder (env_in g names around) k) at h.0 end ops h.1 refl h.2 (left k end ops room h.2)
+      every_statement_anywhere g b (env_in g names around) checked own t l m k (from_remainder (env_in g names around) k) at h.0 end ops h.1 refl h.2
+      (left k end ops room h.2)
 
   -- ## Whole values
 
@@ -123,8 +124,16 @@ module _ (g : Setting) (b : Block) (names : List Level) (around : Around) (check
   stored_value h v spot k at ops arms shaped is =
       let p = is.1 in
       let store : IsAt g at (STORE (shape_cells forms (shape_of p.0))) line = subst (λ (y : Shape). IsAt g at (STORE (shape_cells forms y)) line) p.3 p.6 in
-      cleared at (reverse (words_of v) ++ ops) arms is.0
-      (arrives at (reverse (words_of v) ++ ops) [] (b, checked, of_value p.0 p.1 p.2 (ap (λ (y : List ℤ). reverse (words_of v) ++ y) p.4) (shaped_is_of forms checked.sound p.0 h v p.3 shaped) p.5 store p.7))
+      cleared at (reverse (words_of v) ++ ops) arms is.0.1
+      (arrives at (reverse (words_of v) ++ ops) [] (
+        b,
+        checked,
+        (
+          is.0.0,
+          of_value p.0 p.1 p.2 (ap (λ (y : List ℤ). reverse (words_of v) ++ y) p.4)
+              (shaped_is_of forms checked.sound p.0 h v p.3 shaped) p.5 store p.7,
+        ),
+      ))
 
   sent_value :
       (h : Shape) (v : Value) (spot : Spot) (k : Remainder) (at : ℕ) (ops : List ℤ) (arms : List Arm) → IsShaped forms h v
@@ -134,12 +143,12 @@ module _ (g : Setting) (b : Block) (names : List Level) (around : Around) (check
       let words = reverse (words_of v) in
       let cells : shape_cells forms h ≡ shape_cells forms (shape_of p.1) = ap (λ (y : Shape). shape_cells forms y) p.4 in
       let all : words ++ ops ≡ (words ++ p.2 ∷ []) ++ p.3 = ap (λ (y : List ℤ). words ++ y) p.5 ∙ sym (append_assoc words (p.2 ∷ []) p.3) in
-      cleared at (words ++ ops) arms is.0
+      cleared at (words ++ ops) arms is.0.1
       (arrives at (words ++ ops) [] (
         b,
         checked,
         (
-          refl,
+          (is.0.0, refl),
           (
             (refl, refl),
             (
@@ -158,13 +167,14 @@ module _ (g : Setting) (b : Block) (names : List Level) (around : Around) (check
   offered_value :
       (h : Shape) (v : Value) (channel : Spot) (a : Alternative) (rest : List Alternative) (sel : Selecting) (k : Remainder) (at : ℕ) (ops : List ℤ) (arms : List Arm) → length (reverse (words_of v) ++ ops) ≤ g.room → IsShaped forms h v
       → TakesValue g b x at ops arms h (offer_value channel a rest sel k) → Follows g (from_value x (offer_value channel a rest sel k) v) at (reverse (words_of v) ++ ops) arms
-  offered_value h v channel a rest sel k at ops arms room shaped p =
+  offered_value h v channel a rest sel k at ops arms room shaped is =
+      let p = is.1 in
       let held = held_words (words_of v) ops in
       let size = ap (λ (y : List ℤ). length y) p.5 in
       let fit : length p.3 ≤ g.room = omega (arith, held, size, room) in
       subst (λ (y : List ℤ). Follows g (from_value x (offer_value channel a rest sel k) v) at (reverse (words_of v) ++ y) arms) (sym p.5)
-      (value_armed g b names around checked line k channel p.0 p.1 p.2 h v a rest sel at p.3 arms
-      (all_follow g b names around checked line k rest) p.4 shaped p.6 p.8 p.7 fit p.9)
+      (value_armed g b names around checked is.0 line k channel p.0 p.1 p.2 h v a rest sel at p.3 arms
+      (all_follow g b names around checked is.0 line k rest) p.4 shaped p.6 p.8 p.7 fit p.9)
 
   -- ## Numbers
 
@@ -230,7 +240,8 @@ module _ (g : Setting) (b : Block) (names : List Level) (around : Around) (check
       next_move g arms few at (v ∷ ops) NOT line (inverse_of v ∷ ops) is.2 (fits g arms NOT (v ∷ ops) (omega arith) tt tt) refl room (numbers_follow u (inverse_of v) (at + 1) ops arms few room is.3)
   numbers_follow (apply f t u) v at ops arms few room is =
       let to = at + (finishing s f t).size in
-      finish_follows g b names around checked line arms few f t u (from_value x u) v at is.2 to ops is.1 is.3 refl is.4 (λ m. numbers_follow u m to ops arms few room is.4)
+      finish_follows g b names around checked line arms few f t u (from_value x u) v at is.3 to ops is.1 is.2 is.4 refl is.5
+      (λ m. numbers_follow u m to ops arms few room is.5)
   numbers_follow (index_into part es ss goal) v at ops arms few room is =
       let w = is.1 in
       let below = is.2 in
@@ -268,23 +279,25 @@ module _ (g : Setting) (b : Block) (names : List Level) (around : Around) (check
   numbers_follow (choose m t u k) v at ops arms few room is =
       let p = is.1 in
       let fit : length ops ≤ g.room = omega arith in
-      cleared at (v ∷ ops) arms is.0
+      cleared at (v ∷ ops) arms is.0.1
       (test_move g [] none v (from_stmt x.env m t k (from_remainder x.env k)) (from_stmt x.env (m + scopes_in t) u k (from_remainder x.env k)) at ops p.1 line p.2 p.3 fit
-      (stmt_then line m t k (at + 1) ops fit p.4) (stmt_then line (m + scopes_in t) u k p.1 ops fit p.5))
+      (stmt_then is.0.0 line m t k (at + 1) ops fit p.4) (stmt_then is.0.0 line (m + scopes_in t) u k p.1 ops fit p.5))
   numbers_follow (choose_arm m alternatives k) v at ops arms few room is =
       let p = is.1 in
       let fit : length ops ≤ g.room = omega arith in
       let first = at + label_count alternatives + 1 in
       let end = first + (arms_code s m alternatives).size in
-      cleared at (v ∷ ops) arms is.0
-      (arms_follow g b names around checked none alternatives line m v k (from_remainder x.env k) at p.1 first p.2 0 end ops p.3 (omega arith) refl p.4 (left k end ops fit p.4))
+      cleared at (v ∷ ops) arms is.0.1
+      (arms_follow g b names around checked none is.0.0 alternatives line m v k (from_remainder x.env k) at p.1 first p.2 0 end ops p.3 (omega arith) refl p.4
+      (left k end ops fit p.4))
   numbers_follow (while_true m e t q k) v at ops arms few room is =
       let p = is.1 in
       let fit : length ops ≤ g.room = omega arith in
       let a = p.3 in
       let test = expr_code (site_of g b (context (env_in g names around) q.line)) e in
-      let follows = while_tested g b names around checked none e t q (every_statement_anywhere g b (env_in g names around) checked t) p.2 m k (from_remainder x.env k) a p.5.0 ops v p.5.1 p.5.2 (left k _ ops fit p.5.2) in
-      cleared at (v ∷ ops) arms is.0
+      let follows = while_tested g b names around checked none is.0.0 e t q (every_statement_anywhere g b (env_in g names around) checked is.0.0 t) p.2 m k
+      (from_remainder x.env k) a p.5.0 ops v p.5.1 p.5.2 (left k _ ops fit p.5.2) in
+      cleared at (v ∷ ops) arms is.0.1
       (subst (λ (l : ℕ). Follows g (if is_true v then from_stmt x.env m t (turn m (while_do e t q) k) (turns (context x.env l) (again m (while_do e t q) k)) else from_remainder x.env k) at (v ∷ ops) []) (sym p.1)
       (follows_moved g [] none (a + test.size) at (sym p.4) follows))
   numbers_follow (until_true m ts e q k) v at ops arms few room is =
@@ -292,8 +305,9 @@ module _ (g : Setting) (b : Block) (names : List Level) (around : Around) (check
       let fit : length ops ≤ g.room = omega arith in
       let a = p.3 in
       let there = site_of g b (context (env_in g names around) q.line) in
-      let follows = tested_follows g b names around checked none ts e q p.2 m k (from_remainder x.env k) a p.5.0 ops v p.5.1 p.5.2 (left k _ ops fit p.5.2) in
-      cleared at (v ∷ ops) arms is.0
+      let follows = tested_follows g b names around checked none is.0.0 ts e q p.2 m k (from_remainder x.env k) a p.5.0 ops v p.5.1 p.5.2
+      (left k _ ops fit p.5.2) in
+      cleared at (v ∷ ops) arms is.0.1
       (subst (λ (l : ℕ). Follows g (from_until (context x.env l) m (repeat_until ts e q) k (from_remainder x.env k) (ordinal v)) at (v ∷ ops) []) (sym p.1)
       (follows_moved g [] none (a + (stmts_code there m ts).size + (expr_code there e).size) at (sym p.4) follows))
   numbers_follow (count_from m spot down e t k) v at ops arms few room is =
@@ -303,9 +317,10 @@ module _ (g : Setting) (b : Block) (names : List Level) (around : Around) (check
       let fit : length below ≤ g.room = omega (arith, held) in
       let same : suc (length ops) ≡ suc (suc (length below)) = omega (arith, held) in
       let to = at + (expr_code s e ⨾ pass_code s down m t).size in
-      cleared at (v ∷ ops) arms is.0
+      cleared at (v ∷ ops) arms is.0.1
       (operands v at ops (p.1 ∷ below) [] p.3
-      (second_follows g b names around checked none line m spot v p.1 down e t k (from_remainder x.env k) at p.7 to below p.4 p.5 p.6 (stands_over g (suc (suc (length below))) same p.8) refl p.9 (left k to below fit p.9)))
+      (second_follows g b names around checked none is.0.0 line m spot v p.1 down e t k (from_remainder x.env k) at p.7 to below p.4 p.5 p.6
+      (stands_over g (suc (suc (length below))) same p.8) refl p.9 (left k to below fit p.9)))
   numbers_follow (count_to m spot a down t k) v at ops arms few room is =
       let p = is.1 in
       let below = p.2 in
@@ -313,29 +328,35 @@ module _ (g : Setting) (b : Block) (names : List Level) (around : Around) (check
       let fit : length below ≤ g.room = omega (arith, held) in
       let same : suc (length ops) ≡ suc (suc (suc (length below))) = omega (arith, held) in
       let to = at + (pass_code s down m t).size in
-      cleared at (v ∷ ops) arms is.0
+      cleared at (v ∷ ops) arms is.0.1
       (operands v at ops (a ∷ p.1 ∷ below) [] p.3
-      (bounds_follow g b names around checked none (counting x m spot (ordinal a) (ordinal v) down t) k (from_remainder x.env k) p.1 at p.6 to below p.4 p.5 (stands_over g (suc (suc (suc (length below)))) same p.7) refl p.8 (left k to below fit p.8)))
-  numbers_follow (show t k) v at ops arms few room is = cleared at (v ∷ ops) arms is.0 (shows g b names around checked none line t k v at ops is.1.1 is.1.2)
-  numbers_follow (show_wide t e k) v at ops arms few room is = cleared at (v ∷ ops) arms is.0 (width_follows g b names around checked none line t v e k at is.1.2 ops is.1.1 is.1.3 is.1.4)
-  numbers_follow (pad bytes k) v at ops arms few room is = cleared at (v ∷ ops) arms is.0 (pad_follows g b names around checked none line bytes k v at ops is.1.1)
+      (bounds_follow g b names around checked none is.0.0 (counting x m spot (ordinal a) (ordinal v) down t) k
+      (from_remainder x.env k) p.1 at p.6 to below p.4 p.5 (stands_over g (suc (suc (suc (length below)))) same p.7) refl p.8 (left k to below fit p.8)))
+  numbers_follow (show t k) v at ops arms few room is =
+      cleared at (v ∷ ops) arms is.0.1 (shows g b names around checked none is.0.0 line t k v at ops is.1.1 is.1.2)
+  numbers_follow (show_wide t e k) v at ops arms few room is =
+      cleared at (v ∷ ops) arms is.0.1 (width_follows g b names around checked none is.0.0 line t v e k at is.1.2 ops is.1.1 is.1.3 is.1.4)
+  numbers_follow (pad bytes k) v at ops arms few room is =
+      cleared at (v ∷ ops) arms is.0.1 (pad_follows g b names around checked none is.0.0 line bytes k v at ops is.1.1)
   numbers_follow (set_count spot k) v at ops arms few room is =
-      let p = is.1 in cleared at (v ∷ ops) arms is.0 (arrives at (v ∷ ops) [] (b, checked, (refl, (ops, refl, (p.1, p.2, p.3, p.4, p.5, p.6)))))
+      let p = is.1 in cleared at (v ∷ ops) arms is.0.1 (arrives at (v ∷ ops) [] (b, checked, ((is.0.0, refl), (ops, refl, (p.1, p.2, p.3, p.4, p.5, p.6)))))
   numbers_follow (delay_with spot k) v at ops arms few room is =
-      let p = is.1 in cleared at (v ∷ ops) arms is.0 (arrives at (v ∷ ops) [] (b, checked, (refl, (ops, refl, (p.1, p.2, p.3, p.4, p.5, p.6)))))
+      let p = is.1 in cleared at (v ∷ ops) arms is.0.1 (arrives at (v ∷ ops) [] (b, checked, ((is.0.0, refl), (ops, refl, (p.1, p.2, p.3, p.4, p.5, p.6)))))
   numbers_follow (sleep_for k) v at ops arms few room is =
-      cleared at (v ∷ ops) arms is.0 (arrives at (v ∷ ops) [] (b, checked, (refl, (ops, refl, is.1.1, is.1.2))))
+      cleared at (v ∷ ops) arms is.0.1 (arrives at (v ∷ ops) [] (b, checked, ((is.0.0, refl), (ops, refl, is.1.1, is.1.2))))
   numbers_follow (send_on spot k) v at ops arms few room is = sent_value a_number (ordinal v) spot k at ops arms (v, refl) is
   numbers_follow (open_if a rest sel k) v at ops arms few room is =
-      opened_follows g b names around checked line k v a rest sel at is.1 ops arms (all_follow g b names around checked line k rest) is.2 is.3 is.4
+      let p = is.1 in
+      opened_follows g b names around checked is.0 line k v a rest sel at p.1 ops arms (all_follow g b names around checked is.0 line k rest) p.2 p.3 p.4
   numbers_follow (offer_value channel a rest sel k) v at ops arms few room is = offered_value a_number (ordinal v) channel a rest sel k at ops arms room (v, refl) is
   numbers_follow (offer_wait a rest sel k) v at ops arms few room is =
       let fit : length ops ≤ g.room = omega arith in
-      seconds_armed g b names around checked line k v a rest sel at ops arms (all_follow g b names around checked line k rest) fit is.1
+      seconds_armed g b names around checked is.0 line k v a rest sel at ops arms (all_follow g b names around checked is.0 line k rest) fit is.1.1
   numbers_follow (pass_own bar k) v at ops arms few room is =
       let p = is.1 in
       let fit : length ops ≤ g.room = omega arith in
-      cleared at (v ∷ ops) arms is.0 (tested g b none x bar k (from_remainder x.env k) v at ops checked p.1 p.2 p.3 fit p.4 (left k (at + 1) ops fit (p.4 x.env).1))
+      cleared at (v ∷ ops) arms is.0.1 (tested g b none x bar k (from_remainder x.env k) v at ops checked is.0.0 p.1 p.2 fit p.3
+      (left k (at + 1) ops fit (p.3 x.env).1))
   numbers_follow (pass_other w scan k) v at ops arms few room is =
       let p = is.1 in
       let fit : length ops ≤ g.room = omega arith in
@@ -371,8 +392,8 @@ module _ (g : Setting) (b : Block) (names : List Level) (around : Around) (check
   whole_follows (set_count spot k) t v at ops arms few room shaped is = no_whole t is.1.0
   whole_follows (delay_with spot k) t v at ops arms few room shaped is = no_whole t is.1.0
   whole_follows (sleep_for k) t v at ops arms few room shaped is = no_whole t is.1.0
-  whole_follows (open_if a rest sel k) t v at ops arms few room shaped is = no_whole t is.0
-  whole_follows (offer_wait a rest sel k) t v at ops arms few room shaped is = no_whole t is.0
+  whole_follows (open_if a rest sel k) t v at ops arms few room shaped is = no_whole t is.1.0
+  whole_follows (offer_wait a rest sel k) t v at ops arms few room shaped is = no_whole t is.1.0
   whole_follows (pass_own bar k) t v at ops arms few room shaped is = no_whole t is.1.0
   whole_follows (pass_other w scan k) t v at ops arms few room shaped is = no_whole t is.1.0
 

@@ -47,14 +47,15 @@ use Rattle.pfc_code_laws.proofs.Expressions.{plain_expr, plain_simple, plain_ter
 use Rattle.pfc_standing_code.specs.Sizes.{IsSized}
 use Rattle.pfc_cells.specs.Shapes.{IsPath, here}
 use Rattle.pfc_standing_code.specs.Shapes.{Shape, a_number, a_whole, shape_of, shape_cells, is_number, is_object_type}
-use Rattle.pfc_standing_code.specs.Settings.{Setting, site_of, IsAt, Stands}
+use Rattle.pfc_standing_code.specs.Settings.{Setting, of_own, site_of, IsAt, Stands}
 use Rattle.pfc_standing_code.specs.Effects.{Arm, of_own_effect, numbered, CanPerform}
 use Rattle.pfc_standing_code.specs.ValueTypes.{IsValueType}
 use Rattle.pfc_standing_code.proofs.ValueTypes.{awaited_value}
 use Rattle.pfc_standing_code.specs.Typed.{unlined, IsDeclared, IsArray, IsField, IsSub, Either, IsPassed, IsFunction, IsUse, HasShape, HasShapeSimple, AreSummands, HasShapeTerm, AreMultipliers, HasShapeFactor, IsGivenFirst, IsLentFirst, IsGiven, IsLent, IsVariable, AreArguments, AreSelectors, AreIndices}
 use Rattle.pfc_standing_code.specs.Words.{first_word, IsWord, IsPart, IsObject, IsChecked, AreHeld, none_held, one_more}
-use Rattle.pfc_standing_code.specs.Awaits.{has_argument, finishing, TakesValue, TakesLocation, CallsAt}
+use Rattle.pfc_standing_code.specs.Awaits.{has_argument, is_asked, finishing, TakesValue, TakesLocation, CallsAt}
 use Rattle.pfc_standing_code.specs.Following.{Follows, arrives}
+use Rattle.pfc_standing_code.proofs.Trials.{sub_own, asked_own}
 use Rattle.pfc_standing_code.proofs.Sizes.{sized_plain, sized_base, sized_both}
 use Rattle.pfc_following_expressions.proofs.Glue.{held_behind, held_after, room_for, room_after, front, back, head, lone, tail, stands_moved, stands_over}
 use Rattle.pfc_following_expressions.proofs.Held.{held_grown, changes_one, shaped_cells, sign_changes, base_changes, expr_changes, simple_changes, term_changes, factor_changes, first_changes, first_address_changes, given_changes, lent_changes, args_change, indices_change, part_changes}
@@ -228,46 +229,56 @@ module _ (g : Setting) (b : Block) (names : List Level) (around : Around) (check
   -- what stands behind an argument
   pub finish_follows :
       (f : Function) (t : Option TypeId) (u : AwaitsValue) (go : Value → Action) (v : ℤ) (at n to : ℕ) (ops : List ℤ)
-      → has_argument f ≡ true → Stands g at n (suc (length ops)) (finishing s f t) → at + (finishing s f t).size ≡ to → TakesValue g b x to ops arms a_number u
+      → has_argument f ≡ true → (is_asked f ≡ true → g.trial ≡ of_own) → Stands g at n (suc (length ops)) (finishing s f t) → at + (finishing s f t).size ≡ to
+      → TakesValue g b x to ops arms a_number u
       → ((m : ℤ) → Follows g (go (ordinal m)) to (m ∷ ops) arms) → Follows g (finish_call x f t u go (ordinal v)) at (v ∷ ops) arms
-  finish_follows abs t u go v at n to ops has st e waits on =
+  finish_follows abs t u go v at n to ops has own st e waits on =
       outcome_move g arms few b x (magnitude_of v) go at (v ∷ ops) ops ABS (lone g s (λ at n. ABS) st) (fits g arms ABS (v ∷ ops) (omega arith) tt tt) refl (room_for g st) (λ m. follows_moved g arms few to (at + 1) (sym e ∙ omega arith) (on m))
-  finish_follows sqr t u go v at n to ops has st e waits on =
+  finish_follows sqr t u go v at n to ops has own st e waits on =
       outcome_move g arms few b x (square_of v) go at (v ∷ ops) ops SQR (lone g s (λ at n. SQR) st) (fits g arms SQR (v ∷ ops) (omega arith) tt tt) refl (room_for g st) (λ m. follows_moved g arms few to (at + 1) (sym e ∙ omega arith) (on m))
-  finish_follows odd t u go v at n to ops has st e waits on =
+  finish_follows odd t u go v at n to ops has own st e waits on =
       next_move g arms few at (v ∷ ops) ODD line (is_odd v ∷ ops) (lone g s (λ at n. ODD) st) (fits g arms ODD (v ∷ ops) (omega arith) tt tt) refl (room_for g st) (follows_moved g arms few to (at + 1) (sym e ∙ omega arith) (on (is_odd v)))
-  finish_follows ord t u go v at n to ops has st e waits on = follows_moved g arms few to at (sym e ∙ omega arith) (on v)
-  finish_follows chr t u go v at n to ops has st e waits on =
+  finish_follows ord t u go v at n to ops has own st e waits on = follows_moved g arms few to at (sym e ∙ omega arith) (on v)
+  finish_follows chr t u go v at n to ops has own st e waits on =
       outcome_move g arms few b x (char_of v) go at (v ∷ ops) ops CHR (lone g s (λ at n. CHR) st) (fits g arms CHR (v ∷ ops) (omega arith) tt tt) refl (room_for g st) (λ m. follows_moved g arms few to (at + 1) (sym e ∙ omega arith) (on m))
-  finish_follows succ t u go v at n to ops has st e waits on =
+  finish_follows succ t u go v at n to ops has own st e waits on =
       let i = SUCC (simple_number (simple_of t)) in
       outcome_move g arms few b x (next_of (simple_of t) v) go at (v ∷ ops) ops i (lone g s (λ at n. i) st) (fits g arms i (v ∷ ops) (omega arith) tt tt)
       (ap (λ (k : Simple). of_own_effect (with_outcome at ops (next_of k v)) arms) (type_by_number (simple_of t))) (room_for g st) (λ m. follows_moved g arms few to (at + 1) (sym e ∙ omega arith) (on m))
-  finish_follows pred t u go v at n to ops has st e waits on =
+  finish_follows pred t u go v at n to ops has own st e waits on =
       let i = PRED (simple_number (simple_of t)) in
       outcome_move g arms few b x (before_of (simple_of t) v) go at (v ∷ ops) ops i (lone g s (λ at n. i) st) (fits g arms i (v ∷ ops) (omega arith) tt tt)
       (ap (λ (k : Simple). of_own_effect (with_outcome at ops (before_of k v)) arms) (type_by_number (simple_of t))) (room_for g st) (λ m. follows_moved g arms few to (at + 1) (sym e ∙ omega arith) (on m))
-  finish_follows random t u go v at n to ops has st e waits on =
-      arrives at (v ∷ ops) arms (b, checked, (ops, refl, lone g s (λ at n. RAND) st, value_moved to (at + 1) ops a_number u (sym e ∙ omega arith) waits))
-  finish_follows eof t u go v at n to ops has st e waits on = never has
-  finish_follows eoln t u go v at n to ops has st e waits on = never has
-  finish_follows empty t u go v at n to ops has st e waits on = never has
-  finish_follows clock t u go v at n to ops has st e waits on = never has
-  finish_follows no_function t u go v at n to ops has st e waits on = never has
+  finish_follows random t u go v at n to ops has own st e waits on =
+      arrives at (v ∷ ops) arms (
+        b,
+        checked,
+        (
+          own refl,
+          (ops, refl, lone g s (λ at n. RAND) st, value_moved to (at + 1) ops a_number u (sym e ∙ omega arith) waits),
+        ),
+      )
+  finish_follows eof t u go v at n to ops has own st e waits on = never has
+  finish_follows eoln t u go v at n to ops has own st e waits on = never has
+  finish_follows empty t u go v at n to ops has own st e waits on = never has
+  finish_follows clock t u go v at n to ops has own st e waits on = never has
+  finish_follows no_function t u go v at n to ops has own st e waits on = never has
 
   -- an argument, and the instruction behind it
   argued_follows :
-      (f : Function) → has_argument f ≡ true → (t : Option TypeId) (h : Shape) (u : AwaitsValue) (go : Value → Action) (argument : AwaitsValue → (Value → Action) → Action) (code : Code) (at n to : ℕ) (ops : List ℤ)
+      (f : Function) → has_argument f ≡ true → (is_asked f ≡ true → g.trial ≡ of_own)
+      → (t : Option TypeId) (h : Shape) (u : AwaitsValue) (go : Value → Action)
+      (argument : AwaitsValue → (Value → Action) → Action) (code : Code) (at n to : ℕ) (ops : List ℤ)
       → h ≡ a_number → IsSized code → ((at n held : ℕ) → held_after g.program held (code.put at n) ≡ 1 + held) → Evaluates code a_number argument
       → Stands g at n (length ops) (code ⨾ finishing s f t) → at + (code ⨾ finishing s f t).size ≡ to → TakesValue g b x to ops arms h u
       → ((v : ℤ) → h ≡ a_number → Follows g (go (ordinal v)) to (v ∷ ops) arms) → Follows g (argument (apply f t u) (finish_call x f t u go)) at ops arms
-  argued_follows f has t h u go argument code at n to ops e sized held argued st ends waits on =
+  argued_follows f has own t h u go argument code at n to ops e sized held argued st ends waits on =
       let behind = back g code (finishing s f t) (suc (length ops)) sized (held at n (length ops) ∙ omega arith) st in
       let end : at + code.size + (finishing s f t).size ≡ to = omega arith in
       let left : TakesValue g b x to ops arms a_number u = subst (λ (k : Shape). TakesValue g b x to ops arms k u) e waits in
       argued (apply f t u) (finish_call x f t u go) at n (at + code.size) ops (front g code (finishing s f t) st) refl
-      (refl, has, n + length code.texts, behind, value_moved to (at + code.size + (finishing s f t).size) ops a_number u (sym end) left)
-      (λ v k. finish_follows f t u go v (at + code.size) (n + length code.texts) to ops has behind end left (λ m. on m e))
+      (refl, has, own, n + length code.texts, behind, value_moved to (at + code.size + (finishing s f t).size) ops a_number u (sym end) left)
+      (λ v k. finish_follows f t u go v (at + code.size) (n + length code.texts) to ops has own behind end left (λ m. on m e))
 
   -- an instruction that asks, and has no argument
   asked_room : (i : Instr) (at n : ℕ) (ops : List ℤ) → takes g.program i ≡ 0 → leaves g.program i ≡ 1 → Stands g at n (length ops) (one s i) → suc (length ops) ≤ g.room
@@ -277,21 +288,42 @@ module _ (g : Setting) (b : Block) (names : List Level) (around : Around) (check
   function_follows :
       (f : Function) (t : Option TypeId) (h : Shape) (u : AwaitsValue) (go : Value → Action) (value : AwaitsValue → (Value → Action) → Action) (variable : AwaitsLocation → (TypedSpot → Action) → Action)
       (code address : Code) (V A : Type 0) (at n to : ℕ) (ops : List ℤ)
-      → IsFunction f h V A → IsSized code → IsSized address
+      → IsFunction f h V A → (is_asked f ≡ true → g.trial ≡ of_own) → IsSized code → IsSized address
       → (V → (at n held : ℕ) → held_after g.program held (code.put at n) ≡ 1 + held) → (A → (at n held : ℕ) → held_after g.program held (address.put at n) ≡ 1 + held)
       → (V → Evaluates code a_number value) → (A → Locates address (Some condition) variable)
       → Stands g at n (length ops) (function_code s f t code address) → at + (function_code s f t code address).size ≡ to → TakesValue g b x to ops arms h u
       → ((v : ℤ) → h ≡ a_number → Follows g (go (ordinal v)) to (v ∷ ops) arms) → Follows g (from_function x f t u go value variable) at ops arms
-  function_follows eof t h u go value variable code address V A at n to ops is sized lent held lent_held evaluates locates st e waits on =
+  function_follows eof t h u go value variable code address V A at n to ops is own sized lent held lent_held evaluates locates st e waits on =
       let left = value_moved to (at + 1) ops h u (sym e) waits in
-      arrives at ops arms (b, checked, (lone g s (λ at n. EOF) st, asked_room EOF at n ops refl refl st, subst (λ (k : Shape). TakesValue g b x (at + 1) ops arms k u) is left))
-  function_follows eoln t h u go value variable code address V A at n to ops is sized lent held lent_held evaluates locates st e waits on =
+      arrives at ops arms (
+        b,
+        checked,
+        (
+          own refl,
+          (lone g s (λ at n. EOF) st, asked_room EOF at n ops refl refl st, subst (λ (k : Shape). TakesValue g b x (at + 1) ops arms k u) is left),
+        ),
+      )
+  function_follows eoln t h u go value variable code address V A at n to ops is own sized lent held lent_held evaluates locates st e waits on =
       let left = value_moved to (at + 1) ops h u (sym e) waits in
-      arrives at ops arms (b, checked, (lone g s (λ at n. EOLN) st, asked_room EOLN at n ops refl refl st, subst (λ (k : Shape). TakesValue g b x (at + 1) ops arms k u) is left))
-  function_follows clock t h u go value variable code address V A at n to ops is sized lent held lent_held evaluates locates st e waits on =
+      arrives at ops arms (
+        b,
+        checked,
+        (
+          own refl,
+          (lone g s (λ at n. EOLN) st, asked_room EOLN at n ops refl refl st, subst (λ (k : Shape). TakesValue g b x (at + 1) ops arms k u) is left),
+        ),
+      )
+  function_follows clock t h u go value variable code address V A at n to ops is own sized lent held lent_held evaluates locates st e waits on =
       let left = value_moved to (at + 1) ops h u (sym e) waits in
-      arrives at ops arms (b, checked, (lone g s (λ at n. CLOCK) st, asked_room CLOCK at n ops refl refl st, subst (λ (k : Shape). TakesValue g b x (at + 1) ops arms k u) is left))
-  function_follows empty t h u go value variable code address V A at n to ops is sized lent held lent_held evaluates locates st e waits on =
+      arrives at ops arms (
+        b,
+        checked,
+        (
+          own refl,
+          (lone g s (λ at n. CLOCK) st, asked_room CLOCK at n ops refl refl st, subst (λ (k : Shape). TakesValue g b x (at + 1) ops arms k u) is left),
+        ),
+      )
+  function_follows empty t h u go value variable code address V A at n to ops is own sized lent held lent_held evaluates locates st e waits on =
       let last = one s OBJ ⨾ one s EMPTY in
       let mid = at + address.size in
       let behind = back g address last (suc (length ops)) lent (lent_held is.1 at n (length ops) ∙ omega arith) st in
@@ -302,31 +334,32 @@ module _ (g : Setting) (b : Block) (names : List Level) (around : Around) (check
       let same : mid + 2 ≡ mid + 1 + 1 = omega arith in
       let left : TakesValue g b x (mid + 2) ops arms a_number u = value_moved to (mid + 2) ops a_number u end (subst (λ (k : Shape). TakesValue g b x to ops arms k u) is.0 waits) in
       locates is.1 (ask_empty u) (λ l. asks_empty x l.spot u) at n mid ops (front g address last st) refl
-      (refl, obj, room_for g behind, asking, left)
+      (own refl, (refl, obj, room_for g behind, asking, left))
       (λ l w lies. object_follows l.spot (Some condition) w mid ops lies refl obj (room_for g behind)
-      (λ i object. arrives (mid + 1) (i ∷ ops) arms (b, checked, (i, ops, refl, object, asking, value_moved (mid + 2) (mid + 1 + 1) ops a_number u same left))))
-  function_follows abs t h u go value variable code address V A at n to ops is sized lent held lent_held evaluates locates st e waits on =
-      argued_follows abs refl t h u go value code at n to ops is.0 sized (held is.1) (evaluates is.1) st e waits on
-  function_follows sqr t h u go value variable code address V A at n to ops is sized lent held lent_held evaluates locates st e waits on =
-      argued_follows sqr refl t h u go value code at n to ops is.0 sized (held is.1) (evaluates is.1) st e waits on
-  function_follows odd t h u go value variable code address V A at n to ops is sized lent held lent_held evaluates locates st e waits on =
-      argued_follows odd refl t h u go value code at n to ops is.0 sized (held is.1) (evaluates is.1) st e waits on
-  function_follows ord t h u go value variable code address V A at n to ops is sized lent held lent_held evaluates locates st e waits on =
+      (λ i object. arrives (mid + 1) (i ∷ ops) arms
+      (b, checked, (own refl, (i, ops, refl, object, asking, value_moved (mid + 2) (mid + 1 + 1) ops a_number u same left)))))
+  function_follows abs t h u go value variable code address V A at n to ops is own sized lent held lent_held evaluates locates st e waits on =
+      argued_follows abs refl own t h u go value code at n to ops is.0 sized (held is.1) (evaluates is.1) st e waits on
+  function_follows sqr t h u go value variable code address V A at n to ops is own sized lent held lent_held evaluates locates st e waits on =
+      argued_follows sqr refl own t h u go value code at n to ops is.0 sized (held is.1) (evaluates is.1) st e waits on
+  function_follows odd t h u go value variable code address V A at n to ops is own sized lent held lent_held evaluates locates st e waits on =
+      argued_follows odd refl own t h u go value code at n to ops is.0 sized (held is.1) (evaluates is.1) st e waits on
+  function_follows ord t h u go value variable code address V A at n to ops is own sized lent held lent_held evaluates locates st e waits on =
       let left : TakesValue g b x to ops arms a_number u = subst (λ (k : Shape). TakesValue g b x to ops arms k u) is.0 waits in
       let none : Stands g (at + code.size) n (suc (length ops)) nothing = record { has = tt; texts = tt; room = room_after g (suc (length ops)) (held is.1 at n (length ops) ∙ omega arith) st; arms = omega arith } in
       let same : to ≡ at + code.size + 0 = omega arith in
       evaluates is.1 (apply ord t u) (finish_call x ord t u go) at n to ops st e
-      (refl, refl, n, stands_moved g to e none, value_moved to (to + 0) ops a_number u (omega arith) left)
+      (refl, refl, own, n, stands_moved g to e none, value_moved to (to + 0) ops a_number u (omega arith) left)
       (λ v k. on v is.0)
-  function_follows chr t h u go value variable code address V A at n to ops is sized lent held lent_held evaluates locates st e waits on =
-      argued_follows chr refl t h u go value code at n to ops is.0 sized (held is.1) (evaluates is.1) st e waits on
-  function_follows succ t h u go value variable code address V A at n to ops is sized lent held lent_held evaluates locates st e waits on =
-      argued_follows succ refl t h u go value code at n to ops is.0 sized (held is.1) (evaluates is.1) st e waits on
-  function_follows pred t h u go value variable code address V A at n to ops is sized lent held lent_held evaluates locates st e waits on =
-      argued_follows pred refl t h u go value code at n to ops is.0 sized (held is.1) (evaluates is.1) st e waits on
-  function_follows random t h u go value variable code address V A at n to ops is sized lent held lent_held evaluates locates st e waits on =
-      argued_follows random refl t h u go value code at n to ops is.0 sized (held is.1) (evaluates is.1) st e waits on
-  function_follows no_function t h u go value variable code address V A at n to ops is sized lent held lent_held evaluates locates st e waits on = absurd is
+  function_follows chr t h u go value variable code address V A at n to ops is own sized lent held lent_held evaluates locates st e waits on =
+      argued_follows chr refl own t h u go value code at n to ops is.0 sized (held is.1) (evaluates is.1) st e waits on
+  function_follows succ t h u go value variable code address V A at n to ops is own sized lent held lent_held evaluates locates st e waits on =
+      argued_follows succ refl own t h u go value code at n to ops is.0 sized (held is.1) (evaluates is.1) st e waits on
+  function_follows pred t h u go value variable code address V A at n to ops is own sized lent held lent_held evaluates locates st e waits on =
+      argued_follows pred refl own t h u go value code at n to ops is.0 sized (held is.1) (evaluates is.1) st e waits on
+  function_follows random t h u go value variable code address V A at n to ops is own sized lent held lent_held evaluates locates st e waits on =
+      argued_follows random refl own t h u go value code at n to ops is.0 sized (held is.1) (evaluates is.1) st e waits on
+  function_follows no_function t h u go value variable code address V A at n to ops is own sized lent held lent_held evaluates locates st e waits on = absurd is
 
   -- ## Names
 
@@ -372,35 +405,39 @@ module _ (g : Setting) (b : Block) (names : List Level) (around : Around) (check
   -- the call of a function, behind its arguments
   called_follows :
       (head : SubHead) (args : Code) (h : Shape) (from : List Argument → Call → Action)
-      → h ≡ a_number → IsSub s head 1 → IsSized args → ((at n held : ℕ) → held_after g.program held (args.put at n) ≡ formals_cells forms head.formals + held) → Passes args head.formals from
+      → h ≡ a_number → IsSub s head 1 → g.trial ≡ of_own → IsSized args
+      → ((at n held : ℕ) → held_after g.program held (args.put at n) ≡ formals_cells forms head.formals + held) → Passes args head.formals from
       → Evaluates (args ⨾ one s (call_instr s head)) h (λ u go. from [] (to_function head.scope u))
-  called_follows sub args h from e is sized held passes u go at n to ops st ends waits on =
+  called_follows sub args h from e is own sized held passes u go at n to ops st ends waits on =
       let i = call_instr s sub in
       let mid = at + args.size in
       let behind = back g args (one s i) (formals_cells forms sub.formals + length ops) sized (held at n (length ops)) st in
       let room = room_after g (suc (length ops)) (omega (arith, is.taken, is.leaves)) behind in
       passes [] [] (to_function sub.scope u) at n mid ops ops (none_held ops) (front g args (one s i) st) refl (
-        is.headed,
-        is.taken,
-        is.leaves,
-        lone g s (λ at n. i) behind,
-        room,
-        value_moved to (mid + 1) ops a_number u (sym ends ∙ omega arith)
-            (subst (λ (k : Shape). TakesValue g b x to ops arms k u) e waits),
+        own,
+        (
+          is.headed,
+          is.taken,
+          is.leaves,
+          lone g s (λ at n. i) behind,
+          room,
+          value_moved to (mid + 1) ops a_number u (sym ends ∙ omega arith)
+              (subst (λ (k : Shape). TakesValue g b x to ops arms k u) e waits),
+        ),
       )
 
   -- A name with its selectors or arguments. How selectors, arguments and predeclared functions follow is given.
   name_follows :
       (m : Option Meaning) (h : Shape) (ss : SelectorTrees) (v : TypedSpot) (args : List Formal → Code) (predeclared : Function → Code)
       (from_all : List Formal → List Argument → Call → Action) (from_predeclared : Function → AwaitsValue → (Value → Action) → Action) (A : List Formal → Type 0) (F : Function → Type 0)
-      → IsUse s m h (IsDeclared s v.spot v.t) (λ u. AreSelectors s v.t ss u) ss A F → Selects ss
+      → IsUse s m h (IsDeclared s v.spot v.t) (λ u. AreSelectors s v.t ss u) ss A F → ((k : ℕ) → m ≡ Some (ASub k) → g.trial ≡ of_own) → Selects ss
       → ((formals : List Formal) → A formals → IsSized (args formals) × ((at n held : ℕ) → held_after g.program held ((args formals).put at n) ≡ formals_cells forms formals + held) × Passes (args formals) formals (from_all formals))
-      → ((f : Function) → F f → Evaluates (predeclared f) h (from_predeclared f))
+      → ((k : ℕ) → m ≡ Some (Predeclared k) → F (function_of k) → Evaluates (predeclared (function_of k)) h (from_predeclared (function_of k)))
       → Evaluates (name_code s m ss (base_code s v.spot ⨾ selectors_code s v.t ss) args predeclared) h
       (λ u go. from_name x m u go (λ goal arrive. from_selectors x v ss goal arrive) (λ formals call. from_all formals [] call) (λ f. from_predeclared f u go))
-  name_follows (Some (Constant t c)) h ss v args predeclared from_all from_predeclared A F is select passes functions u go at n to ops st e waits on =
+  name_follows (Some (Constant t c)) h ss v args predeclared from_all from_predeclared A F is own select passes functions u go at n to ops st e waits on =
       literal_follows c at n to ops st e (on c is)
-  name_follows (Some (Variable t r)) h ss v args predeclared from_all from_predeclared A F is select passes functions u go at n to ops st e waits on =
+  name_follows (Some (Variable t r)) h ss v args predeclared from_all from_predeclared A F is own select passes functions u go at n to ops st e waits on =
       let code = base_code s v.spot ⨾ selectors_code s v.t ss in
       let z = type_cells forms (selected s.env (Some t) ss) in
       let cells : z ≡ shape_cells forms (shape_of is.0) = ap (λ (k : Option TypeId). type_cells forms k) is.3 ∙ sym (shaped_cells forms checked.sound is.0) in
@@ -408,18 +445,19 @@ module _ (g : Setting) (b : Block) (names : List Level) (around : Around) (check
       (sized_both (base_code s v.spot) (selectors_code s v.t ss) (sized_base s v.spot) (sized_plain (selectors_code s v.t ss) (plain_selectors s v.t ss)))
       (held_grown g.program code 1 (part_changes s checked.sound v ss (Some is.0) is.2))
       (address_follows v ss (Some is.0) is.1 is.2 select) u go at n to ops st e waits on
-  name_follows (Some (ASub k)) h ss v args predeclared from_all from_predeclared A F is select passes functions u go at n to ops st e waits on =
+  name_follows (Some (ASub k)) h ss v args predeclared from_all from_predeclared A F is own select passes functions u go at n to ops st e waits on =
       let sub = sub_at g.program.state.blocks k in
       let all = passes sub.formals is.2 in
-      called_follows sub (args sub.formals) h (from_all sub.formals) is.0 is.1 all.0 all.1 all.2 u go at n to ops st e waits on
-  name_follows (Some (Predeclared k)) h ss v args predeclared from_all from_predeclared A F is select passes functions u go at n to ops st e waits on =
-      functions (function_of k) is u go at n to ops st e waits on
-  name_follows None h ss v args predeclared from_all from_predeclared A F is select passes functions u go at n to ops st e waits on = absurd is
-  name_follows (Some (Named t)) h ss v args predeclared from_all from_predeclared A F is select passes functions u go at n to ops st e waits on = absurd is
-  name_follows (Some (Module k)) h ss v args predeclared from_all from_predeclared A F is select passes functions u go at n to ops st e waits on = absurd is
-  name_follows (Some (Process k)) h ss v args predeclared from_all from_predeclared A F is select passes functions u go at n to ops st e waits on = absurd is
-  name_follows (Some (Entry k)) h ss v args predeclared from_all from_predeclared A F is select passes functions u go at n to ops st e waits on = absurd is
-  name_follows (Some Faulty) h ss v args predeclared from_all from_predeclared A F is select passes functions u go at n to ops st e waits on = absurd is
+      called_follows sub (args sub.formals) h (from_all sub.formals) is.0 is.1 (own k refl) all.0 all.1 all.2 u go at n to ops st e waits on
+  name_follows (Some (Predeclared k)) h ss v args predeclared from_all from_predeclared A F is own select passes functions u go at n to ops st e waits on =
+      functions k refl is u go at n to ops st e waits on
+  name_follows None h ss v args predeclared from_all from_predeclared A F is own select passes functions u go at n to ops st e waits on = absurd is
+  name_follows (Some (Named t)) h ss v args predeclared from_all from_predeclared A F is own select passes functions u go at n to ops st e waits on = absurd is
+  name_follows (Some (Module k)) h ss v args predeclared from_all from_predeclared A F is own select passes functions u go at n to ops st e waits on = absurd is
+  name_follows (Some (Process k)) h ss v args predeclared from_all from_predeclared A F is own select passes functions u go at n to ops st e waits on =
+      absurd is
+  name_follows (Some (Entry k)) h ss v args predeclared from_all from_predeclared A F is own select passes functions u go at n to ops st e waits on = absurd is
+  name_follows (Some Faulty) h ss v args predeclared from_all from_predeclared A F is own select passes functions u go at n to ops st e waits on = absurd is
 
   -- ## Arguments
 
@@ -649,15 +687,17 @@ module _ (g : Setting) (b : Block) (names : List Level) (around : Around) (check
         name_follows (meaning_of (find s.env y)) h ss v (λ formals. args_code s formals args) (λ f. function_code s f (first_type s.env args) (first_value s args) (first_address s args))
         (λ formals given call. from_args x formals args given call) (λ f wait done. from_function x f (first_type s.env args) wait done (from_argument x args) (from_reference x args))
         (λ formals. AreArguments s formals args) (λ f. IsFunction f h (IsGivenFirst s args) (IsLentFirst s args (Some condition)))
-        is
+        is.1 (λ k e. sub_own g (env_in g names around) checked.tried (find s.env y) is.0 k e)
         (λ part w t goal go at n to ops part_is are st ends waits on. selectors_follow ss part w t goal go at n to ops part_is are st ends waits on)
         (λ formals a. (
           sized_plain (args_code s formals args) (plain_args s formals args),
           held_grown g.program (args_code s formals args) (formals_cells forms formals) (args_change s checked.sound formals args a),
           λ before given call at n to ops below held st ends waits. args_follow args formals a before given call at n to ops below held st ends waits,
         ))
-        (λ f k wait done at n to ops st ends waits on.
+        (λ i e k wait done at n to ops st ends waits on.
+        let f = function_of i in
         function_follows f (first_type s.env args) h wait done (from_argument x args) (from_reference x args) (first_value s args) (first_address s args) (IsGivenFirst s args) (IsLentFirst s args (Some condition)) at n to ops k
+        (λ asked. asked_own g (env_in g names around) checked.tried (find s.env y) is.0 i e asked)
         (sized_plain (first_value s args) (plain_first s args)) (sized_plain (first_address s args) (plain_first_address s args))
         (λ i. held_grown g.program (first_value s args) 1 (first_changes s checked.sound args i)) (λ i. held_grown g.program (first_address s args) 1 (first_address_changes s checked.sound args (Some condition) i))
         (λ i u go at n to ops st ends waits on. first_follows args i u go at n to ops st ends waits on) (λ i goal go at n to ops st ends waits on. reference_follows args (Some condition) i goal go at n to ops st ends waits on)

@@ -242,7 +242,7 @@ module _ (s : Site) (sound : IsSound (forms_of s)) where
         (λ f. function_code s f (first_type s.env args) (first_value s args) (first_address s args))
         (IsDeclared s v.spot v.t) (λ u. AreSelectors s v.t ss u) (λ formals. AreArguments s formals args)
         (λ f. IsFunction f h (IsGivenFirst s args) (IsLentFirst s args (Some condition)))
-        is
+        is.1
         (λ d u l. changes_both s.program (base_code s v.spot) (selectors_code s v.t ss) 0 1 1 (base_changes s.program s v.spot) (selectors_change ss v.t u l))
         (λ formals a. args_change formals args a)
         (λ f k. function_changes f (first_type s.env args) h (first_value s args) (first_address s args) (IsGivenFirst s args) (IsLentFirst s args (Some condition)) k

@@ -18,7 +18,7 @@ use Rattle.pfc_translation.specs.Addresses.{base_code}
 use Rattle.pfc_translation.specs.Expressions.{expr_code, desig_code}
 use Rattle.pfc_translation.specs.Selects.{message_code, message_cells, receiver_code, receiver_cells, accept_cell, accept_cells, entry_of, replica_code, comm_code, guarded_code, alternative_code, alternatives_code, first_of}
 use Rattle.pfc_standing_code.specs.Shapes.{a_number, a_whole, shape_of, shape_cells, is_number}
-use Rattle.pfc_standing_code.specs.Settings.{Setting, site_of, IsAt, Stands, arrived}
+use Rattle.pfc_standing_code.specs.Settings.{Setting, of_own, site_of, IsAt, Stands, arrived}
 use Rattle.pfc_standing_code.specs.Effects.{Arm}
 use Rattle.pfc_standing_code.specs.TypedStatements.{IsReplica, IsGuard}
 use Rattle.pfc_standing_code.specs.Words.{first_word, IsChecked}
@@ -52,7 +52,8 @@ comm_moved g s x at to above held a rest sel arms code P e h = subst (λ (y : �
 abbrev alternative_of : Option Replica → Option ExprTree → CommTree → ℕ → StmtTrees → Alternative
 alternative_of r guard comm m ts = record { replica = r; guard = guard; comm = comm; next = m; stmts = ts }
 
-module _ (g : Setting) (b : Block) (names : List Level) (around : Around) (checked : IsChecked g b (env_in g names around)) (line : ℕ) (k : Remainder) where
+module _ (g : Setting) (b : Block) (names : List Level) (around : Around) (checked : IsChecked g b (env_in g names around)) (own : g.trial ≡ of_own)
+    (line : ℕ) (k : Remainder) where
   abbrev x : Context
   x = record { env = env_in g names around; line = line }
 
@@ -63,7 +64,7 @@ module _ (g : Setting) (b : Block) (names : List Level) (around : Around) (check
   forms = g.program.state.forms
 
   abbrev Others : List Alternative → Type 0
-  Others rest = OthersFollow g b names around checked line k rest
+  Others rest = OthersFollow g b names around checked own line k rest
 
   -- ## What an open alternative waits for
 
@@ -75,7 +76,8 @@ module _ (g : Setting) (b : Block) (names : List Level) (around : Around) (check
       → Follows g (from_alternatives x rest (with_open a sel (to_accept acc)) k) at ops arms
   accept_follows a acc rest sel at to ops arms others is room few branch there =
       let i = ARMA acc.entry (accept_cell s acc.scope) (accept_cells s acc.scope) to in
-      armed_follows g b names around checked line k a rest sel (to_accept acc) i at ops ops [] arms others is (fits g arms i ops (omega arith) tt tt) refl room few (to, refl, refl, branch) there
+      armed_follows g b names around checked own line k a rest sel (to_accept acc) i at ops ops [] arms others is
+      (fits g arms i ops (omega arith) tt tt) refl room few (to, refl, refl, branch) there
 
   comm_follows :
       (r : Option Replica) (guard : Option ExprTree) (comm : CommTree) (m : ℕ) (ts : StmtTrees) (rest : List Alternative) (sel : Selecting) (at : ℕ) (ops : List ℤ) (arms : List Arm)
@@ -94,7 +96,8 @@ module _ (g : Setting) (b : Block) (names : List Level) (around : Around) (check
       let msg = message_of x e in
       let address = desig_code s d in
       let code = message_code s msg ⨾ over s (λ to. ARMS (message_cells s msg) to) c.between in
-      let parts = object_parts g b names around checked (omega arith) line address code at c.n (length ops) (sized_desig s d) (desig_changes s checked.sound d is.t is.channel) c.stands in
+      let parts = object_parts g b names around checked (omega arith) own line address code at c.n (length ops) (sized_desig s d)
+      (desig_changes s checked.sound d is.t is.channel) c.stands in
       let mid = at + address.size in
       let end : at + (address.size + 1 + ((message_code s msg).size + 1)) ≡ mid + 1 + ((message_code s msg).size + 1) = omega arith in
       let inner : CommAt g s x (mid + 1) (suc (length ops)) (length ops) a rest sel arms (λ between. message_code s msg ⨾ over s (λ to. ARMS (message_cells s msg) to) between) (Behind g b x ops k) =
@@ -108,10 +111,11 @@ module _ (g : Setting) (b : Block) (names : List Level) (around : Around) (check
         room = c.room;
       } in
       variable_follows g b x checked arms few d is.t is.channel (offer_to msg a rest sel k) (λ channel. from_message x channel.spot msg a rest sel k (λ t. from_alternatives x rest t k)) at c.n ops parts.first
-      (is.u, is.carries, is.message, parts.obj, tt, inner)
+      (own, (is.u, is.carries, is.message, parts.obj, tt, inner))
       (λ l w lies.
       object_follows g b names around checked line arms few l.spot is.t w mid ops lies (channel_is_object forms is.t is.u is.carries) parts.obj parts.room
-      (λ i object. message_follows g b names around checked line k l.spot is.t is.u i msg a rest sel (mid + 1) ops arms others tt is.carries object is.message inner))
+      (λ i object. message_follows g b names around checked own line k l.spot is.t is.u i msg a rest sel
+      (mid + 1) ops arms others tt is.carries object is.message inner))
   comm_follows r guard (comm_receive d v p) m ts rest sel at ops arms others c =
       let a = alternative_of r guard (comm_receive d v p) m ts in
       let few : length arms ≤ g.arms = (let all = c.room in omega arith) in
@@ -119,7 +123,8 @@ module _ (g : Setting) (b : Block) (names : List Level) (around : Around) (check
       let target = receiver_of x v in
       let address = desig_code s d in
       let code = receiver_code s target ⨾ over s (λ to. ARMR (receiver_cells s target) to) c.between in
-      let parts = object_parts g b names around checked (omega arith) line address code at c.n (length ops) (sized_desig s d) (desig_changes s checked.sound d is.t is.channel) c.stands in
+      let parts = object_parts g b names around checked (omega arith) own line address code at c.n (length ops) (sized_desig s d)
+      (desig_changes s checked.sound d is.t is.channel) c.stands in
       let mid = at + address.size in
       let end : at + (address.size + 1 + ((receiver_code s target).size + 1)) ≡ mid + 1 + ((receiver_code s target).size + 1) = omega arith in
       let inner : CommAt g s x (mid + 1) (suc (length ops)) (length ops) a rest sel arms (λ between. receiver_code s target ⨾ over s (λ to. ARMR (receiver_cells s target) to) between) (Behind g b x ops k) =
@@ -133,21 +138,24 @@ module _ (g : Setting) (b : Block) (names : List Level) (around : Around) (check
         room = c.room;
       } in
       variable_follows g b x checked arms few d is.t is.channel (offer_from target a rest sel k) (λ channel. from_receiver x channel.spot target a rest sel k (λ t. from_alternatives x rest t k)) at c.n ops parts.first
-      (is.u, is.carries, is.receiver, parts.obj, tt, inner)
+      (own, (is.u, is.carries, is.receiver, parts.obj, tt, inner))
       (λ l w lies.
       object_follows g b names around checked line arms few l.spot is.t w mid ops lies (channel_is_object forms is.t is.u is.carries) parts.obj parts.room
-      (λ i object. receiver_follows g b names around checked line k l.spot is.t is.u i target a rest sel (mid + 1) ops arms others tt is.carries object is.receiver inner))
+      (λ i object. receiver_follows g b names around checked own line k l.spot is.t is.u i target a rest sel
+      (mid + 1) ops arms others tt is.carries object is.receiver inner))
   comm_follows r guard (timeout e p) m ts rest sel at ops arms others c =
       let a = alternative_of r guard (timeout e p) m ts in
       let few : length arms ≤ g.arms = (let all = c.room in omega arith) in
       let value = expr_code s e in
-      let ar = arm_at g b names around checked line k a rest sel arms (Behind g b x ops k) value ARMT at (length ops) (length ops) (suc (length ops)) (λ to h. h) (sized_expr s e)
+      let ar = arm_at g b names around checked own line k a rest sel arms (Behind g b x ops k) value ARMT at (length ops) (length ops) (suc (length ops))
+      (λ to h. h) (sized_expr s e)
       (λ n. held_grown g.program value 1 (expr_changes s checked.sound e a_number c.comm) at n (length ops) ∙ omega arith) c in
       expression_follows g b x checked arms few e a_number c.comm (offer_wait a rest sel k) (from_seconds x a sel (λ t. from_alternatives x rest t k)) at c.n ops (front g value (over s ARMT c.between) c.stands)
-      (refl, ar)
-      (λ v simple. seconds_armed g b names around checked line k v a rest sel (at + value.size) ops arms others (room_for g c.stands) ar)
+      (own, (refl, ar))
+      (λ v simple. seconds_armed g b names around checked own line k v a rest sel (at + value.size) ops arms others (room_for g c.stands) ar)
   comm_follows r guard (terminate p) m ts rest sel at ops arms others c =
-      armed_follows g b names around checked line k (alternative_of r guard (terminate p) m ts) rest sel to_end ARMX at ops ops [] arms others (lone g s (λ at n. ARMX) c.stands) (fits g arms ARMX ops (omega arith) tt tt) refl
+      armed_follows g b names around checked own line k (alternative_of r guard (terminate p) m ts) rest sel to_end ARMX at ops ops [] arms others
+      (lone g s (λ at n. ARMX) c.stands) (fits g arms ARMX ops (omega arith) tt tt) refl
       (room_for g c.stands) c.room (refl, refl) c.others
 
   -- ## Guards
@@ -197,7 +205,7 @@ module _ (g : Setting) (b : Block) (names : List Level) (around : Around) (check
         room = c.room;
       } in
       expression_follows g b x checked arms few e a_number is (open_if a rest sel k) (from_opened x a rest sel k (λ t. from_alternatives x rest t k)) at c.n ops (front g test (over s JF inner.size ⨾ inner) c.stands)
-      (refl, out, is_test, ends, open_at)
+      (own, (refl, out, is_test, ends, open_at))
       (λ v simple. opened_follows v a rest sel mid out ops arms others is_test ends open_at)
 
   -- ## Replicated ones
@@ -223,11 +231,22 @@ module _ (g : Setting) (b : Block) (names : List Level) (around : Around) (check
       let store : IsAt g (at + 1 + 1) (STORE (shape_cells forms (shape_of is.0))) line = subst (λ (y : ℕ). IsAt g (at + 1 + 1) (STORE y) line) cells stores in
       let end : at + (1 + (1 + 1)) ≡ at + 1 + 1 + 1 = omega arith in
       let to = at + 1 + 1 + 1 in
-      let left : Performs g b (env_in g names around) to ops arms (go_through line a rest sel k) =
-      (to, arrived to, (guard, comm_moved g s x (at + (1 + (1 + 1))) to (length ops) (length ops) a rest sel arms (λ between. guarded_code s a.guard (comm_code s a.next a.comm between)) (Behind g b x ops k) end c)) in
+      let left : Performs g b (env_in g names around) to ops arms (go_through line a rest sel k) = (
+        own,
+        (
+          to,
+          arrived to,
+          (
+            guard,
+            comm_moved g s x (at + (1 + (1 + 1))) to (length ops) (length ops) a rest sel arms
+                (λ between. guarded_code s a.guard (comm_code s a.next a.comm between)) (Behind g b x ops k) end c,
+          ),
+        ),
+      ) in
       base_follows g b names around checked line arms few v at n ops is.2 (front g base last st)
       (next_move g arms few (at + 1) (w ∷ ops) (LIT r.value) line (r.value ∷ w ∷ ops) (head g s (λ at n. LIT r.value) (one s (STORE 1)) behind) (fits g arms (LIT r.value) (w ∷ ops) (omega arith) tt tt) refl (room_for g third)
-      (arrives (at + 1 + 1) (r.value ∷ w ∷ ops) arms (b, checked, of_value is.0 w ops refl (is_number is.0 r.value is.1) (whole_part g b names around checked line arms few v is.2) store left)))
+      (arrives (at + 1 + 1) (r.value ∷ w ∷ ops) arms
+      (b, checked, (own, of_value is.0 w ops refl (is_number is.0 r.value is.1) (whole_part g b names around checked line arms few v is.2) store left))))
 
   -- ## All of them
 
@@ -236,7 +255,7 @@ module _ (g : Setting) (b : Block) (names : List Level) (around : Around) (check
       let code = h.left in
       let at_decision : DecidesAt g s at (length ops) sel.pri sel.otherwise (Behind g b x ops k) =
       subst (λ (y : ℕ). DecidesAt g s y (length ops) sel.pri sel.otherwise (Behind g b x ops k)) (by at) code.decision in
-      arrives at ops arms (b, checked, (at_decision, h.open_ones))
+      arrives at ops arms (b, checked, (own, (at_decision, h.open_ones)))
     where
       by : (n : ℕ) → n + 0 ≡ n
       by n = omega arith
@@ -273,6 +292,8 @@ module _ (g : Setting) (b : Block) (names : List Level) (around : Around) (check
         };
         open_ones = h.open_ones;
         room = omega arith;
+        end = h.end;
+        left_behind = h.left_behind;
       } in
       let c : CommAt g s x mid (length ops) (length ops) a rest sel arms (λ between. guarded_code s a.guard (comm_code s a.next a.comm between)) P =
       record {

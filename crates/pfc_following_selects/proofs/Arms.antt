@@ -26,7 +26,7 @@ use Rattle.pfc_translation.specs.Selects.{message_code, message_cells, receiver_
 use Rattle.pfc_standing_code.specs.Sizes.{IsSized}
 use Rattle.pfc_cells.specs.Shapes.{words_of}
 use Rattle.pfc_standing_code.specs.Shapes.{Shape, shape_of, shape_cells, IsShaped}
-use Rattle.pfc_standing_code.specs.Settings.{Setting, site_of, IsAt}
+use Rattle.pfc_standing_code.specs.Settings.{Setting, of_own, site_of, IsAt}
 use Rattle.pfc_standing_code.specs.Effects.{Arm, onward, refuses, arming, effect_of, CanPerform}
 use Rattle.pfc_standing_code.specs.TypedStatements.{IsChannel, IsCarried, IsMessage, IsReceiver}
 use Rattle.pfc_standing_code.specs.Words.{IsWord, IsObject, IsChecked}
@@ -73,7 +73,8 @@ pub select_moved :
     → SelectAt g s x at held alts sel arms P → SelectAt g s x to held alts sel arms P
 select_moved g s x at to held alts sel arms P e h = subst (λ (y : ℕ). SelectAt g s x y held alts sel arms P) e h
 
-module _ (g : Setting) (b : Block) (names : List Level) (around : Around) (checked : IsChecked g b (env_in g names around)) (line : ℕ) (k : Remainder) where
+module _ (g : Setting) (b : Block) (names : List Level) (around : Around) (checked : IsChecked g b (env_in g names around)) (own : g.trial ≡ of_own)
+    (line : ℕ) (k : Remainder) where
   abbrev pub x : Context
   x = record { env = env_in g names around; line = line }
 
@@ -109,7 +110,8 @@ module _ (g : Setting) (b : Block) (names : List Level) (around : Around) (check
       let stands : AlternativesAt g s x (at + 1) (length below) rest (with_open a sel offer) (Behind g b x below k) =
       record { typed = left.typed; distances = left.distances; n = left.n; code = left.code; decision = left.decision; branches = left.branches } in
       moves at all arms i line (at + 1) below (arms ++ arm ∷ []) is can effect (omega arith) room fit
-      (others (with_open a sel offer) (at + 1) below (arms ++ arm ∷ []) fit (record { left = stands; open_ones = all_open; room = omega (arith, longer) }))
+      (others (with_open a sel offer) (at + 1) below (arms ++ arm ∷ []) fit
+      (record { left = stands; open_ones = all_open; room = omega (arith, longer); end = there.end; left_behind = there.left_behind }))
 
   -- the instruction that stands behind what an alternative waits for
   pub arm_at :
@@ -209,7 +211,7 @@ module _ (g : Setting) (b : Block) (names : List Level) (around : Around) (check
       let room : length ops ≤ g.room = (let all = room_for g c.stands in omega arith) in
       expression_follows g b x checked arms few e (shape_of u) is.0 (offer_value channel a rest sel k) (λ v. from_alternatives x rest (with_open a sel (to_send channel v)) k) at c.n (i ∷ ops)
       (front g value (over s (λ to. ARMS (message_cells s (Some e)) to) c.between) c.stands)
-      (t, u, i, ops, refl, refl, carries, is.2, object, ar)
+      (own, (t, u, i, ops, refl, refl, carries, is.2, object, ar))
       (λ v simple.
       let number : IsShaped forms (shape_of u) (ordinal v) = subst (λ (y : Shape). IsShaped forms y (ordinal v)) (sym simple) (v, refl) in
       value_armed channel t u i (shape_of u) (ordinal v) a rest sel (at + value.size) ops arms others refl number carries object is.2 room ar)
@@ -237,5 +239,5 @@ module _ (g : Setting) (b : Block) (names : List Level) (around : Around) (check
       let room : length ops ≤ g.room = (let all = room_for g c.stands in omega arith) in
       variable_follows g b x checked arms few d (Some u) is.0 (offer_into channel a rest sel k) (λ v. from_alternatives x rest (with_open a sel (to_receive channel (Some v.spot))) k) at c.n (i ∷ ops)
       (front g target (over s (λ to. ARMR (receiver_cells s (Some d)) to) c.between) c.stands)
-      (t, u, i, ops, refl, some, carries, refl, object, ar)
+      (own, (t, u, i, ops, refl, some, carries, refl, object, ar))
       (λ l y lies. target_armed channel t u i y l.spot a rest sel (at + target.size) ops arms others some carries object lies room ar)

@@ -10,7 +10,7 @@ use Rattle.pfc_semantics.specs.Statements.{behind}
 use Rattle.pfc_translation.specs.Codes.{nothing, ◌⨾◌}
 use Rattle.pfc_translation.specs.Selects.{replica_code}
 use Rattle.pfc_translation.specs.Statements.{stmt_code}
-use Rattle.pfc_standing_code.specs.Settings.{Setting, site_of, with_accept, Stands, Leads, arrived, same_block}
+use Rattle.pfc_standing_code.specs.Settings.{Setting, of_own, site_of, with_accept, Stands, Leads, arrived, same_block}
 use Rattle.pfc_standing_code.specs.TypedStatements.{IsReplica}
 use Rattle.pfc_standing_code.specs.Words.{IsChecked}
 use Rattle.pfc_standing_code.specs.Performs.{StmtsAt, MetAt, BranchAt, Performs}
@@ -19,14 +19,14 @@ use Rattle.pfc_kept_code.proofs.Seen.{stands_shown, leads_shown}
 use Rattle.pfc_following_selects.specs.Phrases.{Behind, BranchPerforms, MeetingPerforms}
 use Rattle.pfc_following_selects.proofs.Jumps.{performs_led, performs_at, stands_alone, behind_performs}
 
-module _ (g : Setting) (b : Block) (x : Context) where
+module _ (g : Setting) (b : Block) (x : Context) (own : g.trial ≡ of_own) where
   -- the write of a replicated alternative, before what is left then
   written_performs :
       (r : Replica) (n : ℕ) (k : Remainder) (at : ℕ) (ops : List ℤ)
       → r.line ≡ x.line → IsReplica (site_of g b x) (Some r) → Stands g at n (length ops) (replica_code (site_of g b x) (Some r))
       → Performs g b x.env (at + (replica_code (site_of g b x) (Some r)).size) ops [] k → Performs g b x.env at ops [] (write_again r k)
   written_performs r n k at ops same is st rest = (
-    refl,
+    (own, refl),
     (
       at,
       arrived at,
@@ -39,12 +39,14 @@ module _ (g : Setting) (b : Block) (x : Context) where
     ),
   )
 
-  pub branch_performs : BranchPerforms g b x
-  branch_performs None m ts k at ops h = behind_performs g b x.env x.line m ts k at ops h
-  branch_performs (Some r) m ts k at ops h =
+  pub branch_leads :
+      (r : Option Replica) (m : ℕ) (ts : StmtTrees) (k : Remainder) (at : ℕ) (ops : List ℤ)
+      → BranchAt g (site_of g b x) at (length ops) r None m ts (Behind g b x ops k) → Performs g b x.env at ops [] (behind_replica r (behind m ts k))
+  branch_leads None m ts k at ops h = behind_performs g b x.env x.line m ts k at ops own h
+  branch_leads (Some r) m ts k at ops h =
       let end = at + (replica_code (site_of g b x) (Some r)).size in
       written_performs r h.2 (behind m ts k) at ops h.0 h.1 h.3
-      (performs_led g b x.env (behind m ts k) end h.4.0 ops [] h.4.1 (behind_performs g b x.env x.line m ts k h.4.0 ops h.4.2))
+      (performs_led g b x.env (behind m ts k) end h.4.0 ops [] h.4.1 (behind_performs g b x.env x.line m ts k h.4.0 ops own h.4.2))
 
   -- ## Meetings
 
@@ -72,11 +74,11 @@ module _ (g : Setting) (b : Block) (x : Context) where
       } in
       let left = part_from caller a.line (in_names x.env (behind m ts k)) in
       let parts : Performs inside b (within_accept x.env a.scope) to ops [] left =
-      (refl, (to, arrived to, (then.2.0, refl, tt, (b, same_block, outer, behind_performs g b x.env x.line m ts k (to + 1) ops then.2.1)))) in
+      ((own, refl), (to, arrived to, (then.2.0, refl, tt, (own, (b, same_block, outer, behind_performs g b x.env x.line m ts k (to + 1) ops own then.2.1))))) in
       let rest = performs_at inside b (within_accept x.env a.scope) left to (at + (code ⨾ nothing).size) ops (omega arith) parts in
-      (b, same_block, inner, (refl, (at, arrived at, (x.line, (then.0, all, rest)))))
+      (own, (b, same_block, inner, ((own, refl), (at, arrived at, (x.line, (then.0, all, rest))))))
 
-module _ (g : Setting) (b : Block) (x : Context) where
+module _ (g : Setting) (b : Block) (x : Context) (own : g.trial ≡ of_own) where
   -- in a meeting, where one more accept is open
   led_inside : (n caller at to : ℕ) (k : Remainder) (ops : List ℤ) → Leads g at to → Performs (with_accept g n caller) b x.env to ops [] k
       → Performs (with_accept g n caller) b x.env at ops [] k
@@ -86,13 +88,17 @@ module _ (g : Setting) (b : Block) (x : Context) where
       (r : Option Replica) (a : Accepting) (m : ℕ) (ts : StmtTrees) (caller : ℕ) (k : Remainder) (at : ℕ) (ops : List ℤ)
       → IsChecked g b x.env → IsChecked (with_accept g a.scope caller) b (within_accept x.env a.scope)
       → BranchAt g (site_of g b x) at (length ops) r (Some a) m ts (Behind g b x ops k)
-      → Performs (with_accept g a.scope caller) b x.env at ops [] (behind_replica r (met g b x a m ts caller k))
-  meeting_by None a m ts caller k at ops outer inner h = met_performs g b x a m ts caller k at ops outer inner h
+      → Performs (with_accept g a.scope caller) b x.env at ops [] (behind_replica r (met g b x own a m ts caller k))
+  meeting_by None a m ts caller k at ops outer inner h = met_performs g b x own a m ts caller k at ops outer inner h
   meeting_by (Some r) a m ts caller k at ops outer inner h =
       let write = replica_code (site_of g b x) (Some r) in
-      written_performs (with_accept g a.scope caller) b x r h.2 (met g b x a m ts caller k) at ops h.0 h.1
+      written_performs (with_accept g a.scope caller) b x own r h.2 (met g b x own a m ts caller k) at ops h.0 h.1
       (stands_shown g g.view (a.scope ∷ g.accepts) (caller ∷ g.meetings) at h.2 (length ops) write h.3)
-      (led_inside a.scope caller (at + write.size) h.4.0 (met g b x a m ts caller k) ops h.4.1 (met_performs g b x a m ts caller k h.4.0 ops outer inner h.4.2))
+      (led_inside a.scope caller (at + write.size) h.4.0 (met g b x own a m ts caller k) ops h.4.1
+      (met_performs g b x own a m ts caller k h.4.0 ops outer inner h.4.2))
 
-  pub meeting_performs : MeetingPerforms g b x
-  meeting_performs o a caller k at ops outer inner h = meeting_by o.replica a o.next o.stmts caller k at ops outer inner h
+pub branch_performs : (g : Setting) (b : Block) (x : Context) → BranchPerforms g b x
+branch_performs g b x own r m ts k at ops h = branch_leads g b x own r m ts k at ops h
+
+pub meeting_performs : (g : Setting) (b : Block) (x : Context) → MeetingPerforms g b x
+meeting_performs g b x own o a caller k at ops outer inner h = meeting_by g b x own o.replica a o.next o.stmts caller k at ops outer inner h

@@ -11,14 +11,15 @@ use Rattle.pfc_semantics.specs.Statements.{behind}
 use Rattle.pfc_translation.specs.Codes.{Code, Lined, nothing, ◌⨾◌}
 use Rattle.pfc_translation.specs.Operands.{most_operands}
 use Rattle.pfc_translation.specs.Images.{instructions}
-use Rattle.pfc_standing_code.specs.Settings.{Setting, site_of, IsAt, HasCode, HasTexts, Stands, Leads, arrived, jump}
+use Rattle.pfc_standing_code.specs.Settings.{Setting, of_own, site_of, IsAt, HasCode, HasTexts, Stands, Leads, arrived, jump}
 use Rattle.pfc_standing_code.specs.Effects.{Arm}
 use Rattle.pfc_standing_code.specs.Performs.{StmtsThen, Performs}
 
 -- what is left is performed from a jump on
 pub performs_jumped : (g : Setting) (b : Block) (env : Env) (k : Remainder) (at to : ℕ) (ops : List ℤ) (arms : List Arm) (line : ℕ) → IsAt g at (JMP to) line → at < to → Performs g b env to ops arms k → Performs g b env at ops arms k
-performs_jumped g b env (in_names inner k) at to ops arms line is up h = (h.0, h.1, h.2, performs_jumped g h.0 inner k at to ops arms line is up h.3)
-performs_jumped g b env (go_through l a rest sel k) at to ops arms line is up h = (h.0, jump at to h.0 line is up h.1, h.2)
+performs_jumped g b env (in_names inner k) at to ops arms line is up h =
+    let p = h.1 in (h.0, (p.0, p.1, p.2, performs_jumped g p.0 inner k at to ops arms line is up p.3))
+performs_jumped g b env (go_through l a rest sel k) at to ops arms line is up h = (h.0, (h.1.0, jump at to h.1.0 line is up h.1.1, h.1.2))
 performs_jumped g b env (ends l) at to ops arms line is up h = (h.0, (h.1.0, jump at to h.1.0 line is up h.1.1, h.1.2))
 performs_jumped g b env (perform m ts k) at to ops arms line is up h = (h.0, (h.1.0, jump at to h.1.0 line is up h.1.1, h.1.2))
 performs_jumped g b env (turn m t k) at to ops arms line is up h = (h.0, (h.1.0, jump at to h.1.0 line is up h.1.1, h.1.2))
@@ -56,6 +57,7 @@ stands_alone g at n held c st =
 -- statements that stand here, and what is left behind them
 pub behind_performs :
     (g : Setting) (b : Block) (env : Env) (line m : ℕ) (ts : StmtTrees) (k : Remainder) (at : ℕ) (ops : List ℤ)
-    → StmtsThen g (site_of g b (context env line)) at (length ops) m ts (λ end. Performs g b env end ops [] k) → Performs g b env at ops [] (behind m ts k)
-behind_performs g b env line m no_stmts k at ops h = performs_at g b env k (at + 0) at ops (omega arith) h.2
-behind_performs g b env line m (more_stmts t ts) k at ops h = (refl, (at, arrived at, (line, h)))
+    → g.trial ≡ of_own → StmtsThen g (site_of g b (context env line)) at (length ops) m ts (λ end. Performs g b env end ops [] k)
+    → Performs g b env at ops [] (behind m ts k)
+behind_performs g b env line m no_stmts k at ops own h = performs_at g b env k (at + 0) at ops (omega arith) h.2
+behind_performs g b env line m (more_stmts t ts) k at ops own h = ((own, refl), (at, arrived at, (line, h)))

@@ -22,7 +22,7 @@ use Rattle.pfc_translation.specs.Codes.{Code, nothing, ◌⨾◌, one, over, wit
 use Rattle.pfc_translation.specs.Selects.{replica_code, alternatives_code}
 use Rattle.pfc_translation.specs.Statements.{spread_of, spread_replicas, chosen_code, replica_branches, branches_from, sel_code, select_code, stmt_code, stmts_code, met_code, branch_code, branches_code, distances}
 use Rattle.pfc_standing_code.specs.Sizes.{IsSized}
-use Rattle.pfc_standing_code.specs.Settings.{Setting, site_of, IsAt, Stands, arrived, jump}
+use Rattle.pfc_standing_code.specs.Settings.{Setting, of_own, site_of, IsAt, Stands, arrived, jump}
 use Rattle.pfc_standing_code.specs.TypedStatements.{IsSimpleVariable, IsReplica, IsSpread, AcceptsEntry, AreTyped, IsMetTyped, IsAltTyped, AreAltsTyped}
 use Rattle.pfc_standing_code.specs.Words.{IsChecked}
 use Rattle.pfc_standing_code.specs.Performs.{MetAt, BranchAt, accepted_in, CommBranchAt, BranchesAt, DecidesAt, SelectAt, StmtThen, StmtsThen}
@@ -74,7 +74,8 @@ branch_size s m (alt spread guard (comm_send d e p) ss) i j = refl
 branch_size s m (alt spread guard (comm_receive d v p) ss) i j = refl
 branch_size s m (alt spread guard (timeout e p) ss) i j = refl
 
-module _ (g : Setting) (b : Block) (names : List Level) (around : Around) (checked : IsChecked g b (env_in g names around)) (line : ℕ) (k : Remainder) (ops : List ℤ) where
+module _ (g : Setting) (b : Block) (names : List Level) (around : Around) (checked : IsChecked g b (env_in g names around)) (own : g.trial ≡ of_own)
+    (line : ℕ) (k : Remainder) (ops : List ℤ) where
   abbrev x : Context
   x = record { env = env_in g names around; line = line }
 
@@ -304,8 +305,10 @@ module _ (g : Setting) (b : Block) (names : List Level) (around : Around) (check
         };
         open_ones = tt;
         room = omega arith;
+        end = end;
+        left_behind = left;
       } in
-      all_follow g b names around checked line k all sel at ops [] (omega arith) stands
+      all_follow g b names around checked own line k all sel at ops [] (omega arith) stands
 
   -- the room for the alternatives is told beside the code
   unarmed : (n at i : ℕ) (code : Code) → Stands g at i held (with_arms n code) → Stands g at i held code

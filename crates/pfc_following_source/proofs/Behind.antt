@@ -33,7 +33,7 @@ use Rattle.pfc_translation.specs.Calls.{write_instr, read_instr, enter_instr, fo
 use Rattle.pfc_translation.specs.Operands.{arguments, takes}
 use Rattle.pfc_cells.specs.Shapes.{words_of}
 use Rattle.pfc_standing_code.specs.Shapes.{a_number, a_whole, shape_of, shape_cells, IsSound, IsOf, is_number, is_array, is_record, IsShaped}
-use Rattle.pfc_standing_code.specs.Settings.{View, Setting, site_of, with_accept, parted, IsAt, arrived}
+use Rattle.pfc_standing_code.specs.Settings.{View, Setting, of_own, site_of, with_accept, parted, IsAt, arrived}
 use Rattle.pfc_standing_code.specs.Effects.{Arm}
 use Rattle.pfc_standing_code.specs.Typed.{unlined}
 use Rattle.pfc_standing_code.specs.Words.{IsChecked, IsArgument, AreHeldAt, none_held, one_more}
@@ -236,7 +236,8 @@ module _ (g : Setting) (b : Block) (at : ℕ) where
     of_call : (taken ops below : List ℤ) (arms : List Arm) (formals : List Formal) (call : Call) → length ops ≤ g.room → ops ≡ taken ++ below
         → length taken ≡ formals_cells g.program.state.forms formals → CallsAt g b x at below arms formals call → BehindCall g b at ops arms x call
     of_call taken ops below arms formals (to_procedure scope k) fit e size h = left k _ taken ops below fit h.1.3 e (size ∙ sym h.1.1) h.1.4
-    of_call taken ops below arms formals (to_function scope u) fit e size h = gives x u arms _ x.line taken ops below h.4 checked h.3 e (size ∙ sym h.1) h.5
+    of_call taken ops below arms formals (to_function scope u) fit e size h =
+        let p = h.1 in gives x u arms _ x.line taken ops below p.4 checked p.3 e (size ∙ sym p.1) p.5
     of_call taken ops below arms formals (to_module n scope k) fit e size h =
         left k _ taken ops below fit h.1.2 e (size ∙ sym h.1.1 ∙ entered (module_at g.program.state.blocks n).resource
         (module_number g.program.state.blocks n) (block_number g.program scope)) h.1.3
@@ -272,9 +273,9 @@ module _ (g : Setting) (b : Block) (at : ℕ) where
     received_count channel z held _ (into_nothing t u n carries object signal none e) = ap (λ (y : List ℤ). length y) e ∙ ap receiving (sym none)
 
     of_accept :
-        (ops : List ℤ) (a : Accepting) (o : Open) (k : Remainder) (to : ℕ) → length ops ≤ g.room
+        (ops : List ℤ) (a : Accepting) (o : Open) (k : Remainder) (to : ℕ) → g.trial ≡ of_own → length ops ≤ g.room
         → BranchAt g (site_of g b x) to (length ops) o.replica (Some a) o.next o.stmts (Behind g b x ops k) → BehindAccept g b to ops x a o k
-    of_accept ops a o k to fit branch =
+    of_accept ops a o k to alone fit branch =
         λ view caller outer inner kept.
         let later : Setting = record g { view = view } in
         let inside : Setting = with_accept later a.scope caller in
@@ -283,27 +284,28 @@ module _ (g : Setting) (b : Block) (at : ℕ) where
           fit,
           (
             checked_for inside b x.env (meeting_of x a o caller k) (checked_with later b x.env a.scope caller outer),
-            meeting_performs later b x o a caller k to ops outer inner seen,
+            meeting_performs later b x alone o a caller k to ops outer inner seen,
           ),
         )
 
-    of_meeting : (ops : List ℤ) (o : Open) (offer : Offer) (k : Remainder) → length ops ≤ g.room → o.replica ≡ None → MeetsBy g b x at ops o offer k
+    of_meeting : (ops : List ℤ) (o : Open) (offer : Offer) (k : Remainder) → g.trial ≡ of_own → length ops ≤ g.room → o.replica ≡ None
+        → MeetsBy g b x at ops o offer k
         → BehindMeeting g b at ops x o offer k
-    of_meeting ops o (to_send channel v) k fit plain h = left k _ h.1 ops h.2 fit h.5 h.3 (sent_count channel v h.0 h.1 h.4) h.6
-    of_meeting ops o (to_receive channel target) k fit plain h = left k _ h.1 ops h.2 fit h.5 h.3 (received_count channel h.0 h.1 target h.4) h.6
-    of_meeting ops o (to_accept a) k fit plain h =
-        of_accept ops a o k (at + 1) fit
+    of_meeting ops o (to_send channel v) k alone fit plain h = left k _ h.1 ops h.2 fit h.5 h.3 (sent_count channel v h.0 h.1 h.4) h.6
+    of_meeting ops o (to_receive channel target) k alone fit plain h = left k _ h.1 ops h.2 fit h.5 h.3 (received_count channel h.0 h.1 target h.4) h.6
+    of_meeting ops o (to_accept a) k alone fit plain h =
+        of_accept ops a o k (at + 1) alone fit
         (subst (λ (r : Option Replica). BranchAt g (site_of g b x) (at + 1) (length ops) r (Some a) o.next o.stmts (Behind g b x ops k)) (sym plain) h.1)
-    of_meeting ops o (to_wait n) k fit plain h = absurd h
-    of_meeting ops o to_end k fit plain h = absurd h
+    of_meeting ops o (to_wait n) k alone fit plain h = absurd h
+    of_meeting ops o to_end k alone fit plain h = absurd h
 
     of_else :
-        (ops : List ℤ) (pri : Bool) (otherwise : Option Otherwise) (k : Remainder) → length ops ≤ g.room
+        (ops : List ℤ) (pri : Bool) (otherwise : Option Otherwise) (k : Remainder) → g.trial ≡ of_own → length ops ≤ g.room
         → DecidesAt g (site_of g b x) at (length ops) pri otherwise (Behind g b x ops k) → BehindElse g b at ops x otherwise k
-    of_else ops pri None k fit h = tt
-    of_else ops pri (Some other) k fit h = λ p to line there.
+    of_else ops pri None k alone fit h = tt
+    of_else ops pri (Some other) k alone fit h = λ p to line there.
         let same = ap else_of (same_instr g at (SEL (if pri then 1 else 0) h.0) (SEL p to) x.line line h.1 there) in
-        let rest = behind_performs g b x.env x.line other.next other.stmts k h.0 ops h.3 in (
+        let rest = behind_performs g b x.env x.line other.next other.stmts k h.0 ops alone h.3 in (
           fit,
           (
             checked_for g b x.env (behind other.next other.stmts k) checked,
@@ -317,30 +319,30 @@ module _ (g : Setting) (b : Block) (at : ℕ) where
         else_of i = 0
 
     -- an alternative leads to its branch
-    of_branch : (ops : List ℤ) (o : Open) (arm : Arm) (k : Remainder) (i : Instr) → length ops ≤ g.room → arm.by ≡ i
+    of_branch : (ops : List ℤ) (o : Open) (arm : Arm) (k : Remainder) (i : Instr) → g.trial ≡ of_own → length ops ≤ g.room → arm.by ≡ i
         → BranchAt g (site_of g b x) (branch_of i) (length ops) o.replica None o.next o.stmts (Behind g b x ops k)
         → GoesOnAt g b (branch_of arm.by) ops [] (going x.env (behind_open o k))
-    of_branch ops o arm k i fit e branch =
+    of_branch ops o arm k i alone fit e branch =
         subst (λ (y : Instr). GoesOnAt g b (branch_of y) ops [] (going x.env (behind_open o k))) (sym e)
-        (fit, (checked_for g b x.env (behind_open o k) checked, branch_performs g b x o.replica o.next o.stmts k (branch_of i) ops branch))
+        (fit, (checked_for g b x.env (behind_open o k) checked, branch_performs g b x alone o.replica o.next o.stmts k (branch_of i) ops branch))
 
     of_open :
-        (ops : List ℤ) (o : Open) (offer : Offer) (arm : Arm) (k : Remainder) → length ops ≤ g.room
+        (ops : List ℤ) (o : Open) (offer : Offer) (arm : Arm) (k : Remainder) → g.trial ≡ of_own → length ops ≤ g.room
         → IsOpen g (site_of g b x) (length ops) o offer arm (Behind g b x ops k) → BehindOpen g b ops x o offer (branch_of arm.by) k
-    of_open ops o (to_send channel v) arm k fit h = of_branch ops o arm k (ARMS h.1 h.0) fit h.2 h.4
-    of_open ops o (to_receive channel target) arm k fit h = of_branch ops o arm k (ARMR h.1 h.0) fit h.2 h.4
-    of_open ops o (to_accept a) arm k fit h =
-        subst (λ (y : Instr). BehindAccept g b (branch_of y) ops x a o k) (sym h.1) (of_accept ops a o k h.0 fit h.3)
-    of_open ops o (to_wait n) arm k fit h = of_branch ops o arm k (ARMT h.0) fit h.1 h.4
-    of_open ops o to_end arm k fit h = tt
+    of_open ops o (to_send channel v) arm k alone fit h = of_branch ops o arm k (ARMS h.1 h.0) alone fit h.2 h.4
+    of_open ops o (to_receive channel target) arm k alone fit h = of_branch ops o arm k (ARMR h.1 h.0) alone fit h.2 h.4
+    of_open ops o (to_accept a) arm k alone fit h =
+        subst (λ (y : Instr). BehindAccept g b (branch_of y) ops x a o k) (sym h.1) (of_accept ops a o k h.0 alone fit h.3)
+    of_open ops o (to_wait n) arm k alone fit h = of_branch ops o arm k (ARMT h.0) alone fit h.1 h.4
+    of_open ops o to_end arm k alone fit h = tt
 
     of_all :
-        (ops : List ℤ) (os : List Open) (arms : List Arm) (k : Remainder) → length ops ≤ g.room
+        (ops : List ℤ) (os : List Open) (arms : List Arm) (k : Remainder) → g.trial ≡ of_own → length ops ≤ g.room
         → AreOpen g (site_of g b x) (length ops) os arms (Behind g b x ops k) → BehindAll g b ops x os arms k
-    of_all ops [] [] k fit h = tt
-    of_all ops [] (arm ∷ arms) k fit h = absurd h
-    of_all ops (o ∷ os) [] k fit h = absurd h
-    of_all ops (o ∷ os) (arm ∷ arms) k fit h = (of_open ops o o.offer arm k fit h.0, of_all ops os arms k fit h.1)
+    of_all ops [] [] k alone fit h = tt
+    of_all ops [] (arm ∷ arms) k alone fit h = absurd h
+    of_all ops (o ∷ os) [] k alone fit h = absurd h
+    of_all ops (o ∷ os) (arm ∷ arms) k alone fit h = (of_open ops o o.offer arm k alone fit h.0, of_all ops os arms k alone fit h.1)
 
   -- ## Scans
 
@@ -354,7 +356,7 @@ module _ (g : Setting) (b : Block) (at : ℕ) where
           (λ end. PerformsAnywhere (own_again g) (own_block g.trial g.block) end below k)
           → BehindScan g below x way k
       by leave h = (fit, h x.env)
-      by (own bar) h = (fit, (tt, (refl, (behind_scan g.trial, arrived (behind_scan g.trial), (refl, h.1, h.2)))))
+      by (own bar) h = (fit, (tt, ((refl, refl), (behind_scan g.trial, arrived (behind_scan g.trial), (h.1, h.2)))))
 
   of_pass :
       (x : Context) (below : List ℤ) (scan : Scan) (k : Remainder) → length below ≤ own_room g.trial g.room → BehindScanAt g scan below k
@@ -366,14 +368,14 @@ module _ (g : Setting) (b : Block) (at : ℕ) where
           (λ end. PerformsAnywhere (own_again g) (own_block g.trial g.block) end below k)
           → BehindPass g below x way k
       by leave h = (fit, h x.env)
-      by (own bar) h = let guard = h.2 in (h.1, (guard.0, guard.1, guard.2, guard.3, (fit, guard.4 x.env)))
+      by (own bar) h = let guard = h.2 in (h.1, (guard.0, guard.1, guard.2, guard.3, (fit, guard.4 x.env), guard.5))
 
   -- ## Every action
 
   pub leads_on : (n : Action) (ops : List ℤ) (arms : List Arm) → length ops ≤ g.room → AreChecked g b (names_of n) → ArrivedBy g b at ops arms n
       → LeavesBehind g b at ops arms n
   leads_on (reads x v u) ops arms fit checked h = of_value_read x checked v u ops arms h
-  leads_on (writes x v new k) ops arms fit checked h = of_write x checked v new k ops arms fit h
+  leads_on (writes x v new k) ops arms fit checked h = of_write x checked v new k ops arms fit h.1
   leads_on (turns x k) ops arms fit checked h = of_turn x checked ops k fit h.1
   leads_on (calls x call given) ops arms fit checked h =
       let held = held_taken g.program.state.forms checked.sound g.view
@@ -388,13 +390,19 @@ module _ (g : Setting) (b : Block) (at : ℕ) where
       taken Boolean = refl
       taken Char = refl
   leads_on (skips x k) ops arms fit checked h = left x checked k RDNL [] ops ops fit h.1.0 refl refl h.1.1
-  leads_on (asks_eof x u) ops arms fit checked h = gives x u arms EOF x.line [] ops ops h.1 checked h.0 refl refl h.2
-  leads_on (asks_eoln x u) ops arms fit checked h = gives x u arms EOLN x.line [] ops ops h.1 checked h.0 refl refl h.2
-  leads_on (asks_clock x u) ops arms fit checked h = gives x u arms CLOCK x.line [] ops ops h.1 checked h.0 refl refl h.2
+  leads_on (asks_eof x u) ops arms fit checked h =
+      let p = h.1 in gives x u arms EOF x.line [] ops ops p.1 checked p.0 refl refl p.2
+  leads_on (asks_eoln x u) ops arms fit checked h =
+      let p = h.1 in gives x u arms EOLN x.line [] ops ops p.1 checked p.0 refl refl p.2
+  leads_on (asks_clock x u) ops arms fit checked h =
+      let p = h.1 in gives x u arms CLOCK x.line [] ops ops p.1 checked p.0 refl refl p.2
   leads_on (asks_empty x v u) ops arms fit checked h =
-      let size = ap (λ (y : List ℤ). length y) h.2 in gives x u arms EMPTY x.line (h.0 ∷ []) ops h.1 (omega (arith, size, fit)) checked h.4 h.2 refl h.5
+      let p = h.1 in
+      let size = ap (λ (y : List ℤ). length y) p.2 in
+      gives x u arms EMPTY x.line (p.0 ∷ []) ops p.1 (omega (arith, size, fit)) checked p.4 p.2 refl p.5
   leads_on (draws x n u) ops arms fit checked h =
-      let size = ap (λ (y : List ℤ). length y) h.1 in gives x u arms RAND x.line (n ∷ []) ops h.0 (omega (arith, size, fit)) checked h.2 h.1 refl h.3
+      let p = h.1 in
+      let size = ap (λ (y : List ℤ). length y) p.1 in gives x u arms RAND x.line (n ∷ []) ops p.0 (omega (arith, size, fit)) checked p.2 p.1 refl p.3
   leads_on (joins x k) ops arms fit checked h = left x checked k COEND [] ops ops fit h.1.0 refl refl h.1.1
   leads_on (initials x v n k) ops arms fit checked h =
       let p = h.1 in left x checked k SINI (n ∷ p.2.0 ∷ []) ops p.2.1 fit p.2.4 (p.1 ∙ ap (λ (y : List ℤ). n ∷ y) p.2.2) refl p.2.5
@@ -404,8 +412,9 @@ module _ (g : Setting) (b : Block) (at : ℕ) where
       let p = h.1 in left x checked k DELAY (n ∷ p.2.0 ∷ []) ops p.2.1 fit p.2.4 (p.1 ∙ ap (λ (y : List ℤ). n ∷ y) p.2.2) refl p.2.5
   leads_on (resumes x v k) ops arms fit checked h = let p = h.1 in left x checked k RESUME (p.0 ∷ []) ops p.1 fit p.4 p.2 refl p.5
   leads_on (sleeps x n k) ops arms fit checked h = let p = h.1 in left x checked k SLEEP (n ∷ []) ops p.0 fit p.2 p.1 refl p.3
-  leads_on (meets x o k) ops arms fit checked h = of_meeting x checked ops o o.offer k fit h.1.0.0 h.1.1
-  leads_on (decides x sel k) ops arms fit checked h = (of_else x checked ops sel.pri sel.otherwise k fit h.0, of_all x checked ops sel.offered arms k fit h.1)
+  leads_on (meets x o k) ops arms fit checked h = of_meeting x checked ops o o.offer k h.0.0 fit h.1.0.0 h.1.1
+  leads_on (decides x sel k) ops arms fit checked h =
+      let p = h.1 in (of_else x checked ops sel.pri sel.otherwise k h.0 fit p.0, of_all x checked ops sel.offered arms k h.0 fit p.1)
   leads_on (parts x caller k) ops arms fit checked h =
       over ops (λ below. GoesOnAt (parted g) b (at + 1) below [] (going x.env k)) EACC x.line [] ops h.1.0 refl refl (fit, (h.1.2, h.1.3))
   leads_on (scans x scan k) ops arms fit checked h = (
@@ -418,8 +427,8 @@ module _ (g : Setting) (b : Block) (at : ℕ) where
   )
   leads_on (bars x bar k) ops arms fit checked h =
       let p = h.1 in
-      let known = p.7 x.env in
-      goes x k (GRD bar.resource) x.line (p.0 ∷ []) ops p.1 [] fit known.0 p.6 p.2 refl known.1
+      let known = p.6 x.env in
+      goes x k (GRD bar.resource) x.line (p.0 ∷ []) ops p.1 [] fit known.0 p.5 p.2 refl known.1
   leads_on (passes x w scan k) ops arms fit checked h =
       let p = h.1 in
       over ops (λ below. BehindPass g below x scan.way k) (GRD scan.resource) x.line (p.0 ∷ []) p.1 p.5 p.3 refl (of_pass x p.1 scan k p.2.room p.6)

@@ -1,4 +1,4 @@
-mod Places
-mod Source
-mod Behind
-mod Meetings
+pub mod Places
+pub mod Source
+pub mod Behind
+pub mod Meetings

@@ -44,9 +44,9 @@ module _ (g : Setting) (at : ℕ) where
 
   of_call : (b : Block) (x : Context) (below : List ℤ) (arms : List Arm) (formals : List Formal) (call : Call) → CallsAt g b x at below arms formals call → There g at
   of_call b x below arms formals (to_procedure scope k) h = there _ _ h.1.3
-  of_call b x below arms formals (to_function scope u) h = there _ _ h.3
+  of_call b x below arms formals (to_function scope u) h = there _ _ h.1.3
   of_call b x below arms formals (to_module n scope k) h = there _ _ h.1.2
-  of_call b x below arms formals (to_requeue scope) h = there _ _ h.1.2
+  of_call b x below arms formals (to_requeue scope) h = there _ _ h.1.3
   of_call b x below arms formals (to_process v k) h = there _ _ h.1.10
   of_call b x below arms formals (to_entry v entry k) h = there _ _ h.1.9
 
@@ -63,18 +63,18 @@ module _ (g : Setting) (at : ℕ) where
 
   pub stands_there : (n : Action) (ops : List ℤ) (arms : List Arm) → Arrived g at ops arms n → There g at
   stands_there (reads x v u) ops arms h = there _ _ h.2.5
-  stands_there (writes x v new k) ops arms h = of_write h.2
+  stands_there (writes x v new k) ops arms h = of_write h.2.1
   stands_there (turns x k) ops arms h = of_turn h.2.1
   stands_there (calls x call given) ops arms h = of_call h.0 x h.2.1 arms h.2.0 call h.2.3
   stands_there (finishes line) ops arms h = there _ _ h.2.1.1
   stands_there (prints x bytes k) ops arms h = of_piece h.2.1.1
   stands_there (inputs x t v k) ops arms h = there _ _ h.2.1.4
   stands_there (skips x k) ops arms h = there _ _ h.2.1.0
-  stands_there (asks_eof x u) ops arms h = there _ _ h.2.0
-  stands_there (asks_eoln x u) ops arms h = there _ _ h.2.0
-  stands_there (asks_clock x u) ops arms h = there _ _ h.2.0
-  stands_there (asks_empty x v u) ops arms h = there _ _ h.2.4
-  stands_there (draws x n u) ops arms h = there _ _ h.2.2
+  stands_there (asks_eof x u) ops arms h = there _ _ h.2.1.0
+  stands_there (asks_eoln x u) ops arms h = there _ _ h.2.1.0
+  stands_there (asks_clock x u) ops arms h = there _ _ h.2.1.0
+  stands_there (asks_empty x v u) ops arms h = there _ _ h.2.1.4
+  stands_there (draws x n u) ops arms h = there _ _ h.2.1.2
   stands_there (joins x k) ops arms h = there _ _ h.2.1.0
   stands_there (initials x v n k) ops arms h = there _ _ h.2.1.2.4
   stands_there (waits x v k) ops arms h = there _ _ h.2.1.4
@@ -83,9 +83,9 @@ module _ (g : Setting) (at : ℕ) where
   stands_there (resumes x v k) ops arms h = there _ _ h.2.1.4
   stands_there (sleeps x n k) ops arms h = there _ _ h.2.1.2
   stands_there (meets x o k) ops arms h = of_meeting h.0 x ops o o.offer k h.2.1.1
-  stands_there (decides x sel k) ops arms h = of_decision _ (length ops) sel.pri sel.otherwise _ h.2.0
+  stands_there (decides x sel k) ops arms h = of_decision _ (length ops) sel.pri sel.otherwise _ h.2.1.0
   stands_there (parts x caller k) ops arms h = there _ _ h.2.1.0
   stands_there (scans x scan k) ops arms h = there _ _ h.2.1.2
-  stands_there (bars x bar k) ops arms h = there _ _ h.2.1.6
+  stands_there (bars x bar k) ops arms h = there _ _ h.2.1.5
   stands_there (passes x w scan k) ops arms h = there _ _ h.2.1.5
   stands_there (faults x f) ops arms h = of_fault h.2

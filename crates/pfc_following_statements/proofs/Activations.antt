@@ -30,7 +30,7 @@ use Rattle.pfc_translation.specs.Addresses.{base_code, element_in, type_behind}
 use Rattle.pfc_translation.specs.Expressions.{args_code, selectors_code}
 use Rattle.pfc_translation.specs.Calls.{formals_cells, exported_code, module_code, activation_code, entry_code, process_code, field_code, called_variable, called_process, called_code, found_code, call_code}
 use Rattle.pfc_code_laws.proofs.Expressions.{plain_selectors}
-use Rattle.pfc_standing_code.specs.Settings.{Setting, site_of, IsAt, Stands}
+use Rattle.pfc_standing_code.specs.Settings.{Setting, of_own, site_of, IsAt, Stands}
 use Rattle.pfc_standing_code.specs.Typed.{IsDeclared, IsField as IsPartField, AreArguments, AreSelectors, AreIndices}
 use Rattle.pfc_standing_code.specs.TypedStatements.{HasProcessForm, IsProcessType, IsActivation, IsEntryCall, IsEntry, IsProcess, IsField, IsCalledVariable, IsCalledProcess, IsExported, IsModuleCall, IsCalled, IsCall}
 use Rattle.pfc_standing_code.specs.Words.{first_word, IsWord, IsObject, IsChecked, none_held}
@@ -53,7 +53,8 @@ field_behind : (forms : Forms) (t : Option TypeId) (y : Text) → (is : IsPartFi
 field_behind forms t y is =
     ap (λ (o : Option TypeId). field_type forms o y) is.typed ∙ ap (λ (f : Option TypeForm). field_form f y) is.form ∙ is.named
 
-module _ (g : Setting) (b : Block) (names : List Level) (around : Around) (checked : IsChecked g b (env_in g names around)) (few : 0 ≤ g.arms) (line : ℕ) where
+module _ (g : Setting) (b : Block) (names : List Level) (around : Around) (checked : IsChecked g b (env_in g names around)) (few : 0 ≤ g.arms)
+    (own : g.trial ≡ of_own) (line : ℕ) where
   abbrev x : Context
   x = record { env = env_in g names around; line = line }
 
@@ -148,15 +149,15 @@ module _ (g : Setting) (b : Block) (names : List Level) (around : Around) (check
       let mid = at + address.size in
       let sized = sized_both (base_code s v.spot) (selectors_code s v.t ss) (sized_base s v.spot)
       (sized_plain (selectors_code s v.t ss) (plain_selectors s v.t ss)) in
-      let parts = object_parts g b names around checked few line address code at n (length ops) sized (part_changes s checked.sound v ss t selects)
+      let parts = object_parts g b names around checked few own line address code at n (length ops) sized (part_changes s checked.sound v ss t selects)
       (first_joined g address (one s OBJ) code st) in
-      let after = performs_moved g b names around checked few line to (mid + 1 + code.size) ops k (sym ends ∙ omega arith) rest in
+      let after = performs_moved g b names around checked few own line to (mid + 1 + code.size) ops k (sym ends ∙ omega arith) rest in
       let last = back g inner (one s i) (w + suc (length ops)) (sized_args s formals args)
       (held_grown g.program inner w (args_change s checked.sound formals args fit) (mid + 1) parts.i (suc (length ops))) parts.behind in
       let is_it = lone g s (λ at n. i) last in
-      let after_last = performs_moved g b names around checked few line (mid + 1 + code.size) (mid + 1 + inner.size + 1) ops k (omega arith) after in
+      let after_last = performs_moved g b names around checked few own line (mid + 1 + code.size) (mid + 1 + inner.size + 1) ops k (omega arith) after in
       reach (λ p. from_args x formals args [] (call p)) at n mid ops declared selects process parts.first refl (parts.obj, parts.i, parts.behind, after)
-      (λ p y is lies. numbered_follows g b names around checked few line p.spot t y mid ops lies (process_is_object s q p.spot t is) parts.obj parts.room
+      (λ p y is lies. numbered_follows g b names around checked few own line p.spot t y mid ops lies (process_is_object s q p.spot t is) parts.obj parts.room
       (λ j object. arguments_follow g b x checked [] few args formals fit [] [] (call p) (mid + 1) parts.i (j ∷ ops) (j ∷ ops) (none_held (j ∷ ops))
       (front g inner (one s i) parts.behind) (calls p (mid + 1 + inner.size) j is object is_it after_last)))
 
@@ -167,7 +168,7 @@ module _ (g : Setting) (b : Block) (names : List Level) (around : Around) (check
       → Follows g (from_activation x v ss (process_at g.program.state.blocks q).formals args k) at ops []
   activation_follows q v ss args k at n to ops is st ends rest =
       process_then q v ss is.t head.formals args new goal (λ p. to_process p.spot k) k at n to ops (reach is.t) is.called.0 is.called.1 is.process is.arguments
-      st ends rest (λ p at j process object there rest. (refl, (is.t, q, j, ops, process, is.among, refl, is.taken, refl, object, there, rest)))
+      st ends rest (λ p at j process object there rest. ((own, refl), (is.t, q, j, ops, process, is.among, refl, is.taken, refl, object, there, rest)))
     where
       head : ProcessHead
       head = process_at g.program.state.blocks q
@@ -182,7 +183,7 @@ module _ (g : Setting) (b : Block) (names : List Level) (around : Around) (check
       reach None = reached_single q v ss (args_code s head.formals args ⨾ one s new) goal k
       reach (Some u) =
           reached_part q v ss u (args_code s head.formals args ⨾ one s new) goal k
-          (λ at ops process object. (refl, (q, u, refl, process, is.among, refl, object, is.arguments, is.taken)))
+          (λ at ops process object. ((own, refl), (q, u, refl, process, is.among, refl, object, is.arguments, is.taken)))
 
   pub entry_call_follows :
       (q entry : ℕ) (v : TypedSpot) (ss : SelectorTrees) (args : ActualTrees) (k : Remainder) (go : Action) (at n to : ℕ) (ops : List ℤ)
@@ -191,7 +192,7 @@ module _ (g : Setting) (b : Block) (names : List Level) (around : Around) (check
       → Follows g (from_entry x q v ss (Some (Entry entry)) args k go) at ops []
   entry_call_follows q entry v ss args k go at n to ops is st ends rest =
       process_then q v ss is.t formals args calls goal (λ p. to_entry p.spot entry k) k at n to ops (reach is.t) is.called.0 is.called.1 is.process is.arguments
-      st ends rest (λ p at j process object there rest. (refl, (is.t, q, j, ops, process, is.among, refl, refl, object, there, rest)))
+      st ends rest (λ p at j process object there rest. ((own, refl), (is.t, q, j, ops, process, is.among, refl, refl, object, there, rest)))
     where
       formals : List Formal
       formals = entry_at g.program.state.blocks q entry
@@ -206,7 +207,7 @@ module _ (g : Setting) (b : Block) (names : List Level) (around : Around) (check
       reach None = reached_single q v ss (args_code s formals args ⨾ one s calls) goal k
       reach (Some u) =
           reached_part q v ss u (args_code s formals args ⨾ one s calls) goal k
-          (λ at ops process object. (refl, (q, u, refl, process, is.among, refl, object, is.arguments)))
+          (λ at ops process object. ((own, refl), (q, u, refl, process, is.among, refl, object, is.arguments)))
 
   -- ## Every call
 
@@ -256,7 +257,8 @@ module _ (g : Setting) (b : Block) (names : List Level) (around : Around) (check
   single_runs found q (Some y) args k go is = entry_runs q (name_in_process (blocks_of s) q y.0) (spot found) no_selectors args k go is
 
   exported_runs : (q : ℕ) (m : Option Meaning) (args : ActualTrees) (k : Remainder) (go : Action) → IsExported s m args → Runs (exported_code s q m args) k go (from_exported x q m args k go)
-  exported_runs q (Some (Sub j)) args k go is = λ at n to ops st ends rest on. exported_follows g b names around checked few line q j args k at n to ops is st ends rest
+  exported_runs q (Some (Sub j)) args k go is =
+      λ at n to ops st ends rest on. exported_follows g b names around checked few own line q j args k at n to ops is st ends rest
   exported_runs q None args k go is = absurd is
   exported_runs q (Some (Constant t j)) args k go is = absurd is
   exported_runs q (Some (Named t)) args k go is = absurd is
@@ -274,8 +276,10 @@ module _ (g : Setting) (b : Block) (names : List Level) (around : Around) (check
   called_runs :
       (found : Found) (m : Meaning) (ss : SelectorTrees) (args : ActualTrees) (k : Remainder) (go : Action) → IsCalled s (Some m) (spot found) ss args
       → Runs (called_code s found m ss args) k go (from_called x (Some m) (spot found) ss args k go)
-  called_runs found (Predeclared j) ss args k go is = λ at n to ops st ends rest on. procedure_follows g b names around checked few line (procedure_of j) args k go at n to ops is st ends rest on
-  called_runs found (Sub j) ss args k go is = λ at n to ops st ends rest on. sub_follows g b names around checked few line j args k at n to ops is st ends rest
+  called_runs found (Predeclared j) ss args k go is =
+      λ at n to ops st ends rest on. procedure_follows g b names around checked few own line (procedure_of j) args k go at n to ops is st ends rest on
+  called_runs found (Sub j) ss args k go is =
+      λ at n to ops st ends rest on. sub_follows g b names around checked few own line j args k at n to ops is st ends rest
   called_runs found (Module j) ss args k go is = module_runs j (last_field ss) args k go is
   called_runs found (Process j) ss args k go is = single_runs found j (last_field ss) args k go is
   called_runs found (Variable t r) ss args k go is = variable_runs found ss t (last_field ss) args k go is.0 is.1

@@ -19,7 +19,7 @@ use Rattle.pfc_translation.specs.Expressions.{expr_code, first_value, first_addr
 use Rattle.pfc_translation.specs.Calls.{first_object, given_code, rank_code, procedure_code}
 use Rattle.pfc_code_laws.proofs.Expressions.{plain_first, plain_first_address}
 use Rattle.pfc_standing_code.specs.Shapes.{a_number, is_object_type}
-use Rattle.pfc_standing_code.specs.Settings.{Setting, site_of, Stands}
+use Rattle.pfc_standing_code.specs.Settings.{Setting, of_own, site_of, Stands}
 use Rattle.pfc_standing_code.specs.Typed.{HasShape, IsGivenFirst, IsLentFirst}
 use Rattle.pfc_standing_code.specs.TypedStatements.{IsNumber, IsRank, IsProcedure}
 use Rattle.pfc_standing_code.specs.Words.{IsObject, IsChecked}
@@ -35,7 +35,8 @@ use Rattle.pfc_following_expressions.proofs.Anywhere.{expression_follows}
 use Rattle.pfc_following_statements.proofs.Items.{writes_follow, reads_follow}
 use Rattle.pfc_following_statements.proofs.Simple.{performs_moved, object_parts, numbered_follows}
 
-module _ (g : Setting) (b : Block) (names : List Level) (around : Around) (checked : IsChecked g b (env_in g names around)) (few : 0 ≤ g.arms) (line : ℕ) where
+module _ (g : Setting) (b : Block) (names : List Level) (around : Around) (checked : IsChecked g b (env_in g names around)) (few : 0 ≤ g.arms)
+    (own : g.trial ≡ of_own) (line : ℕ) where
   abbrev x : Context
   x = record { env = env_in g names around; line = line }
 
@@ -54,12 +55,13 @@ module _ (g : Setting) (b : Block) (names : List Level) (around : Around) (check
       → Follows g (from_reference x args goal go) at ops []
   object_then args t code goal go k at n to ops object lent st ends rest met on =
       let address = first_address s args in
-      let parts = object_parts g b names around checked few line address code at n (length ops) (sized_plain address (plain_first_address s args)) (first_address_changes s checked.sound args (Some t) lent) st in
+      let parts = object_parts g b names around checked few own line address code at n (length ops) (sized_plain address (plain_first_address s args))
+      (first_address_changes s checked.sound args (Some t) lent) st in
       let mid = at + address.size in
-      let after = performs_moved g b names around checked few line to (mid + 1 + code.size) ops k (sym ends ∙ omega arith) rest in
+      let after = performs_moved g b names around checked few own line to (mid + 1 + code.size) ops k (sym ends ∙ omega arith) rest in
       reference_follows g b names around checked line [] few args (Some t) lent goal go at n mid ops parts.first refl
       (met mid (parts.obj, parts.i, parts.behind, after))
-      (λ v w lies. numbered_follows g b names around checked few line v.spot (Some t) w mid ops lies object parts.obj parts.room
+      (λ v w lies. numbered_follows g b names around checked few own line v.spot (Some t) w mid ops lies object parts.obj parts.room
       (λ i is. on v (mid + 1) parts.i i is parts.behind after))
 
   pub wait_follows :
@@ -67,24 +69,27 @@ module _ (g : Setting) (b : Block) (names : List Level) (around : Around) (check
       → IsLentFirst s args (Some semaphore) → Stands g at n (length ops) (first_object s args ⨾ one s SWAIT) → at + (first_object s args ⨾ one s SWAIT).size ≡ to → left to ops k
       → Follows g (from_reference x args (wait_at k) (λ v. waits x v.spot k)) at ops []
   wait_follows args k at n to ops lent st ends rest =
-      object_then args semaphore (one s SWAIT) (wait_at k) (λ v. waits x v.spot k) k at n to ops refl lent st ends rest (λ at object. (refl, (refl, object)))
-      (λ v at j i is st rest. arrives at (i ∷ ops) [] (b, checked, (refl, (i, ops, refl, is, lone g s (λ at n. SWAIT) st, rest))))
+      object_then args semaphore (one s SWAIT) (wait_at k) (λ v. waits x v.spot k) k at n to ops refl lent st ends rest
+      (λ at object. ((own, refl), (refl, object)))
+      (λ v at j i is st rest. arrives at (i ∷ ops) [] (b, checked, ((own, refl), (i, ops, refl, is, lone g s (λ at n. SWAIT) st, rest))))
 
   pub signal_follows :
       (args : ActualTrees) (k : Remainder) (at n to : ℕ) (ops : List ℤ)
       → IsLentFirst s args (Some semaphore) → Stands g at n (length ops) (first_object s args ⨾ one s SSIG) → at + (first_object s args ⨾ one s SSIG).size ≡ to → left to ops k
       → Follows g (from_reference x args (signal_at k) (λ v. signals x v.spot k)) at ops []
   signal_follows args k at n to ops lent st ends rest =
-      object_then args semaphore (one s SSIG) (signal_at k) (λ v. signals x v.spot k) k at n to ops refl lent st ends rest (λ at object. (refl, (refl, object)))
-      (λ v at j i is st rest. arrives at (i ∷ ops) [] (b, checked, (refl, (i, ops, refl, is, lone g s (λ at n. SSIG) st, rest))))
+      object_then args semaphore (one s SSIG) (signal_at k) (λ v. signals x v.spot k) k at n to ops refl lent st ends rest
+      (λ at object. ((own, refl), (refl, object)))
+      (λ v at j i is st rest. arrives at (i ∷ ops) [] (b, checked, ((own, refl), (i, ops, refl, is, lone g s (λ at n. SSIG) st, rest))))
 
   pub resume_follows :
       (args : ActualTrees) (k : Remainder) (at n to : ℕ) (ops : List ℤ)
       → IsLentFirst s args (Some condition) → Stands g at n (length ops) (first_object s args ⨾ one s RESUME) → at + (first_object s args ⨾ one s RESUME).size ≡ to → left to ops k
       → Follows g (from_reference x args (resume_at k) (λ v. resumes x v.spot k)) at ops []
   resume_follows args k at n to ops lent st ends rest =
-      object_then args condition (one s RESUME) (resume_at k) (λ v. resumes x v.spot k) k at n to ops refl lent st ends rest (λ at object. (refl, (refl, object)))
-      (λ v at j i is st rest. arrives at (i ∷ ops) [] (b, checked, (refl, (i, ops, refl, is, lone g s (λ at n. RESUME) st, rest))))
+      object_then args condition (one s RESUME) (resume_at k) (λ v. resumes x v.spot k) k at n to ops refl lent st ends rest
+      (λ at object. ((own, refl), (refl, object)))
+      (λ v at j i is st rest. arrives at (i ∷ ops) [] (b, checked, ((own, refl), (i, ops, refl, is, lone g s (λ at n. RESUME) st, rest))))
 
   -- the count of `initial`, behind its semaphore
   pub count_follows :
@@ -95,10 +100,10 @@ module _ (g : Setting) (b : Block) (names : List Level) (around : Around) (check
       let code = expr_code s e in
       let last = back g code (one s SINI) (suc (suc (length ops))) (sized_expr s e) (held_grown g.program code 1 (expr_changes s checked.sound e a_number num) at j (suc (length ops)) ∙ omega arith) st in
       let sets = lone g s (λ at n. SINI) last in
-      let after = performs_moved g b names around checked few line (at + (code.size + 1)) (at + code.size + 1) ops k (omega arith) rest in
+      let after = performs_moved g b names around checked few own line (at + (code.size + 1)) (at + code.size + 1) ops k (omega arith) rest in
       expression_follows g b x checked [] few e a_number num (set_count v k) (λ c. initials x v (ordinal_of c) k) at j (i ∷ ops) (front g code (one s SINI) st)
-      (refl, (refl, i, ops, refl, is, sets, after))
-      (λ c simple. arrives (at + code.size) (c ∷ i ∷ ops) [] (b, checked, (refl, (i ∷ ops, refl, (i, ops, refl, is, sets, after)))))
+      ((own, refl), (refl, i, ops, refl, is, sets, after))
+      (λ c simple. arrives (at + code.size) (c ∷ i ∷ ops) [] (b, checked, ((own, refl), (i ∷ ops, refl, (i, ops, refl, is, sets, after)))))
 
   pub initial_follows :
       (args : ActualTrees) (e : ExprTree) (k : Remainder) (at n to : ℕ) (ops : List ℤ)
@@ -106,7 +111,7 @@ module _ (g : Setting) (b : Block) (names : List Level) (around : Around) (check
       → Follows g (from_reference x args (initial_to e k) (λ v. from_expr x e (set_count v.spot k) (λ c. initials x v.spot (ordinal_of c) k))) at ops []
   initial_follows args e k at n to ops lent num st ends rest =
       object_then args semaphore (expr_code s e ⨾ one s SINI) (initial_to e k) (λ v. from_expr x e (set_count v.spot k) (λ c. initials x v.spot (ordinal_of c) k)) k at n to ops refl lent st ends rest
-      (λ at object. (refl, (refl, num, object)))
+      (λ at object. ((own, refl), (refl, num, object)))
       (λ v at j i is st rest. count_follows v.spot e k at j i ops num is st rest)
 
   -- the rank of a `delay`, which is 0 where none is given
@@ -117,25 +122,26 @@ module _ (g : Setting) (b : Block) (names : List Level) (around : Around) (check
   rank_follows v None k at j i ops num is st rest =
       let last = tail g s (λ at n. LIT (pos 0)) (one s DELAY) (suc (suc (length ops))) (omega arith) st in
       let delays_it = lone g s (λ at n. DELAY) last in
-      let after = performs_moved g b names around checked few line (at + (1 + 1)) (at + 1 + 1) ops k (omega arith) rest in
+      let after = performs_moved g b names around checked few own line (at + (1 + 1)) (at + 1 + 1) ops k (omega arith) rest in
       next_move g [] few at (i ∷ ops) (LIT (pos 0)) line (pos 0 ∷ i ∷ ops) (head g s (λ at n. LIT (pos 0)) (one s DELAY) st) (fits g [] (LIT (pos 0)) (i ∷ ops) (omega arith) tt tt) refl
       (room_after g (suc (suc (length ops))) (omega arith) (front g (one s (LIT (pos 0))) (one s DELAY) st))
-      (arrives (at + 1) (pos 0 ∷ i ∷ ops) [] (b, checked, (refl, (i ∷ ops, refl, (i, ops, refl, is, delays_it, after)))))
+      (arrives (at + 1) (pos 0 ∷ i ∷ ops) [] (b, checked, ((own, refl), (i ∷ ops, refl, (i, ops, refl, is, delays_it, after)))))
   rank_follows v (Some e) k at j i ops num is st rest =
       let code = expr_code s e in
       let last = back g code (one s DELAY) (suc (suc (length ops))) (sized_expr s e) (held_grown g.program code 1 (expr_changes s checked.sound e a_number num) at j (suc (length ops)) ∙ omega arith) st in
       let delays_it = lone g s (λ at n. DELAY) last in
-      let after = performs_moved g b names around checked few line (at + (code.size + 1)) (at + code.size + 1) ops k (omega arith) rest in
+      let after = performs_moved g b names around checked few own line (at + (code.size + 1)) (at + code.size + 1) ops k (omega arith) rest in
       expression_follows g b x checked [] few e a_number num (delay_with v k) (λ c. delays x v (ordinal_of c) k) at j (i ∷ ops) (front g code (one s DELAY) st)
-      (refl, (refl, i, ops, refl, is, delays_it, after))
-      (λ c simple. arrives (at + code.size) (c ∷ i ∷ ops) [] (b, checked, (refl, (i ∷ ops, refl, (i, ops, refl, is, delays_it, after)))))
+      ((own, refl), (refl, i, ops, refl, is, delays_it, after))
+      (λ c simple. arrives (at + code.size) (c ∷ i ∷ ops) [] (b, checked, ((own, refl), (i ∷ ops, refl, (i, ops, refl, is, delays_it, after)))))
 
   pub delay_follows :
       (args : ActualTrees) (rank : Option ExprTree) (k : Remainder) (at n to : ℕ) (ops : List ℤ)
       → IsLentFirst s args (Some condition) → IsRank s rank → Stands g at n (length ops) (first_object s args ⨾ rank_code s rank ⨾ one s DELAY) → at + (first_object s args ⨾ rank_code s rank ⨾ one s DELAY).size ≡ to → left to ops k
       → Follows g (from_reference x args (delay_at rank k) (λ v. from_delay x v.spot rank k)) at ops []
   delay_follows args rank k at n to ops lent num st ends rest =
-      object_then args condition (rank_code s rank ⨾ one s DELAY) (delay_at rank k) (λ v. from_delay x v.spot rank k) k at n to ops refl lent st ends rest (λ at object. (refl, (refl, num, object)))
+      object_then args condition (rank_code s rank ⨾ one s DELAY) (delay_at rank k) (λ v. from_delay x v.spot rank k) k at n to ops refl lent st ends rest
+      (λ at object. ((own, refl), (refl, num, object)))
       (λ v at j i is st rest. rank_follows v.spot rank k at j i ops num is st rest)
 
   pub sleep_follows :
@@ -147,10 +153,10 @@ module _ (g : Setting) (b : Block) (names : List Level) (around : Around) (check
       let mid = at + code.size in
       let last = back g code (one s SLEEP) (suc (length ops)) (sized_plain code (plain_first s args)) (held_grown g.program code 1 (first_changes s checked.sound args is) at n (length ops) ∙ omega arith) st in
       let sleeps_it = lone g s (λ at n. SLEEP) last in
-      let after = performs_moved g b names around checked few line to (mid + 1) ops k (sym ends ∙ omega arith) rest in
+      let after = performs_moved g b names around checked few own line to (mid + 1) ops k (sym ends ∙ omega arith) rest in
       first_follows g b names around checked line [] few args is (sleep_for k) (λ c. sleeps x (ordinal_of c) k) at n mid ops (front g code (one s SLEEP) st) refl
-      (refl, (refl, sleeps_it, after))
-      (λ c simple. arrives mid (c ∷ ops) [] (b, checked, (refl, (ops, refl, sleeps_it, after))))
+      ((own, refl), (refl, sleeps_it, after))
+      (λ c simple. arrives mid (c ∷ ops) [] (b, checked, ((own, refl), (ops, refl, sleeps_it, after))))
 
   initial_by :
       (args : ActualTrees) (e : Option ExprTree) (k : Remainder) (go : Action) (at n to : ℕ) (ops : List ℤ)
@@ -164,8 +170,10 @@ module _ (g : Setting) (b : Block) (names : List Level) (around : Around) (check
       (q : Procedure) (args : ActualTrees) (k : Remainder) (go : Action) (at n to : ℕ) (ops : List ℤ)
       → IsProcedure s q args → Stands g at n (length ops) (procedure_code s q args) → at + (procedure_code s q args).size ≡ to → left to ops k → Follows g go to ops []
       → Follows g (from_procedure x q args k go) at ops []
-  procedure_follows (reader skip) args k go at n to ops is st ends rest on = reads_follow g b names around checked few line args skip k go at n to ops is st ends rest on
-  procedure_follows (writer newline) args k go at n to ops is st ends rest on = writes_follow g b names around checked few line args newline k go at n to ops is st ends rest on
+  procedure_follows (reader skip) args k go at n to ops is st ends rest on =
+      reads_follow g b names around checked few own line args skip k go at n to ops is st ends rest on
+  procedure_follows (writer newline) args k go at n to ops is st ends rest on =
+      writes_follow g b names around checked few own line args newline k go at n to ops is st ends rest on
   procedure_follows initial args k go at n to ops is st ends rest on = initial_by args (expr_of (behind_first args)) k go at n to ops is.0 is.1 st ends rest
   procedure_follows wait args k go at n to ops is st ends rest on = wait_follows args k at n to ops is st ends rest
   procedure_follows signal args k go at n to ops is st ends rest on = signal_follows args k at n to ops is st ends rest

@@ -22,7 +22,7 @@ use Rattle.pfc_translation.specs.Statements.{assign_code}
 use Rattle.pfc_standing_code.specs.Sizes.{IsSized}
 use Rattle.pfc_standing_code.specs.Shapes.{shape_of, shape_cells, is_number, is_object_type, has_object_form}
 use Rattle.pfc_standing_code.specs.ValueTypes.{IsValueType}
-use Rattle.pfc_standing_code.specs.Settings.{Setting, site_of, IsAt, Stands}
+use Rattle.pfc_standing_code.specs.Settings.{Setting, of_own, site_of, IsAt, Stands}
 use Rattle.pfc_standing_code.specs.Typed.{HasShape}
 use Rattle.pfc_standing_code.specs.TypedStatements.{IsChannel, IsAssignment, IsMessage, IsReceiver, IsSend, IsReceive, IsProcessType}
 use Rattle.pfc_standing_code.specs.Words.{IsWord, IsObject, IsChecked}
@@ -58,7 +58,8 @@ process_is_object s n v (Some t) is = by (form_of (forms_of s) t) is
     by (Some (Array over low high element)) e = absurd (cc)
     by (Some (Record fields)) e = absurd (cc)
 
-module _ (g : Setting) (b : Block) (names : List Level) (around : Around) (checked : IsChecked g b (env_in g names around)) (few : 0 ≤ g.arms) (line : ℕ) where
+module _ (g : Setting) (b : Block) (names : List Level) (around : Around) (checked : IsChecked g b (env_in g names around)) (few : 0 ≤ g.arms)
+    (own : g.trial ≡ of_own) (line : ℕ) where
   abbrev x : Context
   x = record { env = env_in g names around; line = line }
 
@@ -86,8 +87,9 @@ module _ (g : Setting) (b : Block) (names : List Level) (around : Around) (check
       let store : IsAt g (at + value.size) (STORE size) line = subst (λ (y : ℕ). IsAt g (at + value.size) (STORE y) line) cells (lone g s (λ at n. STORE z) stores) in
       let after = performs_moved (at + (value.size + 1)) (at + value.size + 1) ops k (omega arith) rest in
       expression_follows g b x checked [] few e (shape_of v) shape (store_at l k) (λ a. writes x l a k) at n (w ∷ ops) (front g value (one s (STORE z)) st)
-      (refl, (v, w, ops, refl, refl, lies, store, after, values))
-      (λ c simple. arrives (at + value.size) (c ∷ w ∷ ops) [] (b, checked, of_value v w ops refl (is_number v c (simple_shape v simple)) lies store after))
+      ((own, refl), (v, w, ops, refl, refl, lies, store, after, values))
+      (λ c simple. arrives (at + value.size) (c ∷ w ∷ ops) []
+      (b, checked, (own, of_value v w ops refl (is_number v c (simple_shape v simple)) lies store after)))
 
   pub assign_follows :
       (d : DesigTree) (e : ExprTree) (k : Remainder) (at n to : ℕ) (ops : List ℤ)
@@ -101,7 +103,7 @@ module _ (g : Setting) (b : Block) (names : List Level) (around : Around) (check
       let behind = back g first last (suc (length ops)) (sized_desig s d) (held_grown g.program first 1 (desig_changes s checked.sound d (Some is.t) is.target) at n (length ops) ∙ omega arith) st in
       let rest = performs_moved to (mid + last.size) ops k (omega arith) left in
       variable_follows g b x checked [] few d (Some is.t) is.target (assign_to e k) (λ v. from_expr x e (store_at v.spot k) (λ a. writes x v.spot a k)) at n ops (front g first last st)
-      (refl, (is.t, refl, is.value, is.cells, m, behind, rest, is.values))
+      ((own, refl), (is.t, refl, is.value, is.cells, m, behind, rest, is.values))
       (λ l y lies. stored_follows l.spot is.t e k y mid m ops lies is.value is.cells is.values behind rest)
 
   -- ## Code behind an object
@@ -145,7 +147,7 @@ module _ (g : Setting) (b : Block) (names : List Level) (around : Around) (check
         b,
         checked,
         (
-          refl,
+          (own, refl),
           (
             (refl, refl),
             (
@@ -168,12 +170,12 @@ module _ (g : Setting) (b : Block) (names : List Level) (around : Around) (check
       let send : IsAt g (at + value.size) (SEND w) line = subst (λ (y : ℕ). IsAt g (at + value.size) (SEND y) line) is.1 (lone g s (λ at n. SEND z) behind) in
       let rest = performs_moved (at + (value.size + 1)) (at + value.size + 1) ops k (omega arith) left in
       expression_follows g b x checked [] few e (shape_of u) is.0 (send_on channel k) (λ v. meets x (plain_open (to_send channel v)) k) at n (i ∷ ops) (front g value (one s (SEND z)) st)
-      (refl, (t, u, i, ops, refl, refl, carries, is.2, object, send, rest))
+      ((own, refl), (t, u, i, ops, refl, refl, carries, is.2, object, send, rest))
       (λ v simple. arrives (at + value.size) (v ∷ i ∷ ops) [] (
         b,
         checked,
         (
-          refl,
+          (own, refl),
           (
             (refl, refl),
             (w, v ∷ i ∷ [], ops, refl, of_message t u i carries object is.2 (is_number u v (simple_shape u simple)) refl refl, send, rest),
@@ -192,7 +194,7 @@ module _ (g : Setting) (b : Block) (names : List Level) (around : Around) (check
       let mid = at + first.size in
       let rest = performs_moved to (mid + 1 + last.size) ops k (omega arith) left in
       variable_follows g b x checked [] few d is.t is.channel (send_to m k) (λ channel. from_sent x channel.spot m k) at n ops parts.first
-      (refl, (is.u, is.carries, is.message, (parts.obj, parts.i, parts.behind, rest)))
+      ((own, refl), (is.u, is.carries, is.message, (parts.obj, parts.i, parts.behind, rest)))
       (λ l w lies. numbered_follows l.spot is.t w mid ops lies (channel_is_object g.program.state.forms is.t is.u is.carries) parts.obj parts.room
       (λ i object. sent_follows l.spot is.t is.u i m k (mid + 1) parts.i ops is.carries object is.message parts.behind rest))
 
@@ -210,7 +212,7 @@ module _ (g : Setting) (b : Block) (names : List Level) (around : Around) (check
         b,
         checked,
         (
-          refl,
+          (own, refl),
           (
             (refl, refl),
             (
@@ -233,12 +235,12 @@ module _ (g : Setting) (b : Block) (names : List Level) (around : Around) (check
       let receive : IsAt g (at + target.size) (RECV w) line = subst (λ (y : ℕ). IsAt g (at + target.size) (RECV y) line) is.1 (lone g s (λ at n. RECV z) behind) in
       let rest = performs_moved (at + (target.size + 1)) (at + target.size + 1) ops k (omega arith) left in
       variable_follows g b x checked [] few d (Some u) is.0 (receive_into channel k) (λ v. meets x (plain_open (to_receive channel (Some v.spot))) k) at n (i ∷ ops) (front g target (one s (RECV z)) st)
-      (refl, (t, u, i, ops, refl, is.2, carries, refl, object, receive, rest))
+      ((own, refl), (t, u, i, ops, refl, is.2, carries, refl, object, receive, rest))
       (λ l y lies. arrives (at + target.size) (y ∷ i ∷ ops) [] (
         b,
         checked,
         (
-          refl,
+          (own, refl),
           (
             (refl, refl),
             (w, y ∷ i ∷ [], ops, refl, into_variable t u i y l.spot carries object is.2 lies refl refl, receive, rest),
@@ -257,6 +259,6 @@ module _ (g : Setting) (b : Block) (names : List Level) (around : Around) (check
       let mid = at + first.size in
       let rest = performs_moved to (mid + 1 + last.size) ops k (omega arith) left in
       variable_follows g b x checked [] few d is.t is.channel (receive_from r k) (λ channel. from_received x channel.spot r k) at n ops parts.first
-      (refl, (is.u, is.carries, is.receiver, (parts.obj, parts.i, parts.behind, rest)))
+      ((own, refl), (is.u, is.carries, is.receiver, (parts.obj, parts.i, parts.behind, rest)))
       (λ l w lies. numbered_follows l.spot is.t w mid ops lies (channel_is_object g.program.state.forms is.t is.u is.carries) parts.obj parts.room
       (λ i object. received_follows l.spot is.t is.u i r k (mid + 1) parts.i ops is.carries object is.receiver parts.behind rest))

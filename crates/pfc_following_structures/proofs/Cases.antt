@@ -23,7 +23,7 @@ use Rattle.pfc_translation.specs.Codes.{◌⨾◌, one, over}
 use Rattle.pfc_translation.specs.Expressions.{expr_code}
 use Rattle.pfc_translation.specs.Statements.{label_of, labels_code, label_count, stmt_code, tests_code, arms_code}
 use Rattle.pfc_standing_code.specs.Shapes.{a_number}
-use Rattle.pfc_standing_code.specs.Settings.{Setting, site_of, IsAt, Stands}
+use Rattle.pfc_standing_code.specs.Settings.{Setting, of_own, site_of, IsAt, Stands}
 use Rattle.pfc_standing_code.specs.Effects.{of_own_effect}
 use Rattle.pfc_standing_code.specs.TypedStatements.{HaveValues}
 use Rattle.pfc_standing_code.specs.Words.{IsChecked}
@@ -63,7 +63,8 @@ same_label v None o e = absurd (by e)
     by h = cc
 same_label v (Some value) o e = same_turned value.value v
 
-module _ (g : Setting) (b : Block) (names : List Level) (around : Around) (checked : IsChecked g b (env_in g names around)) (few : 0 ≤ g.arms) where
+module _ (g : Setting) (b : Block) (names : List Level) (around : Around) (checked : IsChecked g b (env_in g names around)) (few : 0 ≤ g.arms)
+    (own : g.trial ≡ of_own) where
   abbrev env : Env
   env = env_in g names around
 
@@ -176,5 +177,5 @@ module _ (g : Setting) (b : Block) (names : List Level) (around : Around) (check
       record { typed = is.typed.1; tests_stand = stands_over g (1 + length ops) over_value (front g (tests ⨾ one s CERR) all (first_joined g tests (one s CERR) all behind)); arms_stand = stands_moved g first start last_part } in
       let end : first + all.size ≡ to = omega (arith, count) in
       expression_follows g b x checked [] few e a_number is.typed.0 (choose_arm m arms k) (λ v. from_arms x m (ordinal_of v) arms k go) at n ops (front g value (tests ⨾ one s CERR ⨾ all) is.code)
-      (refl, (refl, i, i + length tests.texts + 0, arms_at, moved to (first + all.size) ops k (sym end) rest))
+      ((own, refl), (refl, i, i + length tests.texts + 0, arms_at, moved to (first + all.size) ops k (sym end) rest))
       (λ v simple. inner p.line m v k go mid i first (i + length tests.texts + 0) 0 to ops arms_at (omega arith) end rest on)

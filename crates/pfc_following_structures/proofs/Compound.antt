@@ -21,7 +21,7 @@ use Rattle.pfc_translation.specs.Expressions.{expr_code}
 use Rattle.pfc_translation.specs.Selects.{entry_of, accept_cell, accept_cells}
 use Rattle.pfc_translation.specs.Statements.{stmt_code, stmts_code}
 use Rattle.pfc_standing_code.specs.Shapes.{a_number}
-use Rattle.pfc_standing_code.specs.Settings.{Setting, site_of, IsAt, Stands, arrived}
+use Rattle.pfc_standing_code.specs.Settings.{Setting, of_own, site_of, IsAt, Stands, arrived}
 use Rattle.pfc_standing_code.specs.Words.{IsChecked}
 use Rattle.pfc_standing_code.specs.Performs.{StmtAt, StmtsAt, Performs}
 use Rattle.pfc_standing_code.specs.Following.{of_loop, Follows, arrives}
@@ -35,7 +35,8 @@ use Rattle.pfc_following_statements.proofs.HeldStatements.{stmt_changes, stmts_c
 use Rattle.pfc_following_selects.proofs.Jumps.{performs_jumped, stands_alone}
 use Rattle.pfc_following_structures.specs.Structured.{StatementFollows, StatementsFollow}
 
-module _ (g : Setting) (b : Block) (names : List Level) (around : Around) (checked : IsChecked g b (env_in g names around)) (few : 0 ≤ g.arms) where
+module _ (g : Setting) (b : Block) (names : List Level) (around : Around) (checked : IsChecked g b (env_in g names around)) (few : 0 ≤ g.arms)
+    (own : g.trial ≡ of_own) where
   abbrev pub env : Env
   env = env_in g names around
 
@@ -65,7 +66,8 @@ module _ (g : Setting) (b : Block) (names : List Level) (around : Around) (check
   -- what is left behind the first of some statements
   behind_left : (line m : ℕ) (ts : StmtTrees) (k : Remainder) (at n to : ℕ) (ops : List ℤ) → StmtsAt g (site line) at n (length ops) m ts → at + (stmts_code (site line) m ts).size ≡ to → left to ops k → left at ops (behind m ts k)
   behind_left line m no_stmts k at n to ops is e rest = moved to at ops k (sym e ∙ omega arith) rest
-  behind_left line m (more_stmts t ts) k at n to ops is e rest = (refl, (at, arrived at, (line, (n, is, moved to (at + (stmts_code (site line) m (more_stmts t ts)).size) ops k (sym e) rest))))
+  behind_left line m (more_stmts t ts) k at n to ops is e rest =
+      ((own, refl), (at, arrived at, (line, (n, is, moved to (at + (stmts_code (site line) m (more_stmts t ts)).size) ops k (sym e) rest))))
 
   pub more_follow : (t : StmtTree) (ts : StmtTrees) → StatementFollows g b env t → StatementsFollow g b env ts → StatementsFollow g b env (more_stmts t ts)
   more_follow t ts one_follows others_follow line m k go at n to ops is e rest on =
@@ -101,7 +103,7 @@ module _ (g : Setting) (b : Block) (names : List Level) (around : Around) (check
       let here = moved to end ops k ended rest in
       let none : Stands g end 0 (length ops) nothing = record { has = tt; texts = tt; room = room_for g third; arms = few } in
       expression_follows g b x checked [] few e a_number is.typed.0 (choose m t empty k) (λ v. if is_true (ordinal_of v) then from_stmt env m t k go else go) at n ops (front g test (over s JF yes.size ⨾ yes) is.code)
-      (refl, (refl, end, is_test, up, (i + 0, inner_at, here), (0, record { typed = tt; code = none }, moved end (end + 0) ops k (omega arith) here)))
+      ((own, refl), (refl, end, is_test, up, (i + 0, inner_at, here), (0, record { typed = tt; code = none }, moved end (end + 0) ops k (omega arith) here)))
       (λ v simple. test_move g [] few v (from_stmt env m t k go) go mid ops end p.line is_test up (room_for g third)
       (inner p.line m k go (mid + 1) (i + 0) end ops inner_at refl here (follows_moved g [] few to end ended on)) (follows_moved g [] few to end ended on))
 
@@ -138,7 +140,7 @@ module _ (g : Setting) (b : Block) (names : List Level) (around : Around) (check
       let on_end = follows_moved g [] few to end ended on in
       let yes_left = performs_jumped g b (env_in g names around) k y end ops [] p.line is_jump jump_up here in
       expression_follows g b x checked [] few e a_number is.typed.0 (choose m t u k) (λ v. if is_true (ordinal_of v) then from_stmt env m t k go else from_stmt env next u k go) at n ops (front g test whole is.code)
-      (refl, (refl, from, is_test, up, (i + 0, yes_at, yes_left), (j + 0, no_at, moved end (from + no.size) ops k (sym no_end) here)))
+      ((own, refl), (refl, from, is_test, up, (i + 0, yes_at, yes_left), (j + 0, no_at, moved end (from + no.size) ops k (sym no_end) here)))
       (λ v simple. test_move g [] few v (from_stmt env m t k go) (from_stmt env next u k go) mid ops from p.line is_test up (room_for g third)
       (inner p.line m k go (mid + 1) (i + 0) y ops yes_at refl yes_left (jump_move g [] few y end ops p.line is_jump jump_up (room_for g fifth) on_end))
       (other p.line next k go from (j + 0) end ops no_at no_end here on_end))
@@ -150,12 +152,14 @@ module _ (g : Setting) (b : Block) (names : List Level) (around : Around) (check
   again_left line m t k at n ops is rest =
       let code = stmt_code (site line) m t in
       let all : StmtsAt g (site line) at n (length ops) m (more_stmts t no_stmts) = record { typed = (is.typed, tt); code = stands_alone g at n (length ops) code is.code } in
-      (refl, (at, arrived at, (line, (n, all, moved (at + code.size) (at + (code ⨾ nothing).size) ops k (omega arith) rest))))
+      ((own, refl), (at, arrived at, (line, (n, all, moved (at + code.size) (at + (code ⨾ nothing).size) ops k (omega arith) rest))))
 
   pub turns_follow :
-      (line own m : ℕ) (t : StmtTree) (k : Remainder) (at a n : ℕ) (ops : List ℤ)
-      → IsAt g at (TURN a) own → StmtAt g (site line) a n (length ops) m t → left (a + (stmt_code (site line) m t).size) ops k → Follows g (turns (context env own) (again m t k)) at ops []
-  turns_follow line own m t k at a n ops turn_is is rest = arrives at ops [] (b, checked, (refl, of_loop a turn_is (again_left line m t k a n ops is rest)))
+      (line mine m : ℕ) (t : StmtTree) (k : Remainder) (at a n : ℕ) (ops : List ℤ)
+      → IsAt g at (TURN a) mine → StmtAt g (site line) a n (length ops) m t → left (a + (stmt_code (site line) m t).size) ops k
+      → Follows g (turns (context env mine) (again m t k)) at ops []
+  turns_follow line mine m t k at a n ops turn_is is rest =
+      arrives at ops [] (b, checked, ((own, refl), of_loop a turn_is (again_left line m t k a n ops is rest)))
 
   pub forever_follows : (ts : StmtTrees) (p : Place) → StatementsFollow g b env ts → StatementFollows g b env (repeat_forever ts p)
   forever_follows ts p inner line m k go at n to ops is whole_end rest on =
@@ -168,7 +172,7 @@ module _ (g : Setting) (b : Block) (names : List Level) (around : Around) (check
       let turn_is : IsAt g mid (TURN at) p.line = subst (λ (y : ℕ). IsAt g mid (TURN y) p.line) back_to (lone g s (λ at k. TURN (at - code.size)) last) in
       let whole = moved to (at + (stmt_code (site line) m loop).size) ops k (sym whole_end) rest in
       inner p.line m (turn m loop k) (turns (context env p.line) (again m loop k)) at n mid ops (record { typed = is.typed; code = front g code (to_back s TURN code.size) is.code }) refl
-      (refl, (mid, arrived mid, (line, at, turn_is, (n, is, whole))))
+      ((own, refl), (mid, arrived mid, (line, at, turn_is, (n, is, whole))))
       (turns_follow line p.line m loop k mid at n ops turn_is is whole)
 
   -- behind the test of a `while`
@@ -197,7 +201,7 @@ module _ (g : Setting) (b : Block) (names : List Level) (around : Around) (check
       let same : a + (stmt_code (site line) m loop).size ≡ out = omega arith in
       test_move g [] few v (from_stmt env m t (turn m loop k) (turns (context env p.line) (again m loop k))) go mid ops out p.line is_test (omega arith) (room_for g third)
       (inner p.line m (turn m loop k) (turns (context env p.line) (again m loop k)) (mid + 1) (i + 0) y ops inner_at refl
-      (refl, (y, arrived y, (line, a, turn_is, (n, is, rest)))) (turns_follow line p.line m loop k y a n ops turn_is is rest))
+      ((own, refl), (y, arrived y, (line, a, turn_is, (n, is, rest)))) (turns_follow line p.line m loop k y a n ops turn_is is rest))
       (follows_moved g [] few (a + (stmt_code (site line) m loop).size) out same on)
 
   pub while_follows : (e : ExprTree) (t : StmtTree) (p : Place) → StatementFollows g b env t → StatementFollows g b env (while_do e t p)
@@ -213,7 +217,7 @@ module _ (g : Setting) (b : Block) (names : List Level) (around : Around) (check
       let on_end = follows_moved g [] few to (at + size) (sym whole_end) on in
       expression_follows g b x checked [] few e a_number is.typed.0 (while_true m e t p k)
       (λ v. if is_true (ordinal_of v) then from_stmt env m t (turn m loop k) (turns (context env p.line) (again m loop k)) else go) at n ops (front g test others is.code)
-      (refl, (refl, refl, line, at, refl, (n, is, whole)))
+      ((own, refl), (refl, refl, line, at, refl, (n, is, whole)))
       (λ v simple. while_tested e t p inner line m k go at n ops v is whole on_end)
 
   inverse_true : (r : Bool) → is_true (truth (not r)) ≡ not r
@@ -273,9 +277,9 @@ module _ (g : Setting) (b : Block) (names : List Level) (around : Around) (check
       let on_end = follows_moved g [] few to (at + size) (sym whole_end) on in
       let behind = back g code (test ⨾ last) (length ops) (sized_stmts s m ts) (held_grown g.program code 0 (stmts_change ts s m checked.sound is.typed.0) at n (length ops) ∙ omega arith) is.code in
       inner p.line m (until m ts e p k) (from_expr x e (until_true m ts e p k) (from_until x m loop k go)) at n mid ops (record { typed = is.typed.0; code = front g code (test ⨾ last) is.code }) refl
-      (refl, (mid, arrived mid, (line, at, refl, (n, is, whole))))
+      ((own, refl), (mid, arrived mid, (line, at, refl, (n, is, whole))))
       (expression_follows g b x checked [] few e a_number is.typed.1 (until_true m ts e p k) (from_until x m loop k go) mid i ops (front g test last behind)
-      (refl, (refl, refl, line, at, refl, (n, is, whole)))
+      ((own, refl), (refl, refl, line, at, refl, (n, is, whole)))
       (λ v simple. tested_follows ts e p line m k go at n ops v is whole on_end))
 
   -- the test of a `repeat`, behind its statements
@@ -292,7 +296,7 @@ module _ (g : Setting) (b : Block) (names : List Level) (around : Around) (check
       let last = one s NOT ⨾ over s JF 1 ⨾ to_back s TURN (code.size + test.size + 2) in
       let behind = back g code (test ⨾ last) (length ops) (sized_stmts s m ts) (held_grown g.program code 0 (stmts_change ts s m checked.sound is.typed.0) at n (length ops) ∙ omega arith) is.code in
       expression_follows g b x checked [] few e a_number is.typed.1 (until_true m ts e p k) (from_until x m loop k go) (at + code.size) (n + length code.texts) ops (front g test last behind)
-      (refl, (refl, refl, line, at, refl, (n, is, rest)))
+      ((own, refl), (refl, refl, line, at, refl, (n, is, rest)))
       (λ v simple. tested_follows ts e p line m k go at n ops v is rest on)
 
   -- ## Cobegin and accept
@@ -306,8 +310,8 @@ module _ (g : Setting) (b : Block) (names : List Level) (around : Around) (check
       let coend_is = lone g (at_line s last.line) (λ at n. COEND) joining in
       let after = moved to (mid + 1) ops k (sym whole_end ∙ omega arith) rest in
       inner line m (at_coend last.line k) (joins (context env last.line) k) at n mid ops (record { typed = is.typed; code = front g code (one (at_line s last.line) COEND) is.code }) refl
-      (refl, (mid, arrived mid, (coend_is, after)))
-      (arrives mid ops [] (b, checked, (refl, (coend_is, after))))
+      ((own, refl), (mid, arrived mid, (coend_is, after)))
+      (arrives mid ops [] (b, checked, ((own, refl), (coend_is, after))))
 
   -- the end of an accept, and nothing behind it
   accept_ended : (line : ℕ) (k : Remainder) (at i : ℕ) (ops : List ℤ) → Stands g at i (length ops) (one (site line) EACC) → left (at + 1) ops k
@@ -328,7 +332,7 @@ module _ (g : Setting) (b : Block) (names : List Level) (around : Around) (check
         b,
         checked,
         (
-          refl,
+          (own, refl),
           (
             (refl, refl),
             (
@@ -351,7 +355,7 @@ module _ (g : Setting) (b : Block) (names : List Level) (around : Around) (check
         b,
         checked,
         (
-          refl,
+          (own, refl),
           (
             (refl, refl),
             (

@@ -23,7 +23,7 @@ use Rattle.pfc_translation.specs.Addresses.{base_code}
 use Rattle.pfc_translation.specs.Expressions.{expr_code}
 use Rattle.pfc_translation.specs.Statements.{stmt_code}
 use Rattle.pfc_standing_code.specs.Shapes.{a_number}
-use Rattle.pfc_standing_code.specs.Settings.{Setting, site_of, IsAt, Stands, arrived}
+use Rattle.pfc_standing_code.specs.Settings.{Setting, of_own, site_of, IsAt, Stands, arrived}
 use Rattle.pfc_standing_code.specs.Effects.{of_own_effect, effect_of}
 use Rattle.pfc_standing_code.specs.Typed.{HasShape}
 use Rattle.pfc_standing_code.specs.TypedStatements.{IsTyped}
@@ -42,7 +42,8 @@ use Rattle.pfc_following_structures.specs.Structured.{StatementFollows}
 use Rattle.pfc_following_structures.proofs.Ranges.{past_alike, next_alike, before_or_last, next_is_within}
 use Rattle.pfc_following_structures.proofs.Compound.{again_left}
 
-module _ (g : Setting) (b : Block) (names : List Level) (around : Around) (checked : IsChecked g b (env_in g names around)) (few : 0 ≤ g.arms) where
+module _ (g : Setting) (b : Block) (names : List Level) (around : Around) (checked : IsChecked g b (env_in g names around)) (few : 0 ≤ g.arms)
+    (own : g.trial ≡ of_own) where
   abbrev env : Env
   env = env_in g names around
 
@@ -66,8 +67,16 @@ module _ (g : Setting) (b : Block) (names : List Level) (around : Around) (check
       → HoldsCount g (site f.line) f ops below → HasPass g (site f.line) f at n (length ops) → left (at + 1 + inside f + 1) below k → Follows g (begin_pass (context env f.line) f k) at ops []
   first_pass f k at n ops below holds pass rest =
       let q = at + 1 + inside f in
-      let behind : left q ops (behind_pass f k) = (refl, (q, arrived q, (at, n, below, holds, pass, refl, rest))) in
-      arrives at ops [] (b, checked, of_kept f.last f.kept holds.w below refl holds.held refl holds.lies pass.write (again_left g b names around checked few f.line f.next f.pass (behind_pass f k) (at + 1) n ops pass.inner behind))
+      let behind : left q ops (behind_pass f k) = ((own, refl), (q, arrived q, (at, n, below, holds, pass, refl, rest))) in
+      arrives at ops [] (
+        b,
+        checked,
+        (
+          own,
+          of_kept f.last f.kept holds.w below refl holds.held refl holds.lies pass.write
+              (again_left g b names around checked few own f.line f.next f.pass (behind_pass f k) (at + 1) n ops pass.inner behind),
+        ),
+      )
 
   -- behind the statement of a pass
   pub behind_follows :
@@ -99,7 +108,15 @@ module _ (g : Setting) (b : Block) (names : List Level) (around : Around) (check
           let same : length ops ≡ length left_over = ap (λ (y : List ℤ). length y) holds.held in
           let inner : StmtAt g (site f.line) (a + 1) n (length left_over) f.next f.pass = subst (λ (y : ℕ). StmtAt g (site f.line) (a + 1) n y f.next f.pass) same pass.inner in
           let again_pass : HasPass g (site f.line) (next_count f) a n (length left_over) = record { write = pass.write; inner = inner; back = pass.back } in
-          arrives at ops [] (b, checked, (refl, of_count d a f.last f.kept holds.w below holds.held before pass.back (refl, (a, arrived a, (n, below, counts, again_pass, rest)))))
+          arrives at ops [] (
+            b,
+            checked,
+            (
+              (own, refl),
+              of_count d a f.last f.kept holds.w below holds.held before pass.back
+                  ((own, refl), (a, arrived a, (n, below, counts, again_pass, rest))),
+            ),
+          )
 
   -- ## Bounds
 
@@ -173,7 +190,7 @@ module _ (g : Setting) (b : Block) (names : List Level) (around : Around) (check
       let behind = back g code pass (suc (suc (suc (length ops)))) (sized_expr s e) (held_grown g.program code 1 (expr_changes s checked.sound e a_number num) at n (suc (suc (length ops))) ∙ omega arith) st in
       let end : mid + pass.size ≡ to = omega arith in
       expression_follows g b x checked [] few e a_number num (count_to m v kept down t k) (λ last. from_bounds x (counting x m v (ordinal kept) last down t) k go) at n (kept ∷ w ∷ ops) (front g code pass st)
-      (refl, (refl, w, ops, refl, lies, typed, i, behind, moved to (mid + pass.size) ops k (sym end) rest))
+      ((own, refl), (refl, w, ops, refl, lies, typed, i, behind, moved to (mid + pass.size) ops k (sym end) rest))
       (λ last simple. bounds_follow (counting x m v (ordinal kept) (ordinal last) down t) k go w mid i to ops lies typed behind end rest on)
 
   pub for_follows : (y : Text) (from : ExprTree) (down : Bool) (last : ExprTree) (t : StmtTree) (p q : Place) → StatementFollows g b env (for_do y from down last t p q)
@@ -195,5 +212,5 @@ module _ (g : Setting) (b : Block) (names : List Level) (around : Around) (check
       base_follows g b names around checked p.line [] few v at n ops is.typed.0.2 (front g base (lower ⨾ others) is.code)
       (expression_follows g b x checked [] few from a_number is.typed.1 (count_from m v.spot down last t k)
       (λ kept. from_expr x last (count_to m v.spot (ordinal_of kept) down t k) (λ most. from_bounds x (counting x m v.spot kept most down t) k go)) (at + 1) i (w ∷ ops) (front g lower others behind)
-      (refl, (refl, w, ops, refl, lies, is.typed.2, is.typed.3, j, third, moved to (mid + others.size) ops k (sym end) rest))
+      ((own, refl), (refl, w, ops, refl, lies, is.typed.2, is.typed.3, j, third, moved to (mid + others.size) ops k (sym end) rest))
       (λ kept simple. second_follows p.line m v.spot kept w down last t k go mid j to ops lies is.typed.2 is.typed.3 third end rest on))

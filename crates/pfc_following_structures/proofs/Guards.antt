@@ -12,7 +12,7 @@ use Rattle.pfc_semantics.specs.Rewriting.{from_other, from_remainder}
 use Rattle.pfc_translation.specs.Codes.{one}
 use Rattle.pfc_translation.specs.Expressions.{expr_code}
 use Rattle.pfc_standing_code.specs.Shapes.{a_number}
-use Rattle.pfc_standing_code.specs.Settings.{Trial, Setting, of_own, of_another, site_of, IsAt}
+use Rattle.pfc_standing_code.specs.Settings.{Trial, Setting, of_own, site_of, IsAt}
 use Rattle.pfc_standing_code.specs.Effects.{onward, otherwise, guarded}
 use Rattle.pfc_standing_code.specs.Words.{IsChecked}
 use Rattle.pfc_standing_code.specs.Performs.{GuardAt, IsOwnBar, Tries, IsCheckedFor, Performs}
@@ -36,7 +36,7 @@ module _ (g : Setting) (b : Block) (few : 0 ≤ g.arms) where
       by true e =
           next_move g [] few at (v ∷ ops) (GRD bar.resource) x.line ops is (fits g [] (GRD bar.resource) (v ∷ ops) (omega arith) tt tt)
           (ap (λ (trial : Trial). guarded trial at v ops []) own ∙ ap (λ (r : Bool). if r then onward (at + 1) ops [] else otherwise) e) room on
-      by false e = arrives at (v ∷ ops) [] (b, known, (refl, (v, ops, refl, e, own, mine, is, rest)))
+      by false e = arrives at (v ∷ ops) [] (b, known, ((own, refl), (v, ops, refl, e, mine, is, rest)))
 
   -- behind the guard of a barred process the scan goes on past that one
   past : (w : Tried) (scan : Scan) (held : ℕ) → Tries g w scan held → IsTurnOf g.trial (record scan { after = Some w.ticket })
@@ -79,7 +79,7 @@ module _ (g : Setting) (b : Block) (few : 0 ≤ g.arms) where
       let end : at + (test.size + 1) ≡ mid + 1 = omega arith in
       let rest : PerformsAnywhere g b (mid + 1) ops k = (λ (e : Env). subst (λ (y : ℕ). IsCheckedFor g b e k × Performs g b e y ops [] k) end (h.4 e)) in
       expression_follows g b x known [] few bar.test a_number h.1 (pass_own bar k) (λ v. if is_true (ordinal_of v) then from_remainder env k else bars bar.context bar k) at n ops (front g test (one s (GRD bar.resource)) h.3)
-      (refl, (refl, own, mine, is, rest))
+      ((own, refl), (refl, mine, is, rest))
       (λ v simple. tested x bar k (from_remainder env k) v mid ops known own mine is (room_for g h.3) rest (on (mid + 1) (rest env).0 (rest env).1))
 
   -- the guard of a barred process

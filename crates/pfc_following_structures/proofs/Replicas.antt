@@ -14,7 +14,7 @@ use Rattle.pfc_translation.specs.Codes.{◌⨾◌, one}
 use Rattle.pfc_translation.specs.Addresses.{base_code}
 use Rattle.pfc_translation.specs.Selects.{replica_code}
 use Rattle.pfc_standing_code.specs.Shapes.{a_number, a_whole, shape_of, shape_cells, is_number}
-use Rattle.pfc_standing_code.specs.Settings.{Setting, site_of, IsAt, Stands}
+use Rattle.pfc_standing_code.specs.Settings.{Setting, of_own, site_of, IsAt, Stands}
 use Rattle.pfc_standing_code.specs.TypedStatements.{IsReplica}
 use Rattle.pfc_standing_code.specs.Words.{first_word, IsChecked}
 use Rattle.pfc_standing_code.specs.Performs.{Performs}
@@ -25,7 +25,8 @@ use Rattle.pfc_following_expressions.proofs.Held.{held_grown, base_changes}
 use Rattle.pfc_following_expressions.proofs.Moves.{fits, next_move}
 use Rattle.pfc_following_expressions.proofs.Expressions.{env_in, whole_part, base_follows}
 
-module _ (g : Setting) (b : Block) (names : List Level) (around : Around) (checked : IsChecked g b (env_in g names around)) (few : 0 ≤ g.arms) where
+module _ (g : Setting) (b : Block) (names : List Level) (around : Around) (checked : IsChecked g b (env_in g names around)) (few : 0 ≤ g.arms)
+    (own : g.trial ≡ of_own) where
   abbrev env : Env
   env = env_in g names around
 
@@ -51,4 +52,5 @@ module _ (g : Setting) (b : Block) (names : List Level) (around : Around) (check
       let after = subst (λ (y : ℕ). Performs g b (env_in g names around) y ops [] k) end rest in
       base_follows g b names around checked r.line [] few v at n ops is.2 (front g base last st)
       (next_move g [] few (at + 1) (w ∷ ops) (LIT r.value) r.line (r.value ∷ w ∷ ops) (head g s (λ at n. LIT r.value) (one s (STORE 1)) behind) (fits g [] (LIT r.value) (w ∷ ops) (omega arith) tt tt) refl (room_for g third)
-      (arrives (at + 1 + 1) (r.value ∷ w ∷ ops) [] (b, checked, of_value is.0 w ops refl (is_number is.0 r.value is.1) (whole_part g b names around checked r.line [] few v is.2) store after)))
+      (arrives (at + 1 + 1) (r.value ∷ w ∷ ops) []
+      (b, checked, (own, of_value is.0 w ops refl (is_number is.0 r.value is.1) (whole_part g b names around checked r.line [] few v is.2) store after))))

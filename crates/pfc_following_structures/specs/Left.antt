@@ -1,5 +1,5 @@
 -- What it is for code to follow the next action of what is left behind a statement.
-use Rattle.std.specs.Prelude.{ℕ, ◌+◌, ◌≤◌, ℤ, List, [], length, Some}
+use Rattle.std.specs.Prelude.{ℕ, ◌+◌, ◌≤◌, ◌≡◌, ℤ, List, [], length, Some}
 use Rattle.pfc_base.specs.declared.places.Place.{Place}
 use Rattle.pfc_tree.specs.trees.Exprs.{ExprTree}
 use Rattle.pfc_tree.specs.trees.Stmts.{StmtTrees, repeat_until}
@@ -13,7 +13,7 @@ use Rattle.pfc_semantics.specs.Statements.{from_until, from_pass, begin_pass}
 use Rattle.pfc_semantics.specs.Rewriting.{from_remainder}
 use Rattle.pfc_translation.specs.Statements.{stmt_code, stmts_code}
 use Rattle.pfc_translation.specs.Selects.{replica_code}
-use Rattle.pfc_standing_code.specs.Settings.{Setting, site_of, Stands}
+use Rattle.pfc_standing_code.specs.Settings.{Setting, of_own, site_of, Stands}
 use Rattle.pfc_standing_code.specs.Effects.{Arm}
 use Rattle.pfc_standing_code.specs.TypedStatements.{IsReplica}
 use Rattle.pfc_standing_code.specs.Words.{IsChecked}
@@ -23,7 +23,7 @@ use Rattle.pfc_standing_code.specs.Following.{Follows}
 -- the test of a `repeat`, behind its statements
 abbrev pub UntilFollows : Setting → Block → Env → Type 0
 UntilFollows g b env =
-    IsChecked g b env → (ts : StmtTrees) (e : ExprTree) (p : Place) (line m : ℕ) (k : Remainder) (go : Action) (at n : ℕ) (ops : List ℤ)
+    IsChecked g b env → g.trial ≡ of_own → (ts : StmtTrees) (e : ExprTree) (p : Place) (line m : ℕ) (k : Remainder) (go : Action) (at n : ℕ) (ops : List ℤ)
     → StmtAt g (site_of g b (context env line)) at n (length ops) m (repeat_until ts e p)
     → Performs g b env (at + (stmt_code (site_of g b (context env line)) m (repeat_until ts e p)).size) ops [] k
     → Follows g go (at + (stmt_code (site_of g b (context env line)) m (repeat_until ts e p)).size) ops []
@@ -32,7 +32,7 @@ UntilFollows g b env =
 -- the next pass of a `for`, whose operands are held
 abbrev pub PassFollows : Setting → Block → Env → Type 0
 PassFollows g b env =
-    IsChecked g b env → (f : Count) (k : Remainder) (at n : ℕ) (ops below : List ℤ)
+    IsChecked g b env → g.trial ≡ of_own → (f : Count) (k : Remainder) (at n : ℕ) (ops below : List ℤ)
     → HoldsCount g (site_of g b (context env f.line)) f ops below → HasPass g (site_of g b (context env f.line)) f at n (length ops)
     → Performs g b env (at + 1 + (stmt_code (site_of g b (context env f.line)) f.next f.pass).size + 1) below [] k
     → Follows g (begin_pass (context env f.line) f k) at ops []
@@ -40,7 +40,7 @@ PassFollows g b env =
 -- the end of a pass: the way back, or on behind the loop
 abbrev pub PassEndFollows : Setting → Block → Env → Type 0
 PassEndFollows g b env =
-    IsChecked g b env → (f : Count) (k : Remainder) (go : Action) (at n : ℕ) (ops below : List ℤ)
+    IsChecked g b env → g.trial ≡ of_own → (f : Count) (k : Remainder) (go : Action) (at n : ℕ) (ops below : List ℤ)
     → HoldsCount g (site_of g b (context env f.line)) f ops below → HasPass g (site_of g b (context env f.line)) f at n (length ops)
     → Performs g b env (at + 1 + (stmt_code (site_of g b (context env f.line)) f.next f.pass).size + 1) below [] k
     → Follows g go (at + 1 + (stmt_code (site_of g b (context env f.line)) f.next f.pass).size + 1) below []
@@ -49,7 +49,7 @@ PassEndFollows g b env =
 -- the write of a replicated alternative
 abbrev pub ReplicaFollows : Setting → Block → Env → Type 0
 ReplicaFollows g b env =
-    IsChecked g b env → (r : Replica) (k : Remainder) (at n : ℕ) (ops : List ℤ)
+    IsChecked g b env → g.trial ≡ of_own → (r : Replica) (k : Remainder) (at n : ℕ) (ops : List ℤ)
     → IsReplica (site_of g b (context env r.line)) (Some r) → Stands g at n (length ops) (replica_code (site_of g b (context env r.line)) (Some r))
     → Performs g b env (at + (replica_code (site_of g b (context env r.line)) (Some r)).size) ops [] k
     → Follows g (writes (context env r.line) r.at (ordinal r.value) k) at ops []

@@ -12,7 +12,7 @@ use Rattle.pfc_semantics.specs.Remainders.{Remainder, Action}
 use Rattle.pfc_semantics.specs.Alternatives.{context}
 use Rattle.pfc_semantics.specs.Statements.{from_stmt, from_stmts, from_arms}
 use Rattle.pfc_translation.specs.Statements.{label_count, stmt_code, stmts_code, arms_code}
-use Rattle.pfc_standing_code.specs.Settings.{Setting, site_of}
+use Rattle.pfc_standing_code.specs.Settings.{Setting, of_own, site_of}
 use Rattle.pfc_standing_code.specs.Words.{IsChecked}
 use Rattle.pfc_standing_code.specs.Performs.{StmtAt, StmtsAt, ArmsAt, Performs}
 use Rattle.pfc_standing_code.specs.Following.{Follows}
@@ -43,84 +43,92 @@ ArmsFollow g b env arms =
 -- ## Statements that hold statements
 
 abbrev pub NothingFollows : Setting → Block → Env → Type 0
-NothingFollows g b env = IsChecked g b env → StatementFollows g b env empty × ((p : Place) → StatementFollows g b env (null p))
+NothingFollows g b env = IsChecked g b env → g.trial ≡ of_own → StatementFollows g b env empty × ((p : Place) → StatementFollows g b env (null p))
 
 abbrev pub BlockFollows : Setting → Block → Env → Type 0
 BlockFollows g b env =
-    IsChecked g b env → (ts : StmtTrees) (first last p : Place) → StatementsFollow g b env ts → StatementFollows g b env (block (body ts first last) p)
+    IsChecked g b env → g.trial ≡ of_own → (ts : StmtTrees) (first last p : Place) → StatementsFollow g b env ts
+    → StatementFollows g b env (block (body ts first last) p)
 
 abbrev pub ListFollows : Setting → Block → Env → Type 0
 ListFollows g b env =
-    IsChecked g b env → StatementsFollow g b env no_stmts
+    IsChecked g b env → g.trial ≡ of_own → StatementsFollow g b env no_stmts
     × ((t : StmtTree) (ts : StmtTrees) → StatementFollows g b env t → StatementsFollow g b env ts → StatementsFollow g b env (more_stmts t ts))
 
 abbrev pub IfFollows : Setting → Block → Env → Type 0
-IfFollows g b env = IsChecked g b env → (e : ExprTree) (t : StmtTree) (p : Place) → StatementFollows g b env t → StatementFollows g b env (if_then e t p)
+IfFollows g b env =
+    IsChecked g b env → g.trial ≡ of_own → (e : ExprTree) (t : StmtTree) (p : Place) → StatementFollows g b env t → StatementFollows g b env (if_then e t p)
 
 abbrev pub IfElseFollows : Setting → Block → Env → Type 0
 IfElseFollows g b env =
-    IsChecked g b env → (e : ExprTree) (t u : StmtTree) (p : Place) → StatementFollows g b env t → StatementFollows g b env u
+    IsChecked g b env → g.trial ≡ of_own → (e : ExprTree) (t u : StmtTree) (p : Place) → StatementFollows g b env t → StatementFollows g b env u
     → StatementFollows g b env (if_then_else e t u p)
 
 abbrev pub CaseFollows : Setting → Block → Env → Type 0
 CaseFollows g b env =
-    IsChecked g b env → (e : ExprTree) (arms : ArmTrees) (last : Bool) (p : Place) → ArmsFollow g b env arms → StatementFollows g b env (case_of e arms last p)
+    IsChecked g b env → g.trial ≡ of_own → (e : ExprTree) (arms : ArmTrees) (last : Bool) (p : Place) → ArmsFollow g b env arms
+    → StatementFollows g b env (case_of e arms last p)
 
 abbrev pub ArmListFollows : Setting → Block → Env → Type 0
 ArmListFollows g b env =
-    IsChecked g b env → ArmsFollow g b env no_arms
+    IsChecked g b env → g.trial ≡ of_own → ArmsFollow g b env no_arms
     × ((ls : List Constant) (t : StmtTree) (arms : ArmTrees) → StatementFollows g b env t → ArmsFollow g b env arms → ArmsFollow g b env (more_arms (arm ls t) arms))
 
 abbrev pub WhileFollows : Setting → Block → Env → Type 0
-WhileFollows g b env = IsChecked g b env → (e : ExprTree) (t : StmtTree) (p : Place) → StatementFollows g b env t → StatementFollows g b env (while_do e t p)
+WhileFollows g b env =
+    IsChecked g b env → g.trial ≡ of_own → (e : ExprTree) (t : StmtTree) (p : Place) → StatementFollows g b env t → StatementFollows g b env (while_do e t p)
 
 abbrev pub RepeatFollows : Setting → Block → Env → Type 0
 RepeatFollows g b env =
-    IsChecked g b env → (ts : StmtTrees) (e : ExprTree) (p : Place) → StatementsFollow g b env ts → StatementFollows g b env (repeat_until ts e p)
+    IsChecked g b env → g.trial ≡ of_own → (ts : StmtTrees) (e : ExprTree) (p : Place) → StatementsFollow g b env ts
+    → StatementFollows g b env (repeat_until ts e p)
 
 abbrev pub ForeverFollows : Setting → Block → Env → Type 0
-ForeverFollows g b env = IsChecked g b env → (ts : StmtTrees) (p : Place) → StatementsFollow g b env ts → StatementFollows g b env (repeat_forever ts p)
+ForeverFollows g b env =
+    IsChecked g b env → g.trial ≡ of_own → (ts : StmtTrees) (p : Place) → StatementsFollow g b env ts → StatementFollows g b env (repeat_forever ts p)
 
 -- the first pass of a `for` is an action, so nothing is asked of its statement
 abbrev pub ForFollows : Setting → Block → Env → Type 0
 ForFollows g b env =
-    IsChecked g b env → (x : Text) (from : ExprTree) (down : Bool) (last : ExprTree) (t : StmtTree) (p q : Place)
+    IsChecked g b env → g.trial ≡ of_own → (x : Text) (from : ExprTree) (down : Bool) (last : ExprTree) (t : StmtTree) (p q : Place)
     → StatementFollows g b env (for_do x from down last t p q)
 
 abbrev pub CobeginFollows : Setting → Block → Env → Type 0
-CobeginFollows g b env = IsChecked g b env → (ts : StmtTrees) (last p : Place) → StatementsFollow g b env ts → StatementFollows g b env (cobegin ts last p)
+CobeginFollows g b env =
+    IsChecked g b env → g.trial ≡ of_own → (ts : StmtTrees) (last p : Place) → StatementsFollow g b env ts → StatementFollows g b env (cobegin ts last p)
 
 -- a meeting is an action, so nothing is asked of the statement of an accept
 abbrev pub AcceptFollows : Setting → Block → Env → Type 0
-AcceptFollows g b env = IsChecked g b env → (a : AcceptTree) (p : Place) → StatementFollows g b env (accepting a p)
+AcceptFollows g b env = IsChecked g b env → g.trial ≡ of_own → (a : AcceptTree) (p : Place) → StatementFollows g b env (accepting a p)
 
 -- ## Statements that hold none
 
 abbrev pub AssignFollows : Setting → Block → Env → Type 0
-AssignFollows g b env = IsChecked g b env → (d : DesigTree) (e : ExprTree) (p q : Place) → StatementFollows g b env (assign d e p q)
+AssignFollows g b env = IsChecked g b env → g.trial ≡ of_own → (d : DesigTree) (e : ExprTree) (p q : Place) → StatementFollows g b env (assign d e p q)
 
 abbrev pub SendsFollow : Setting → Block → Env → Type 0
-SendsFollow g b env = IsChecked g b env → (d : DesigTree) (e : ExprTree) (p q : Place) → StatementFollows g b env (send d e p q)
+SendsFollow g b env = IsChecked g b env → g.trial ≡ of_own → (d : DesigTree) (e : ExprTree) (p q : Place) → StatementFollows g b env (send d e p q)
 
 abbrev pub ReceivesFollow : Setting → Block → Env → Type 0
-ReceivesFollow g b env = IsChecked g b env → (d v : DesigTree) (p q : Place) → StatementFollows g b env (receive d v p q)
+ReceivesFollow g b env = IsChecked g b env → g.trial ≡ of_own → (d v : DesigTree) (p q : Place) → StatementFollows g b env (receive d v p q)
 
 abbrev pub CallsFollow : Setting → Block → Env → Type 0
-CallsFollow g b env = IsChecked g b env → (d : DesigTree) (args : ActualTrees) (p : Place) → StatementFollows g b env (call d args p)
+CallsFollow g b env = IsChecked g b env → g.trial ≡ of_own → (d : DesigTree) (args : ActualTrees) (p : Place) → StatementFollows g b env (call d args p)
 
 abbrev pub RequeuesFollow : Setting → Block → Env → Type 0
-RequeuesFollow g b env = IsChecked g b env → (x : Text × Place) (args : ActualTrees) (p : Place) → StatementFollows g b env (requeue x args p)
+RequeuesFollow g b env =
+    IsChecked g b env → g.trial ≡ of_own → (x : Text × Place) (args : ActualTrees) (p : Place) → StatementFollows g b env (requeue x args p)
 
 -- ## Every statement
 
 -- the decision of a select is an action, so nothing is asked of the statements behind its alternatives
 abbrev pub SelectStatementsFollow : Setting → Block → Env → Type 0
 SelectStatementsFollow g b env =
-    IsChecked g b env → ((pri : Bool) (alts : AltTrees) (p q : Place) → StatementFollows g b env (select pri alts p q))
+    IsChecked g b env → g.trial ≡ of_own → ((pri : Bool) (alts : AltTrees) (p q : Place) → StatementFollows g b env (select pri alts p q))
     × ((pri : Bool) (alts : AltTrees) (ts : StmtTrees) (at p q : Place) → StatementFollows g b env (select_else pri alts ts at p q))
 
 abbrev pub EveryStatementFollows : Setting → Block → Env → Type 0
-EveryStatementFollows g b env = IsChecked g b env → (t : StmtTree) → StatementFollows g b env t
+EveryStatementFollows g b env = IsChecked g b env → g.trial ≡ of_own → (t : StmtTree) → StatementFollows g b env t
 
 abbrev pub EveryListFollows : Setting → Block → Env → Type 0
-EveryListFollows g b env = IsChecked g b env → (ts : StmtTrees) → StatementsFollow g b env ts
+EveryListFollows g b env = IsChecked g b env → g.trial ≡ of_own → (ts : StmtTrees) → StatementsFollow g b env ts

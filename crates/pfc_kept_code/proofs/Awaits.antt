@@ -59,7 +59,7 @@ module _ (g : Setting) (view : View) (start : Block) (names : Env → Bool) (agr
       values_kept (compare_to m r u) at ops arms h inside q = (q.0, q.1, q.2, q.3, q.4, values_kept u (at + 1) q.1 arms a_number inside q.5)
       values_kept (invert u) at ops arms h inside q = (q.0, q.1, q.2, values_kept u (at + 1) ops arms a_number inside q.3)
       values_kept (apply f t u) at ops arms h inside q =
-          (q.0, q.1, q.2, stands_seen before view at q.2 (suc (length ops)) _ q.3, values_kept u _ ops arms a_number inside q.4)
+          (q.0, q.1, q.2, q.3, stands_seen before view at q.3 (suc (length ops)) _ q.4, values_kept u _ ops arms a_number inside q.5)
       values_kept (index_into part es ss goal) at ops arms h inside q = (
         q.0,
         q.1,
@@ -169,29 +169,47 @@ module _ (g : Setting) (view : View) (start : Block) (names : Env → Bool) (agr
       values_kept (send_on v k) at ops arms h inside p =
           let q = p.1 in
           (p.0, (q.0, q.1, q.2, q.3, q.4, q.5, q.6, q.7, object_kept before view s agreed v q.0 q.2 q.8, q.9, left k (at + 1) q.3 inside q.10))
-      values_kept (open_if a rest sel k) at ops arms h inside q = (
-        q.0,
-        q.1,
-        q.2,
-        q.3,
-        comm_kept before view s agreed _ _ (λ end rest. left k end ops inside rest) x (at + 1) (length ops) (length ops) a rest sel arms _ q.4,
-      )
-      values_kept (offer_value channel a rest sel k) at ops arms h inside q = (
-        q.0,
-        q.1,
-        q.2,
-        q.3,
-        q.4,
-        q.5,
-        q.6,
-        q.7,
-        object_kept before view s agreed channel q.0 q.2 q.8,
-        arm_kept before view s agreed _ _ (λ end rest. left k end q.3 inside rest) x at (length q.3) a rest sel arms _ q.9,
-      )
-      values_kept (offer_wait a rest sel k) at ops arms h inside q =
-          (q.0, arm_kept before view s agreed _ _ (λ end rest. left k end ops inside rest) x at (length ops) a rest sel arms _ q.1)
+      values_kept (open_if a rest sel k) at ops arms h inside p =
+          let q = p.1 in (
+            p.0,
+            (
+              q.0,
+              q.1,
+              q.2,
+              q.3,
+              comm_kept before view s agreed _ _ (λ end rest. left k end ops inside rest) x (at + 1) (length ops) (length ops) a rest sel arms _ q.4,
+            ),
+          )
+      values_kept (offer_value channel a rest sel k) at ops arms h inside p =
+          let q = p.1 in (
+            p.0,
+            (
+              q.0,
+              q.1,
+              q.2,
+              q.3,
+              q.4,
+              q.5,
+              q.6,
+              q.7,
+              object_kept before view s agreed channel q.0 q.2 q.8,
+              arm_kept before view s agreed _ _ (λ end rest. left k end q.3 inside rest) x at (length q.3) a rest sel arms _ q.9,
+            ),
+          )
+      values_kept (offer_wait a rest sel k) at ops arms h inside p =
+          let q = p.1 in
+          (p.0, (q.0, arm_kept before view s agreed _ _ (λ end rest. left k end ops inside rest) x at (length ops) a rest sel arms _ q.1))
       values_kept (pass_own bar k) at ops arms h inside p =
-          let q = p.1 in (p.0, (q.0, q.1, q.2, q.3, anywhere_kept g view start names agree g.accepts g.meetings k start same_block (at + 1) ops inside.0 inside.1 q.4))
+          let q = p.1 in (
+            p.0,
+            (
+              q.0,
+              q.1,
+              q.2,
+              anywhere_kept g view start names agree g.accepts g.meetings k start same_block
+                  (at + 1) ops inside.0 inside.1 q.3,
+            ),
+          )
       values_kept (pass_other w scan k) at ops arms h inside p = let q = p.1 in not_another q.1.attempt q.1.trial
 
       pub locations_kept : (goal : AwaitsLocation) (at : ℕ) (ops : List ℤ) (arms : List Arm) (t : Option TypeId) → InLocation names goal
@@ -212,7 +230,8 @@ module _ (g : Setting) (view : View) (start : Block) (names : Env → Bool) (agr
         stands_seen before view at q.7 (suc (length ops)) _ q.8,
         calls_kept call _ q.2 arms (q.0 ++ q.1 ∷ rest) inside q.9,
       )
-      locations_kept (ask_empty u) at ops arms t inside q = (q.0, q.1, q.2, q.3, values_kept u (at + 2) ops arms a_number inside q.4)
+      locations_kept (ask_empty u) at ops arms t inside p =
+          let q = p.1 in (p.0, (q.0, q.1, q.2, q.3, values_kept u (at + 2) ops arms a_number inside q.4))
       locations_kept (activate_with formals args k) at ops arms t inside p =
           let q = p.1 in
           (p.0, (q.0, q.1, q.2, q.3, q.4, q.5, object_then_seen before view s at ops _ _ _ (λ end rest. left k end ops inside rest) q.6, q.7, q.8))
@@ -236,40 +255,53 @@ module _ (g : Setting) (view : View) (start : Block) (names : Env → Bool) (agr
       locations_kept (receive_into channel k) at ops arms t inside p =
           let q = p.1 in
           (p.0, (q.0, q.1, q.2, q.3, q.4, q.5, q.6, q.7, object_kept before view s agreed channel q.0 q.2 q.8, q.9, left k (at + 1) q.3 inside q.10))
-      locations_kept (offer_to m a rest sel k) at ops arms t inside q = (
-        q.0,
-        q.1,
-        q.2,
-        q.3,
-        q.4,
-        comm_kept before view s agreed _ _ (λ end rest. left k end ops inside rest) x (at + 1) (suc (length ops)) (length ops) a rest sel arms _ q.5,
-      )
-      locations_kept (offer_from d a rest sel k) at ops arms t inside q = (
-        q.0,
-        q.1,
-        q.2,
-        q.3,
-        q.4,
-        comm_kept before view s agreed _ _ (λ end rest. left k end ops inside rest) x (at + 1) (suc (length ops)) (length ops) a rest sel arms _ q.5,
-      )
-      locations_kept (offer_into channel a rest sel k) at ops arms t inside q = (
-        q.0,
-        q.1,
-        q.2,
-        q.3,
-        q.4,
-        q.5,
-        q.6,
-        q.7,
-        object_kept before view s agreed channel q.0 q.2 q.8,
-        arm_kept before view s agreed _ _ (λ end rest. left k end q.3 inside rest) x at (length q.3) a rest sel arms _ q.9,
-      )
+      locations_kept (offer_to m a rest sel k) at ops arms t inside p =
+          let q = p.1 in (
+            p.0,
+            (
+              q.0,
+              q.1,
+              q.2,
+              q.3,
+              q.4,
+              comm_kept before view s agreed _ _ (λ end rest. left k end ops inside rest) x (at + 1) (suc (length ops)) (length ops) a rest sel arms _ q.5,
+            ),
+          )
+      locations_kept (offer_from d a rest sel k) at ops arms t inside p =
+          let q = p.1 in (
+            p.0,
+            (
+              q.0,
+              q.1,
+              q.2,
+              q.3,
+              q.4,
+              comm_kept before view s agreed _ _ (λ end rest. left k end ops inside rest) x (at + 1) (suc (length ops)) (length ops) a rest sel arms _ q.5,
+            ),
+          )
+      locations_kept (offer_into channel a rest sel k) at ops arms t inside p =
+          let q = p.1 in (
+            p.0,
+            (
+              q.0,
+              q.1,
+              q.2,
+              q.3,
+              q.4,
+              q.5,
+              q.6,
+              q.7,
+              object_kept before view s agreed channel q.0 q.2 q.8,
+              arm_kept before view s agreed _ _ (λ end rest. left k end q.3 inside rest) x at (length q.3) a rest sel arms _ q.9,
+            ),
+          )
 
       pub calls_kept : (call : Call) (at : ℕ) (ops : List ℤ) (arms : List Arm) (formals : List Formal) → InCall names call
           → CallsAt before start x at ops arms formals call → CallsAt later start x at ops arms formals call
       calls_kept (to_procedure scope k) at ops arms formals inside p =
           let q = p.1 in (p.0, (q.0, q.1, q.2, q.3, left k (at + 1) ops inside q.4))
-      calls_kept (to_function scope u) at ops arms formals inside q = (q.0, q.1, q.2, q.3, q.4, values_kept u (at + 1) ops arms a_number inside q.5)
+      calls_kept (to_function scope u) at ops arms formals inside p =
+          let q = p.1 in (p.0, (q.0, q.1, q.2, q.3, q.4, values_kept u (at + 1) ops arms a_number inside q.5))
       calls_kept (to_module n scope k) at ops arms formals inside p = let q = p.1 in (p.0, (q.0, q.1, q.2, left k (at + 1) ops inside q.3))
       calls_kept (to_requeue scope) at ops arms formals inside p = p
       calls_kept (to_process v k) at ops arms formals inside p =

@@ -83,11 +83,15 @@ module _ (g : Setting) (view : View) (start : Block) (names : Env → Bool) (agr
         )) h.1,
   )
   performs_kept accepts meetings (in_names inner k) b near env at ops arms named inside h =
-      let there = beside_then near (beside_seen (before accepts meetings) g.view g.accepts g.meetings b h.0 h.1) in (
+      let q = h.1 in
+      let there = beside_then near (beside_seen (before accepts meetings) g.view g.accepts g.meetings b q.0 q.1) in (
         h.0,
-        beside_seen (before accepts meetings) view accepts meetings b h.0 h.1,
-        names_kept (before accepts meetings) view h.0 inner (agree h.0 inner there inside.0) h.2,
-        performs_kept accepts meetings k h.0 there inner at ops arms (asked_of (Among names) inner k inside.0) inside.1 h.3,
+        (
+          q.0,
+          beside_seen (before accepts meetings) view accepts meetings b q.0 q.1,
+          names_kept (before accepts meetings) view q.0 inner (agree q.0 inner there inside.0) q.2,
+          performs_kept accepts meetings k q.0 there inner at ops arms (asked_of (Among names) inner k inside.0) inside.1 q.3,
+        ),
       )
   performs_kept accepts meetings (turn m loop k) b near env at ops arms named inside h = (
     h.0,
@@ -183,26 +187,27 @@ module _ (g : Setting) (view : View) (start : Block) (names : Env → Bool) (agr
               (asked_of (Among names) env k named) inside q.3,
         )) h.1,
   )
-  performs_kept accepts meetings (go_through line a rest sel k) b near env at ops arms named inside h =
-      jumped_seen (before accepts meetings) view at _ _
-      (λ to q. (
-        q.0,
-        comm_kept (before accepts meetings) view (site_of (before accepts meetings) b (context env line)) (agree b env near named) _ _
-            (λ end left. performs_kept accepts meetings k b near env end ops [] (asked_of (Among names) env k named) inside left) (context env line) to (length ops)
-            (length ops) a rest sel arms _ q.1,
-      )) h
+  performs_kept accepts meetings (go_through line a rest sel k) b near env at ops arms named inside h = (
+    h.0,
+    jumped_seen (before accepts meetings) view at _ _
+        (λ to q. (
+          q.0,
+          comm_kept (before accepts meetings) view (site_of (before accepts meetings) b (context env line)) (agree b env near named) _ _
+              (λ end left. performs_kept accepts meetings k b near env end ops [] (asked_of (Among names) env k named) inside left) (context env line) to
+              (length ops) (length ops) a rest sel arms _ q.1,
+        )) h.1,
+  )
   performs_kept accepts meetings (try_guard bar k) b near env at ops arms named inside h = (
     h.0,
     jumped_seen (before accepts meetings) view at _ _
         (λ to q. (
           q.0,
-          q.1,
           guard_kept (before accepts meetings) view b bar to (length ops) (λ (end : ℕ). PerformsAnywhere (before accepts meetings) b end ops k)
               (λ (end : ℕ). PerformsAnywhere (later accepts meetings) b end ops k) (agree b bar.context.env near inside.0)
               (λ end rest e. (
                 asked_kept accepts meetings b near e k (inside.1 e) (rest e).0,
                 performs_kept accepts meetings k b near e end ops [] (inside.1 e) inside.2 (rest e).1,
-              )) q.2,
+              )) q.1,
         )) h.1,
   )
   performs_kept accepts meetings (scan_on scan k) b near env at ops arms named inside h = not_turn scan h.1.2.0.0 h.1.2.0.1

@@ -52,7 +52,13 @@ module _ (g : Setting) (view : View) (s : Site) (agree : AgreeAt (unlined s) g.v
   pub select_kept : (x : Context) (at held : ℕ) (alts : List Alternative) (sel : Selecting) (arms : List Arm) → SelectAt g s x at held alts sel arms P
       → SelectAt other s x at held alts sel arms Q
   select_kept x at held alts sel arms h =
-      record { left = alternatives_kept x at held alts sel h.left; open_ones = are_open_kept held sel.offered arms h.open_ones; room = h.room }
+      record {
+        left = alternatives_kept x at held alts sel h.left;
+        open_ones = are_open_kept held sel.offered arms h.open_ones;
+        room = h.room;
+        end = h.end;
+        left_behind = f h.end h.left_behind;
+      }
 
   pub comm_kept : (x : Context) (at above held : ℕ) (a : Alternative) (rest : List Alternative) (sel : Selecting) (arms : List Arm) (code : ℕ → Code)
       → CommAt g s x at above held a rest sel arms code P → CommAt other s x at above held a rest sel arms code Q
@@ -80,4 +86,4 @@ module _ (g : Setting) (view : View) (s : Site) (agree : AgreeAt (unlined s) g.v
 
 pub guard_kept : (g : Setting) (view : View) (b : Block) (bar : Bar) (at held : ℕ) (P Q : ℕ → Type 0) → AgreeAt (names_at g b bar.context.env) g.view view
     → ((end : ℕ) → P end → Q end) → GuardAt g b bar at held P → GuardAt (record g { view = view }) b bar at held Q
-guard_kept g view b bar at held P Q agree f h = (names_kept g view b bar.context.env agree h.0, h.1, h.2, stands_seen g view at h.2 held _ h.3, f _ h.4)
+guard_kept g view b bar at held P Q agree f h = (names_kept g view b bar.context.env agree h.0, h.1, h.2, stands_seen g view at h.2 held _ h.3, f _ h.4, h.5)

@@ -79,6 +79,7 @@ names_kept g view b env agree checked =
       objects = λ v t w is object. checked.objects v t w (word_back (names_at g b env) g.view view agree v t w is) object;
       state = checked.state;
       beside = beside_viewed g view g.block b checked.beside;
+      tried = checked.tried;
     }
 
 module _ (g : Setting) (view : View) (s : Site) (agree : AgreeAt (unlined s) g.view view) where

@@ -76,4 +76,5 @@ checked_with g b env n caller h =
       objects = h.objects;
       state = h.state;
       beside = beside_with g n caller g.block b h.beside;
+      tried = h.tried;
     }

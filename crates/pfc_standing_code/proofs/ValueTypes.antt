@@ -81,8 +81,8 @@ awaited_value g b x at ops arms t (set_count v k) h = of_number g.program.state.
 awaited_value g b x at ops arms t (delay_with v k) h = of_number g.program.state.forms t h.1.0
 awaited_value g b x at ops arms t (sleep_for k) h = of_number g.program.state.forms t h.1.0
 awaited_value g b x at ops arms t (send_on v k) h = let p = h.1 in of_shape g.program.state.forms t p.1 p.4 p.7.2
-awaited_value g b x at ops arms t (open_if a rest sel k) h = of_number g.program.state.forms t h.0
-awaited_value g b x at ops arms t (offer_value channel a rest sel k) h = of_shape g.program.state.forms t h.1 h.4 h.7.2
-awaited_value g b x at ops arms t (offer_wait a rest sel k) h = of_number g.program.state.forms t h.0
+awaited_value g b x at ops arms t (open_if a rest sel k) h = of_number g.program.state.forms t h.1.0
+awaited_value g b x at ops arms t (offer_value channel a rest sel k) h = let p = h.1 in of_shape g.program.state.forms t p.1 p.4 p.7.2
+awaited_value g b x at ops arms t (offer_wait a rest sel k) h = of_number g.program.state.forms t h.1.0
 awaited_value g b x at ops arms t (pass_own bar k) h = of_number g.program.state.forms t h.1.0
 awaited_value g b x at ops arms t (pass_other w scan k) h = of_number g.program.state.forms t h.1.0

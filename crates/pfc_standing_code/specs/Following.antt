@@ -1,5 +1,5 @@
 -- Code that follows the next action of a process: quiet instructions, each of which leads on, and then the action.
-use Rattle.std.specs.Prelude.{ℕ, suc, ◌+◌, ◌<◌, ◌≤◌, ◌≡◌, ℤ, true, false, List, [], ◌∷◌, ◌++◌, length, reverse, Option, Some, None, Ok, Err}
+use Rattle.std.specs.Prelude.{ℕ, suc, ◌+◌, ◌<◌, ◌≤◌, ◌≡◌, ℤ, Bool, true, false, List, [], ◌∷◌, ◌++◌, length, reverse, Option, Some, None, Ok, Err}
 use Rattle.std.specs.List.{slice_get}
 use Rattle.pfc_base.specs.declared.faults.RunFault.{RunFault}
 use Rattle.pfc_code.specs.declared.instructions.Instr.{Instr}
@@ -25,10 +25,10 @@ use Rattle.pfc_translation.specs.Selects.{accept_cell, accept_cells}
 use Rattle.pfc_cells.specs.Shapes.{words_of}
 use Rattle.pfc_standing_code.specs.Shapes.{Shape, a_number, shape_of, shape_cells, IsOf, IsShaped}
 use Rattle.pfc_standing_code.specs.ValueTypes.{IsValueType}
-use Rattle.pfc_standing_code.specs.Settings.{Trial, Setting, of_own, of_turn, of_another, site_of, parted, IsAt}
+use Rattle.pfc_standing_code.specs.Settings.{Trial, Setting, of_own, of_turn, of_another, InNoScan, site_of, parted, IsAt}
 use Rattle.pfc_standing_code.specs.Effects.{Arm, onward, refuses, effect_of, CanPerform}
 use Rattle.pfc_standing_code.specs.Words.{IsWord, IsSimpleWord, IsObject, IsChecked, AreHeld}
-use Rattle.pfc_standing_code.specs.Performs.{MetAt, DecidesAt, IsSent, IsReceived, AreOpen, own_room, IsOwnBar, Tries, IsCheckedFor, Clear, Performs}
+use Rattle.pfc_standing_code.specs.Performs.{MetAt, DecidesAt, IsSent, IsReceived, AreOpen, own_room, IsOwnBar, Tries, IsCheckedFor, Clear, Alone, Performs}
 use Rattle.pfc_standing_code.specs.Awaits.{TurnAt, PerformsAnywhere, BehindScanAt, TakesValue, CallsAt}
 
 -- a number or a string that is printed, with or without a width
@@ -85,51 +85,53 @@ IsTurnOf of_own scan = ⊥
 IsTurnOf (of_turn next back) scan = next ≡ scan
 IsTurnOf (of_another attempt) scan = record attempt.scan { after = Some attempt.whom.ticket } ≡ scan
 
--- The code is at the action, and performs behind it what is left then. The names that are in view there are those of the action.
+-- The code is at the action, and performs behind it what is left then. The names that are in view there are those of the action. A process that is in a
+-- scan does none but what a guard does, and the scan's own.
 abbrev pub ArrivedBy : Setting → Block → ℕ → List ℤ → List Arm → Action → Type 0
 ArrivedBy g b at ops arms (reads x v u) =
     (t : TypeId) × (w : ℤ) × (below : List ℤ) × (ops ≡ w ∷ below) × IsWord g.view (site_of g b x) v (Some t) w
     × IsAt g at (LOAD (shape_cells g.program.state.forms (shape_of t))) x.line × (length below + shape_cells g.program.state.forms (shape_of t) ≤ g.room)
     × TakesValue g b x (at + 1) below arms (shape_of t) u × IsValueType g.program.state.forms t
-ArrivedBy g b at ops arms (writes x v new k) = IsWrite g b x at ops arms v new k
-ArrivedBy g b at ops arms (turns x k) = Clear arms (IsTurn g b x at ops k)
+ArrivedBy g b at ops arms (writes x v new k) = InNoScan g (IsWrite g b x at ops arms v new k)
+ArrivedBy g b at ops arms (turns x k) = Alone g arms (IsTurn g b x at ops k)
 ArrivedBy g b at ops arms (calls x call given) =
     (formals : List Formal) × (below : List ℤ) × AreHeld g.view (site_of g b x) formals given ops below × CallsAt g b x at below arms formals call
-ArrivedBy g b at ops arms (finishes line) = Clear arms ((ops ≡ g.under) × IsAt g at g.last line × (g.trial ≡ of_own) × (g.meetings ≡ []))
-ArrivedBy g b at ops arms (prints x bytes k) = Clear arms ((below : List ℤ) × IsPiece g x.line at ops below bytes × Performs g b x.env (at + 1) below [] k)
+ArrivedBy g b at ops arms (finishes line) = Alone g arms ((ops ≡ g.under) × IsAt g at g.last line × (g.meetings ≡ []))
+ArrivedBy g b at ops arms (prints x bytes k) = Alone g arms ((below : List ℤ) × IsPiece g x.line at ops below bytes × Performs g b x.env (at + 1) below [] k)
 ArrivedBy g b at ops arms (inputs x t v k) =
-    Clear arms ((w : ℤ) × (below : List ℤ) × (ops ≡ w ∷ below) × IsSimpleWord g.view (site_of g b x) v w × IsAt g at (read_instr (simple_of t)) x.line
+    Alone g arms ((w : ℤ) × (below : List ℤ) × (ops ≡ w ∷ below) × IsSimpleWord g.view (site_of g b x) v w × IsAt g at (read_instr (simple_of t)) x.line
     × Performs g b x.env (at + 1) below [] k)
-ArrivedBy g b at ops arms (skips x k) = Clear arms (IsAt g at RDNL x.line × Performs g b x.env (at + 1) ops [] k)
-ArrivedBy g b at ops arms (asks_eof x u) = IsAt g at EOF x.line × (suc (length ops) ≤ g.room) × TakesValue g b x (at + 1) ops arms a_number u
-ArrivedBy g b at ops arms (asks_eoln x u) = IsAt g at EOLN x.line × (suc (length ops) ≤ g.room) × TakesValue g b x (at + 1) ops arms a_number u
-ArrivedBy g b at ops arms (asks_clock x u) = IsAt g at CLOCK x.line × (suc (length ops) ≤ g.room) × TakesValue g b x (at + 1) ops arms a_number u
+ArrivedBy g b at ops arms (skips x k) = Alone g arms (IsAt g at RDNL x.line × Performs g b x.env (at + 1) ops [] k)
+ArrivedBy g b at ops arms (asks_eof x u) = InNoScan g (IsAt g at EOF x.line × (suc (length ops) ≤ g.room) × TakesValue g b x (at + 1) ops arms a_number u)
+ArrivedBy g b at ops arms (asks_eoln x u) = InNoScan g (IsAt g at EOLN x.line × (suc (length ops) ≤ g.room) × TakesValue g b x (at + 1) ops arms a_number u)
+ArrivedBy g b at ops arms (asks_clock x u) = InNoScan g (IsAt g at CLOCK x.line × (suc (length ops) ≤ g.room) × TakesValue g b x (at + 1) ops arms a_number u)
 ArrivedBy g b at ops arms (asks_empty x v u) =
-    (n : ℤ) × (below : List ℤ) × (ops ≡ n ∷ below) × IsObject g (site_of g b x) v (Some condition) n × IsAt g at EMPTY x.line
-    × TakesValue g b x (at + 1) below arms a_number u
-ArrivedBy g b at ops arms (draws x n u) = (below : List ℤ) × (ops ≡ n ∷ below) × IsAt g at RAND x.line × TakesValue g b x (at + 1) below arms a_number u
-ArrivedBy g b at ops arms (joins x k) = Clear arms (IsAt g at COEND x.line × Performs g b x.env (at + 1) ops [] k)
+    InNoScan g ((n : ℤ) × (below : List ℤ) × (ops ≡ n ∷ below) × IsObject g (site_of g b x) v (Some condition) n × IsAt g at EMPTY x.line
+    × TakesValue g b x (at + 1) below arms a_number u)
+ArrivedBy g b at ops arms (draws x n u) =
+    InNoScan g ((below : List ℤ) × (ops ≡ n ∷ below) × IsAt g at RAND x.line × TakesValue g b x (at + 1) below arms a_number u)
+ArrivedBy g b at ops arms (joins x k) = Alone g arms (IsAt g at COEND x.line × Performs g b x.env (at + 1) ops [] k)
 ArrivedBy g b at ops arms (initials x v n k) =
-    Clear arms ((rest : List ℤ) × (ops ≡ n ∷ rest) × ObjectAt g b x at rest v semaphore SINI k)
-ArrivedBy g b at ops arms (waits x v k) = Clear arms (ObjectAt g b x at ops v semaphore SWAIT k)
-ArrivedBy g b at ops arms (signals x v k) = Clear arms (ObjectAt g b x at ops v semaphore SSIG k)
+    Alone g arms ((rest : List ℤ) × (ops ≡ n ∷ rest) × ObjectAt g b x at rest v semaphore SINI k)
+ArrivedBy g b at ops arms (waits x v k) = Alone g arms (ObjectAt g b x at ops v semaphore SWAIT k)
+ArrivedBy g b at ops arms (signals x v k) = Alone g arms (ObjectAt g b x at ops v semaphore SSIG k)
 ArrivedBy g b at ops arms (delays x v n k) =
-    Clear arms ((rest : List ℤ) × (ops ≡ n ∷ rest) × ObjectAt g b x at rest v condition DELAY k)
-ArrivedBy g b at ops arms (resumes x v k) = Clear arms (ObjectAt g b x at ops v condition RESUME k)
-ArrivedBy g b at ops arms (sleeps x n k) = Clear arms ((below : List ℤ) × (ops ≡ n ∷ below) × IsAt g at SLEEP x.line × Performs g b x.env (at + 1) below [] k)
-ArrivedBy g b at ops arms (meets x o k) = Clear arms (IsPlain o × MeetsBy g b x at ops o o.offer k)
+    Alone g arms ((rest : List ℤ) × (ops ≡ n ∷ rest) × ObjectAt g b x at rest v condition DELAY k)
+ArrivedBy g b at ops arms (resumes x v k) = Alone g arms (ObjectAt g b x at ops v condition RESUME k)
+ArrivedBy g b at ops arms (sleeps x n k) = Alone g arms ((below : List ℤ) × (ops ≡ n ∷ below) × IsAt g at SLEEP x.line × Performs g b x.env (at + 1) below [] k)
+ArrivedBy g b at ops arms (meets x o k) = Alone g arms (IsPlain o × MeetsBy g b x at ops o o.offer k)
 ArrivedBy g b at ops arms (decides x sel k) =
     let s = site_of g b x in
     let behind = λ (end : ℕ). Performs g b x.env end ops [] k in
-    DecidesAt g s at (length ops) sel.pri sel.otherwise behind × AreOpen g s (length ops) sel.offered arms behind
+    InNoScan g (DecidesAt g s at (length ops) sel.pri sel.otherwise behind × AreOpen g s (length ops) sel.offered arms behind)
 ArrivedBy g b at ops arms (parts x caller k) =
-    Clear arms (IsAt g at EACC x.line × (slice_get g.meetings 0 ≡ Some caller) × IsCheckedFor (parted g) b x.env k
+    Alone g arms (IsAt g at EACC x.line × (slice_get g.meetings 0 ≡ Some caller) × IsCheckedFor (parted g) b x.env k
     × Performs (parted g) b x.env (at + 1) ops [] k)
 -- a turn of the process itself, or behind the false guard of a barred process
 ArrivedBy g b at ops arms (scans x scan k) =
     Clear arms (IsTurnOf g.trial scan × (length ops ≤ own_room g.trial g.room) × TurnAt g at scan × BehindScanAt g scan ops k)
 ArrivedBy g b at ops arms (bars x bar k) =
-    Clear arms ((v : ℤ) × (below : List ℤ) × (ops ≡ v ∷ below) × (is_true v ≡ false) × (g.trial ≡ of_own) × IsOwnBar g b bar
+    Alone g arms ((v : ℤ) × (below : List ℤ) × (ops ≡ v ∷ below) × (is_true v ≡ false) × IsOwnBar g b bar
     × IsAt g at (GRD bar.resource) x.line × PerformsAnywhere g b (at + 1) below k)
 ArrivedBy g b at ops arms (passes x w scan k) =
     Clear arms ((v : ℤ) × (below : List ℤ) × Tries g w scan (length below) × (ops ≡ v ∷ below) × (is_true v ≡ true)
@@ -165,6 +167,14 @@ names_of (scans x scan k) = None
 names_of (bars x bar k) = Some x.env
 names_of (passes x w scan k) = Some x.env
 names_of (faults x f) = None
+
+-- what may be done in a scan: a read or a fault in the guard of another, and the turns and the pass of the scan
+abbrev pub may_scan : Action → Bool
+may_scan (reads x v u) = true
+may_scan (scans x scan k) = true
+may_scan (passes x w scan k) = true
+may_scan (faults x f) = true
+may_scan n = false
 
 abbrev pub AreChecked : Setting → Block → Option Env → Type 0
 AreChecked g b None = Unit {0}

@@ -26,11 +26,11 @@ use Rattle.pfc_translation.specs.Statements.{stmt_code, stmts_code, tests_code, 
 use Rattle.pfc_translation.specs.Selects.{accept_cell, accept_cells, replica_code, comm_code, guarded_code, alternatives_code, first_of}
 use Rattle.pfc_cells.specs.Shapes.{words_of}
 use Rattle.pfc_standing_code.specs.Shapes.{a_number, shape_of, shape_cells, IsOf}
-use Rattle.pfc_standing_code.specs.Settings.{View, Trial, Attempt, Setting, of_own, of_turn, of_another, site_of, IsBeside, parted, IsAt, Stands, Jumped}
+use Rattle.pfc_standing_code.specs.Settings.{View, Trial, Attempt, Setting, of_own, of_turn, of_another, InNoScan, site_of, IsBeside, parted, IsAt, Stands, Jumped}
 use Rattle.pfc_standing_code.specs.Effects.{Arm}
 use Rattle.pfc_standing_code.specs.Typed.{HasShape}
 use Rattle.pfc_standing_code.specs.TypedStatements.{IsChannel, IsCarried, AcceptsEntry, IsTyped, AreTyped, AreArmsTyped, AreWritten, AreRead, IsReplica, IsGuard, IsComm, AreAlternatives}
-use Rattle.pfc_standing_code.specs.Words.{IsWord, IsSimpleWord, IsObject, IsChecked}
+use Rattle.pfc_standing_code.specs.Words.{IsWord, IsSimpleWord, IsObject, AreOwnNames, IsChecked}
 
 -- ## Statements at a place
 
@@ -165,6 +165,9 @@ pub record SelectAt (g : Setting) (s : Site) (x : Context) (at held : ℕ) (alts
   pub left : AlternativesAt g s x at held alts sel behind
   pub open_ones : AreOpen g s held sel.offered arms behind
   pub room : length arms + length alts ≤ g.arms
+  -- somewhere all is as is said, also where no branch leads there
+  pub end : ℕ
+  pub left_behind : behind end
 
 -- What an open alternative waits for is evaluated here, over so many operands; its branch begins so many instructions behind the code, over those
 -- that are held without it. There is room for it among the alternatives.
@@ -179,16 +182,18 @@ pub record CommAt (g : Setting) (s : Site) (x : Context) (at above held : ℕ) (
 
 -- ## Guards of a resource
 
--- a guard, and `GRD` behind it
+-- A guard, and `GRD` behind it. It is read where main's names are in view, and those of its own procedure.
 abbrev pub GuardAt : Setting → Block → Bar → ℕ → ℕ → (ℕ → Type 0) → Type 0
 GuardAt g b bar at held behind =
     let s = site_of g b bar.context in
     let code = expr_code s bar.test ⨾ one s (GRD bar.resource) in
     IsChecked g b bar.context.env × HasShape s bar.test a_number × (n : ℕ) × Stands g at n held code × behind (at + code.size)
+    × AreOwnNames g.program b bar.context.env
 
--- the guard of the own procedure, which is that of the block
+-- the guard of the own procedure, which is that of the block, and what it may name
 abbrev pub IsOwnBar : Setting → Block → Bar → Type 0
-IsOwnBar g b bar = (guard : Guard) × (b.guard ≡ Some guard) × (bar ≡ bar_of g.program bar.resource b guard)
+IsOwnBar g b bar =
+    (guard : Guard) × (b.guard ≡ Some guard) × (bar ≡ bar_of g.program bar.resource b guard) × AreOwnNames g.program b guard.env
 
 -- what a process does behind a scan: what is left, or its own guard first
 abbrev pub WayAt : Setting → Block → Way → ℕ → ℕ → (ℕ → Type 0) → Type 0
@@ -260,46 +265,51 @@ IsCheckedFor g b env k = AskedOf (λ (e : Env). IsChecked g b e) env k
 abbrev pub Clear : List Arm → Type 0 → Type 0
 Clear arms P = (arms ≡ []) × P
 
+-- so where the process is in no scan
+abbrev pub Alone : Setting → List Arm → Type 0 → Type 0
+Alone g arms P = ((g.trial ≡ of_own) × (arms ≡ [])) × P
+
 -- While the guard of another is tried, the block is the one in whose code that stands, and what is left behind the scan is of the own block.
 abbrev pub Performs : Setting → Block → Env → ℕ → List ℤ → List Arm → Remainder → Type 0
-Performs g b env at ops arms (ends line) = Clear arms (Jumped g at (λ to.
-    (ops ≡ g.under) × IsAt g to g.last line × (g.trial ≡ of_own) × (g.meetings ≡ [])))
-Performs g b env at ops arms (perform m ts k) = Clear arms (Jumped g at (λ to.
+Performs g b env at ops arms (ends line) = Alone g arms (Jumped g at (λ to.
+    (ops ≡ g.under) × IsAt g to g.last line × (g.meetings ≡ [])))
+Performs g b env at ops arms (perform m ts k) = Alone g arms (Jumped g at (λ to.
     (line : ℕ) × StmtsThen g (site_of g b (context env line)) to (length ops) m ts (λ end. Performs g b env end ops [] k)))
-Performs g b env at ops arms (in_names inner k) = (c : Block) × IsBeside g b c × IsChecked g c inner × Performs g c inner at ops arms k
-Performs g b env at ops arms (turn m loop k) = Clear arms (Jumped g at (λ to.
+Performs g b env at ops arms (in_names inner k) = InNoScan g ((c : Block) × IsBeside g b c × IsChecked g c inner × Performs g c inner at ops arms k)
+Performs g b env at ops arms (turn m loop k) = Alone g arms (Jumped g at (λ to.
     (line a : ℕ) × IsAt g to (TURN a) (loop_line loop)
     × StmtThen g (site_of g b (context env line)) a (length ops) m loop (λ end. Performs g b env end ops [] k)))
-Performs g b env at ops arms (until m ts e p k) = Clear arms (Jumped g at (λ to.
+Performs g b env at ops arms (until m ts e p k) = Alone g arms (Jumped g at (λ to.
     (line a : ℕ) × (to ≡ a + (stmts_code (site_of g b (context env p.line)) m ts).size)
     × StmtThen g (site_of g b (context env line)) a (length ops) m (repeat_until ts e p) (λ end. Performs g b env end ops [] k)))
-Performs g b env at ops arms (behind_pass f k) = Clear arms (Jumped g at (λ to.
+Performs g b env at ops arms (behind_pass f k) = Alone g arms (Jumped g at (λ to.
     let s = site_of g b (context env f.line) in
     (a n : ℕ) × (below : List ℤ) × HoldsCount g s f ops below × HasPass g s f a n (length ops) × (to ≡ a + 1 + (stmt_code s f.next f.pass).size)
     × Performs g b env (to + 1) below [] k))
-Performs g b env at ops arms (next_pass f k) = Clear arms (Jumped g at (λ to.
+Performs g b env at ops arms (next_pass f k) = Alone g arms (Jumped g at (λ to.
     let s = site_of g b (context env f.line) in
     (n : ℕ) × (below : List ℤ) × HoldsCount g s f ops below × HasPass g s f to n (length ops)
     × Performs g b env (to + 1 + (stmt_code s f.next f.pass).size + 1) below [] k))
-Performs g b env at ops arms (write_on line args newline k) = Clear arms (Jumped g at (λ to.
+Performs g b env at ops arms (write_on line args newline k) = Alone g arms (Jumped g at (λ to.
     let s = site_of g b (context env line) in
     AreWritten s args × (n : ℕ) × Stands g to n (length ops) (writes_code s args newline) × Performs g b env (to + (writes_code s args newline).size) ops [] k))
-Performs g b env at ops arms (read_on line args skip k) = Clear arms (Jumped g at (λ to.
+Performs g b env at ops arms (read_on line args skip k) = Alone g arms (Jumped g at (λ to.
     let s = site_of g b (context env line) in
     AreRead s args × (n : ℕ) × Stands g to n (length ops) (reads_code s args skip) × Performs g b env (to + (reads_code s args skip).size) ops [] k))
-Performs g b env at ops arms (at_coend line k) = Clear arms (Jumped g at (λ to. IsAt g to COEND line × Performs g b env (to + 1) ops [] k))
-Performs g b env at ops arms (part_from caller line k) = Clear arms (Jumped g at (λ to.
+Performs g b env at ops arms (at_coend line k) = Alone g arms (Jumped g at (λ to. IsAt g to COEND line × Performs g b env (to + 1) ops [] k))
+Performs g b env at ops arms (part_from caller line k) = Alone g arms (Jumped g at (λ to.
     IsAt g to EACC line × (slice_get g.meetings 0 ≡ Some caller) × IsCheckedFor (parted g) b env k × Performs (parted g) b env (to + 1) ops [] k))
-Performs g b env at ops arms (write_again r k) = Clear arms (Jumped g at (λ to.
+Performs g b env at ops arms (write_again r k) = Alone g arms (Jumped g at (λ to.
     let s = site_of g b (context env r.line) in
     IsReplica s (Some r) × (n : ℕ) × Stands g to n (length ops) (replica_code s (Some r)) × Performs g b env (to + (replica_code s (Some r)).size) ops [] k))
-Performs g b env at ops arms (go_through line a rest sel k) = Jumped g at (λ to.
+Performs g b env at ops arms (go_through line a rest sel k) = InNoScan g (Jumped g at (λ to.
     let x = context env line in
     let s = site_of g b x in
     IsGuard s a.guard
-    × CommAt g s x to (length ops) (length ops) a rest sel arms (λ between. guarded_code s a.guard (comm_code s a.next a.comm between)) (λ end. Performs g b env end ops [] k))
-Performs g b env at ops arms (try_guard bar k) = Clear arms (Jumped g at (λ to.
-    (g.trial ≡ of_own) × IsOwnBar g b bar × GuardAt g b bar to (length ops) (λ end. (e : Env) → IsCheckedFor g b e k × Performs g b e end ops [] k)))
+    × CommAt g s x to (length ops) (length ops) a rest sel arms
+    (λ between. guarded_code s a.guard (comm_code s a.next a.comm between)) (λ end. Performs g b env end ops [] k)))
+Performs g b env at ops arms (try_guard bar k) = Alone g arms (Jumped g at (λ to.
+    IsOwnBar g b bar × GuardAt g b bar to (length ops) (λ end. (e : Env) → IsCheckedFor g b e k × Performs g b e end ops [] k)))
 Performs g b env at ops arms (scan_on scan k) = Clear arms (Jumped g at (λ to.
     ((back : ℕ) × (g.trial ≡ of_turn scan back)) × IsAt g to (SCAN scan.resource) scan.line
     × WayAt (own_again g) (own_block g.trial g.block) scan.way (behind_scan g.trial) (length ops)

@@ -1,9 +1,10 @@
 -- The code of a program, and what the activation at hand sees of the machine.
-use Rattle.std.specs.Prelude.{ℕ, ◌+◌, ◌<◌, ◌≤◌, ◌≡◌, ℤ, Bool, List, [], ◌∷◌, drop, Option, Some}
+use Rattle.std.specs.Prelude.{ℕ, ◌+◌, ◌<◌, ◌≤◌, ◌≡◌, ℤ, Bool, true, List, [], ◌∷◌, ◌++◌, drop, Option, Some, is_some}
 use Rattle.std.specs.List.{slice_get}
 use Rattle.pfc_code.specs.declared.instructions.Instr.{Instr}
 use Rattle.pfc_code.specs.declared.instructions.Instr.TheVariants.{JMP}
 use Rattle.pfc_tree.specs.Symbols.{Text}
+use Rattle.pfc_types.specs.rules.Expressions.{Env}
 use Rattle.pfc_semantics.specs.Programs.{Block, Program}
 use Rattle.pfc_semantics.specs.Remainders.{Context, Scan, Tried}
 use Rattle.pfc_translation.specs.Sites.{Site}
@@ -66,6 +67,22 @@ pub record Setting : Type 0 where
 
 abbrev pub site_of : Setting → Block → Context → Site
 site_of g b x = record { program = g.program; block = b; env = x.env; line = x.line }
+
+-- ## Trials
+
+-- In a scan a process tries the guard of another, and does nothing else: what it has in view are the names of a guard.
+abbrev pub IsInTrial : Trial → Env → Type 0
+IsInTrial of_own env = Unit {0}
+IsInTrial (of_turn scan back) env = is_some env.around.guard ≡ true
+IsInTrial (of_another attempt) env = is_some env.around.guard ≡ true
+
+-- the process is in no scan, as where it performs a statement, calls, or communicates
+abbrev pub InNoScan : Setting → Type 0 → Type 0
+InNoScan g P = (g.trial ≡ of_own) × P
+
+-- the operands of the callers are the last of these
+abbrev pub AreOver : Setting → List ℤ → Type 0
+AreOver g ops = (kept : List ℤ) × (ops ≡ kept ++ g.under)
 
 -- ## Blocks beside one another
 

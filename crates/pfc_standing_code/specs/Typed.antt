@@ -1,6 +1,6 @@
 -- Expressions, variables and arguments whose parts have the shapes that their code needs: those of checked programs.
 --
--- It is said of the parts themselves, so that no type is asked for again.
+-- It is said of the parts themselves, so that no type is asked for again. In a guard of a resource a name that is evaluated is one that may stand there.
 use Rattle.std.specs.Prelude.{ℕ, ◌==◌, ◌<◌, ◌≡◌, ℤ, Bool, true, false, ◌||◌, if◌then◌else◌, List, [], ◌∷◌, length, Option, Some, None}
 use Rattle.std.specs.List.{slice_get, list_any}
 use Rattle.pfc_tree.specs.Symbols.{Text}
@@ -9,7 +9,7 @@ use Rattle.pfc_types.specs.Types.{Forms, condition, form_of}
 use Rattle.pfc_types.specs.Fields.{FieldList, type_named, position_of}
 use Rattle.pfc_types.specs.Scopes.{Level, meaning_of, scope_at}
 use Rattle.pfc_types.specs.Blocks.{sub_at}
-use Rattle.pfc_types.specs.rules.Expressions.{find, selected, field_type}
+use Rattle.pfc_types.specs.rules.Expressions.{find, guard_allows, selected, field_type}
 use Rattle.pfc_types.specs.declared.types.TypeId.{TypeId}
 use Rattle.pfc_types.specs.declared.types.TypeForm.TheVariants.{Array, Record}
 use Rattle.pfc_types.specs.declared.scope.Meaning.{Meaning}
@@ -175,7 +175,8 @@ abbrev mutual
   HasShapeFactor s (paren e p) h = HasShape s e h
   HasShapeFactor s (used (desig x ss q) args p) h =
       let v = spot_of s.env (find s.env x) in
-      IsUse s (meaning_of (find s.env x)) h (IsDeclared s v.spot v.t) (λ u. AreSelectors s v.t ss u) ss
+      (guard_allows s.env.around.guard (find s.env x) ≡ true)
+      × IsUse s (meaning_of (find s.env x)) h (IsDeclared s v.spot v.t) (λ u. AreSelectors s v.t ss u) ss
       (λ formals. AreArguments s formals args)
       (λ f. IsFunction f h (IsGivenFirst s args) (IsLentFirst s args (Some condition)))
 

@@ -2,6 +2,7 @@
 use Rattle.std.specs.Prelude.{ℕ, ◌+◌, ◌^◌, ◌<◌, ◌==◌, ◌||◌, ◌≡◌, ℤ, pos, Bool, true, false, if◌then◌else◌, List, [], ◌∷◌, ◌++◌, reverse, Option, Some}
 use Rattle.std.specs.List.{list_any}
 use Rattle.pfc_types.specs.Types.{is_simple}
+use Rattle.pfc_types.specs.Scopes.{Level}
 use Rattle.pfc_types.specs.Blocks.{Blocks}
 use Rattle.pfc_types.specs.rules.Expressions.{Env}
 use Rattle.pfc_types.specs.declared.types.TypeId.{TypeId}
@@ -14,7 +15,7 @@ use Rattle.pfc_semantics.specs.Alternatives.{context}
 use Rattle.pfc_translation.specs.Sites.{Site, is_mains, linked, links_to, cell_of, refers, type_cells, forms_of}
 use Rattle.pfc_cells.specs.Shapes.{IsPath, words_of}
 use Rattle.pfc_standing_code.specs.Shapes.{IsSound, IsOf, is_object_type}
-use Rattle.pfc_standing_code.specs.Settings.{View, Setting, site_of, IsBeside}
+use Rattle.pfc_standing_code.specs.Settings.{View, Setting, site_of, IsInTrial, IsBeside}
 use Rattle.pfc_standing_code.specs.Typed.{unlined, whole_of, IsDeclaredAt, is_seen}
 
 -- ## Variables
@@ -64,6 +65,11 @@ abbrev pub AreKnown : Program → Block → List ℕ → Env → Type 0
 AreKnown g b accepts env =
     (i : ℕ) → is_seen (record { program = g; block = b; env = env; line = 0 }) i ≡ true → is_known g.state.blocks b accepts i ≡ true
 
+-- the names in view are main's, or the block's own
+abbrev pub AreOwnNames : Program → Block → Env → Type 0
+AreOwnNames g b env =
+    (i : ℕ) → list_any (λ (level : Level). level.scope == i) env.view ≡ true → (is_mains g.state.blocks i || (b.scope == i)) ≡ true
+
 abbrev pub names_at : Setting → Block → Env → Site
 names_at g b env = site_of g b (context env 0)
 
@@ -79,6 +85,8 @@ pub record IsChecked (g : Setting) (b : Block) (env : Env) : Type 0 where
   pub state : env.state ≡ g.program.state
   -- the block is the one at hand, or one beside it
   pub beside : IsBeside g g.block b
+  -- in a scan they are those of a guard
+  pub tried : IsInTrial g.trial env
 
 -- ## Arguments
 

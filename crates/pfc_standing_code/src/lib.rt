@@ -7,6 +7,6 @@
 mod laws;
 
 pub use laws::{
-    awaited_values_hold_no_object, code_has_its_size, names_are_enough, names_stay_known,
-    spots_have_one_word, values_hold_no_object,
+    awaited_values_hold_no_object, callers_operands_are_kept, code_has_its_size, names_are_enough,
+    names_stay_known, only_guards_are_tried, spots_have_one_word, values_hold_no_object,
 };

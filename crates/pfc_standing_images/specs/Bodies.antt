@@ -10,7 +10,7 @@ use Rattle.pfc_standing_code.specs.Shapes.{a_number}
 use Rattle.pfc_standing_code.specs.Settings.{Setting, site_of}
 use Rattle.pfc_standing_code.specs.Typed.{HasShape}
 use Rattle.pfc_standing_code.specs.TypedStatements.{AreTyped}
-use Rattle.pfc_standing_code.specs.Words.{IsChecked}
+use Rattle.pfc_standing_code.specs.Words.{AreOwnNames, IsChecked}
 
 -- the names in view in a body are checked, and its statements have the shapes that they are to have
 pub record IsReady (g : Setting) (b : Block) : Type 0 where
@@ -21,9 +21,10 @@ abbrev pub AreReady : Setting → List Block → Type 0
 AreReady g [] = Unit {0}
 AreReady g (b ∷ bs) = IsReady g b × AreReady g bs
 
--- so the names in view in a guard, which is of a simple type
+-- so the names in view in a guard, which are main's or its procedure's own; it is of a simple type
 pub record IsGuardReady (g : Setting) (b : Block) (guard : Guard) : Type 0 where
   pub names : IsChecked g b guard.env
+  pub own : AreOwnNames g.program b guard.env
   pub test : HasShape (site_of g b (context guard.env guard.line)) guard.test a_number
 
 abbrev pub EachGuardReady : Setting → Block → Option Guard → Type 0

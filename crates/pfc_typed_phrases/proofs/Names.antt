@@ -308,6 +308,17 @@ module _ (g : Program) (block : Block) (view : List Level) (around : Around) (li
       function false false b h k = h
   meaning_used x ss args p Faulty e lead fit fits any sel rest = absurd (known.faulty x e)
 
+  -- a name that breaks no rule may stand where it does, in a guard too
+  pub name_allowed :
+      (found : Option Found) (alone bare : Bool) (p : Place) → clean (use_rules s.env found alone bare p) ≡ true
+      → guard_allows s.env.around.guard found ≡ true
+  name_allowed None alone bare p rules = never rules
+  name_allowed (Some f) alone bare p rules =
+      let a = unless (fits_use s.env.state.blocks alone bare f.meaning) p 310 in
+      let b = unless (not (is_any (Some f.meaning) && (alone && bare))) p 412 in
+      let c = unless (guard_allows s.env.around.guard (Some f)) p 420 in
+      holds (guard_allows s.env.around.guard (Some f)) p 420 (and-right (clean b) (clean c) (and-right (clean a) (clean b && clean c) rules))
+
   pub name_used :
       (x : Text) (ss : SelectorTrees) (args : ActualTrees) (p : Place) (found : Option Found) → meaning_of (find s.env x) ≡ meaning_of found → Lead s ss → Fit s args
       → clean (use_rules s.env found (no_selector ss) (no_actual args) p) ≡ true

@@ -29,7 +29,7 @@ use Rattle.pfc_standing_code.specs.Typed.{IsDeclared, IsFunction, IsUse, HasShap
 use Rattle.pfc_typed_phrases.specs.Names.{AreKnown}
 use Rattle.pfc_typed_phrases.specs.Phrases.{IsWanted, AreWanted, IsAsked, AreAsked}
 use Rattle.pfc_typed_phrases.proofs.Rules.{holds, never, where_true, same_type, simple_shape, both, operator_known, add_simple, multiply_simple, signed_known, relation_known, index_known, field_known}
-use Rattle.pfc_typed_phrases.proofs.Names.{site_in, name_used}
+use Rattle.pfc_typed_phrases.proofs.Names.{site_in, name_allowed, name_used}
 use Rattle.pfc_standing_code.specs.ValueTypes.{IsValueType}
 use Rattle.pfc_typed_phrases.proofs.Values.{expr_value, not_true}
 
@@ -100,7 +100,7 @@ module _ (g : Program) (block : Block) (view : List Level) (around : Around) (li
   lent_variable ending (plain (sum None (product (applied d no_actuals o) (more_multipliers op f ms)) us) q) t lent typed is = never lent
   lent_variable ending (plain (sum None (product (applied d no_actuals o) no_multipliers) (more_summands op k us)) q) t lent typed is = never lent
   lent_variable ending (plain (sum None (product (applied (desig x ss r) no_actuals o) no_multipliers) no_summands) q) t lent typed is =
-      by (find s.env x) lent typed is
+      by (find s.env x) lent typed is.1
     where
       v : TypedSpot
       v = spot_of s.env (find s.env x)
@@ -290,8 +290,11 @@ module _ (g : Program) (block : Block) (view : List Level) (around : Around) (li
         let h1 = and-right a (b && (c && (d && e))) h in
         let h2 = and-right b (c && (d && e)) h1 in
         let h3 = and-right c (d && e) h2 in
-        name_used g block view around line known x ss args q found refl (λ t k. selectors_typed ss t k) (λ wants asked count k. actuals_typed None wants args asked count k)
-        (and-left a (b && (c && (d && e))) h) (and-left b (c && (d && e)) h1) (and-left c (d && e) h2, and-left d e h3, and-right d e h3)
+        let rules = and-left a (b && (c && (d && e))) h in
+        let named = name_used g block view around line known x ss args q found refl (λ t k. selectors_typed ss t k)
+        (λ wants asked count k. actuals_typed None wants args asked count k) rules (and-left b (c && (d && e)) h1)
+        (and-left c (d && e) h2, and-left d e h3, and-right d e h3) in
+        (named.0, named.1, (name_allowed g block view around line known found (no_selector ss) (no_actual args) q rules, named.2))
 
     pub selectors_typed :
         (ss : SelectorTrees) (t : TypeId) → clean (broken_selectors s.env (Some t) ss) ≡ true

@@ -106,7 +106,7 @@ module _ (s : Site) (known : AreKnown s) where
   factor_whole (paren (plain (sum None first (more_summands op u rest)) q) p) t free h = no_number t h.0
   factor_whole (paren (plain (sum None (product f (more_multipliers op u rest)) no_summands) q) p) t free h = no_number t h.0
   factor_whole (paren (plain (sum None (product f no_multipliers) no_summands) q) p) t free h = factor_whole f t free h
-  factor_whole (applied (desig x ss q) args p) t free h = by (meaning_of (find s.env x)) refl h
+  factor_whole (applied (desig x ss q) args p) t free h = by (meaning_of (find s.env x)) refl h.1
     where
       v : TypedSpot
       v = spot_of s.env (find s.env x)

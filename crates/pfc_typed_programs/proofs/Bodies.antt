@@ -1,6 +1,6 @@
 -- Each body has the shapes that its code needs, and is ready where its names are seen.
-use Rattle.std.proofs.Common.{◌≡◌, ℕ, ◌<◌, ◌⊎◌, inl, inr, ◌&&◌, true, false, List, [], ◌∷◌, length, Option, Some, None, refl, ap, ap₂, sym, ◌∙◌, subst, arith}
-use Rattle.std.specs.List.{All}
+use Rattle.std.proofs.Common.{◌≡◌, ℕ, ◌<◌, ◌⊎◌, inl, inr, ◌&&◌, true, false, List, [], ◌∷◌, length, Option, Some, None, is_some, refl, ap, ap₂, sym, ◌∙◌, subst, arith}
+use Rattle.std.specs.List.{All, slice_get}
 use Rattle.std.specs.Option.{IfSome}
 use Rattle.std.proofs.lemmas.List.Elements.{All-head, All-tail}
 use Rattle.pfc_tree.specs.trees.Parts.{ProgramTree}
@@ -10,6 +10,8 @@ use Rattle.pfc_types.specs.Faults.{Faults, none, one, ◌⨾◌}
 use Rattle.pfc_types.specs.Blocks.{Blocks, State, process_at}
 use Rattle.pfc_types.specs.rules.Expressions.{Env, broken_expr}
 use Rattle.pfc_types.specs.rules.Statements.{broken_guard, broken_stmts}
+use Rattle.pfc_types.specs.rules.Bodies.{around_guard}
+use Rattle.pfc_types.specs.declared.view.Around.{Around}
 use Rattle.pfc_types.specs.rules.Whole.{finished, broken, broken_bodies, faults_in, types_of}
 use Rattle.pfc_types.proofs.Clean.{clean}
 use Rattle.pfc_semantics.specs.Programs.{Block, Guard, Program, program_of}
@@ -24,10 +26,11 @@ use Rattle.pfc_type_laws.proofs.WalkBlocks.{types_built}
 use Rattle.pfc_type_laws.proofs.SoundTables.{built_sound}
 use Rattle.pfc_type_laws.proofs.Filled.{types_filled}
 use Rattle.pfc_standing_code.specs.Shapes.{IsSound, a_number}
-use Rattle.pfc_standing_code.specs.Settings.{Setting}
+use Rattle.pfc_standing_code.specs.Settings.{Setting, of_own, IsInTrial}
 use Rattle.pfc_standing_code.specs.Typed.{HasShape}
 use Rattle.pfc_standing_code.specs.TypedStatements.{AreTyped}
-use Rattle.pfc_standing_code.specs.Words.{IsChecked}
+use Rattle.pfc_standing_code.specs.Words.{AreOwnNames, IsChecked}
+use Rattle.pfc_standing_code.proofs.Trials.{own_tried, guard_tried}
 use Rattle.pfc_standing_images.specs.Images.{IsOfImage}
 use Rattle.pfc_standing_images.specs.Bodies.{IsReady, AreReady, IsGuardReady, EachGuardReady}
 use Rattle.pfc_typed_phrases.specs.Names.{AreKnown}
@@ -41,6 +44,7 @@ use Rattle.pfc_typed_programs.specs.Bodies.{guard_site, IsBody, of_block, of_mod
 use Rattle.pfc_typed_programs.proofs.Trees.{IsMade, IsOutside, blocks_made, modules_made, inits_outside, main_made, main_outside}
 use Rattle.pfc_typed_programs.proofs.Blocks.{each_of}
 use Rattle.pfc_typed_programs.proofs.Places.{met, guard_known}
+use Rattle.pfc_typed_programs.proofs.GuardViews.{guard_own}
 
 is_clean : (fs : Faults) → IsClean fs → clean fs ≡ true
 is_clean none h = refl
@@ -48,8 +52,9 @@ is_clean (one f) h = absurd h
 is_clean (fs ⨾ gs) h = ap₂ (λ x y. x && y) (is_clean fs h.0) (is_clean gs h.1)
 
 -- whoever sees what is in view has all that is asked of the names there
-pub seen_checked : (t : ProgramTree) (g : Setting) (b : Block) (env : Env) → IsOfImage t g → env.state ≡ finished t → IsSeen g b env → IsChecked g b env
-seen_checked t g b env of_image state h =
+pub seen_checked : (t : ProgramTree) (g : Setting) (b : Block) (env : Env) → IsOfImage t g → env.state ≡ finished t → IsInTrial g.trial env → IsSeen g b env
+    → IsChecked g b env
+seen_checked t g b env of_image state tried h =
     record {
       sound = subst (λ (z : Program). IsSound z.state.forms) (sym of_image.program) (built_sound (types_of t) (types_built t));
       known = h.known;
@@ -58,6 +63,7 @@ seen_checked t g b env of_image state h =
       objects = h.objects;
       beside = h.beside;
       state = state ∙ sym (ap (λ (z : Program). z.state) of_image.program);
+      tried = tried;
     }
 
 module _ (t : ProgramTree) (lawful : IsLawful (forget_program t)) (whole : broken t ≡ []) where
@@ -186,40 +192,48 @@ module _ (t : ProgramTree) (lawful : IsLawful (forget_program t)) (whole : broke
   pub guard_state : (b : Block) (w : Guard) → IsBody t b → b.guard ≡ Some w → w.env.state ≡ finished t
   guard_state b w h e = known_guard_state b w (body_known b h) e
 
+  pub guard_place : (b : Block) (w : Guard) → IsBody t b → b.guard ≡ Some w → w.env.around ≡ around_guard b.outer
+  guard_place b w h e = subst (λ (o : Option Guard). IfSome o (λ z. z.env.around ≡ around_guard b.outer)) e (body_known b h).made.around
+
   -- ## What its code asks
 
-  known_ready : (g : Setting) (b : Block) → IsOfImage t g → IsKnown b → IsSeen g b b.env → IsReady g b
-  known_ready g b of_image k seen =
+  known_ready : (g : Setting) (b : Block) → IsOfImage t g → g.trial ≡ of_own → IsKnown b → IsSeen g b b.env → IsReady g b
+  known_ready g b of_image own k seen =
       record {
-        names = seen_checked t g b b.env of_image k.ruled.state seen;
+        names = seen_checked t g b b.env of_image k.ruled.state (own_tried g.trial b.env own) seen;
         statements = subst (λ (z : Program). AreTyped (site_in z b) b.next b.stmts) (sym of_image.program) (known_typed b k);
       }
 
-  pub body_ready : (g : Setting) (b : Block) → IsOfImage t g → IsBody t b → IsSeen g b b.env → IsReady g b
-  body_ready g b of_image h seen = known_ready g b of_image (body_known b h) seen
+  pub body_ready : (g : Setting) (b : Block) → IsOfImage t g → g.trial ≡ of_own → IsBody t b → IsSeen g b b.env → IsReady g b
+  body_ready g b of_image own h seen = known_ready g b of_image own (body_known b h) seen
 
-  pub guard_ready : (g : Setting) (b : Block) (w : Guard) → IsOfImage t g → IsBody t b → b.guard ≡ Some w → IsSeen g b w.env → IsGuardReady g b w
-  guard_ready g b w of_image h e seen =
+  pub guard_ready : (g : Setting) (k : ℕ) (b : Block) (w : Guard) → IsOfImage t g → slice_get p.blocks k ≡ Some b → b.guard ≡ Some w → IsSeen g b w.env
+      → IsGuardReady g b w
+  guard_ready g k b w of_image there e seen =
+      let h = of_block k b there in
       record {
-        names = seen_checked t g b w.env of_image (guard_state b w h e) seen;
+        own = subst (λ (z : Program). AreOwnNames z b w.env) (sym of_image.program) (guard_own t lawful k b w there e);
+        names = seen_checked t g b w.env of_image (guard_state b w h e)
+            (guard_tried g.trial w.env (ap (λ (z : Around). is_some z.guard) (guard_place b w h e))) seen;
         test = subst (λ (z : Program). HasShape (guard_site z b w) w.test a_number) (sym of_image.program)
             (guard_shaped b w h e);
       }
 
-  pub each_guard_ready : (g : Setting) (b : Block) → IsOfImage t g → IsBody t b → EachGuardSeen g b b.guard → EachGuardReady g b b.guard
-  each_guard_ready g b of_image h = by b.guard refl
+  pub each_guard_ready : (g : Setting) (k : ℕ) (b : Block) → IsOfImage t g → slice_get p.blocks k ≡ Some b → EachGuardSeen g b b.guard
+      → EachGuardReady g b b.guard
+  each_guard_ready g k b of_image there = by b.guard refl
     where
       by : (o : Option Guard) → b.guard ≡ o → EachGuardSeen g b o → EachGuardReady g b o
       by None e seen = tt
-      by (Some w) e seen = guard_ready g b w of_image h e seen
+      by (Some w) e seen = guard_ready g k b w of_image there e seen
 
-  all_ready : (g : Setting) (bs : List Block) → IsOfImage t g → All IsKnown bs → AreSeen g bs → AreReady g bs
-  all_ready g [] of_image known seen = tt
-  all_ready g (b ∷ bs) of_image known seen = (
-    known_ready g b of_image (All-head IsKnown b bs known) seen.0,
-    all_ready g bs of_image (All-tail IsKnown b bs known) seen.1,
+  all_ready : (g : Setting) (bs : List Block) → IsOfImage t g → g.trial ≡ of_own → All IsKnown bs → AreSeen g bs → AreReady g bs
+  all_ready g [] of_image own known seen = tt
+  all_ready g (b ∷ bs) of_image own known seen = (
+    known_ready g b of_image own (All-head IsKnown b bs known) seen.0,
+    all_ready g bs of_image own (All-tail IsKnown b bs known) seen.1,
   )
 
-  pub modules_ready : (g : Setting) → IsOfImage t g → AreSeen g g.program.modules → AreReady g g.program.modules
-  modules_ready g of_image seen =
-      all_ready g g.program.modules of_image (subst (λ (z : Program). All IsKnown z.modules) (sym of_image.program) modules_known) seen
+  pub modules_ready : (g : Setting) → IsOfImage t g → g.trial ≡ of_own → AreSeen g g.program.modules → AreReady g g.program.modules
+  modules_ready g of_image own seen =
+      all_ready g g.program.modules of_image own (subst (λ (z : Program). All IsKnown z.modules) (sym of_image.program) modules_known) seen

@@ -29,7 +29,7 @@ called_stands t g scope left formals lawful whole of_image called = (
     params = has.params ∙ sym (ap (λ (x : Block). params_of g.program x) at_number) ∙ is.takes;
     body = λ alone no_meetings of_block seen.
         body_performs g c of_block.room b c.body (has.n + length (guard_code g.program b b.guard).texts) alone no_meetings of_block has.body
-        (body_ready t lawful whole g b of_image own seen);
+        (body_ready t lawful whole g b of_image alone own seen);
   },
 )
   where

@@ -28,16 +28,23 @@ use Rattle.pfc_typed_programs.proofs.Labels.{some_labelled}
 
 -- ## Bodies
 
--- A body sees its own scope, each `case` in it has a label, and in its guard no rule is broken.
+-- A body sees its own scope, and each `case` in it has a label. In its guard no rule is broken, and the rules know it as a guard.
 pub record IsMade (b : Block) : Type 0 where
   pub own : sees b.env.view b.scope ≡ true
   pub labelled : AreLabelled b.stmts
   pub guard : IfSome b.guard (λ w. IsClean (broken_guard w.env (Some w.test)))
+  pub around : IfSome b.guard (λ w. w.env.around ≡ around_guard b.outer)
 
 guard_made : (env : Env) (kind : KindTree) → IsClean (broken_when env kind) → IfSome (guard_of env kind) (λ w. IsClean (broken_guard w.env (Some w.test)))
 guard_made env procedure c = tt
 guard_made env (function x p) c = tt
 guard_made env (guarded e p) c = c
+
+guard_around : (s : State) (view : List Level) (i : ℕ) (kind : KindTree) → IfSome (guard_of (env_at s view (around_guard i)) kind)
+    (λ w. w.env.around ≡ around_guard i)
+guard_around s view i procedure = tt
+guard_around s view i (function x p) = tt
+guard_around s view i (guarded e p) = refl
 
 own_first : (next : ℕ) (rest : Bool) → (next == next || rest) ≡ true
 own_first next rest = ap (λ (r : Bool). r || rest) (same_number next)
@@ -77,6 +84,7 @@ mutual
         own = own_first next (sees around next);
         labelled = some_labelled ss lawful.3;
         guard = guard_made (env_at s (level next count ∷ level i n ∷ outer) (around_guard i)) kind c.0;
+        around = guard_around s (level next count ∷ level i n ∷ outer) i kind;
       }) (All-nil IsMade))
 
   module_made :
@@ -94,7 +102,8 @@ mutual
       let around = level i (passed (scope_at s.blocks.scopes i) n x) ∷ outer in
       All-append IsMade (parts_blocks s true next count around (next + 1) ps) _
       (parts_made s of_other true next count around (next + 1) ps lawful.2 c.0)
-      (All-cons IsMade _ [] (record { own = own_first next (sees around next); labelled = some_labelled ss lawful.3; guard = tt }) (All-nil IsMade))
+      (All-cons IsMade _ [] (record { own = own_first next (sees around next); labelled = some_labelled ss lawful.3; guard = tt; around = tt })
+      (All-nil IsMade))
 
 -- ## Initialising bodies
 
@@ -102,7 +111,8 @@ module_inits_made :
     (s : State) (h : Home) (n next : ℕ) (m : ModuleTree) → IsLawfulModule h (forget_module m) → All IsMade (module_inits s n next m)
 module_inits_made s h n next (the_module x exports ps None last p) lawful = All-nil IsMade
 module_inits_made s h n next (the_module x exports ps (Some (body ss from to)) last p) lawful =
-    All-cons IsMade _ [] (record { own = own_first next (sees (level 0 n ∷ []) next); labelled = some_labelled ss lawful.2; guard = tt }) (All-nil IsMade)
+    All-cons IsMade _ [] (record { own = own_first next (sees (level 0 n ∷ []) next); labelled = some_labelled ss lawful.2; guard = tt; around = tt })
+    (All-nil IsMade)
 
 part_inits_made : (s : State) (h : Home) (n next : ℕ) (q : PartTree) → IsLawfulPart h (forget_part q) → All IsMade (part_inits s n next q)
 part_inits_made s h n next (consts items) lawful = All-nil IsMade
@@ -160,7 +170,7 @@ main_made t lawful = by t.body lawful.1
 
     by : (b : BodyTree) → IsLawfulBody (forget_body b)
         → IsMade (block_of 0 0 (env_of_main s) (1 + parts_scopes t.parts) b (main_layout s.blocks (scope_at s.blocks.scopes 0)) 0 None)
-    by (body ss from to) h = record { own = own_first 0 false; labelled = some_labelled ss h; guard = tt }
+    by (body ss from to) h = record { own = own_first 0 false; labelled = some_labelled ss h; guard = tt; around = tt }
 
 pub main_outside : (t : ProgramTree) → IsOutside (program_of t).main
 main_outside t = by t.body

@@ -7,6 +7,7 @@ ghost use Rattle.pfc_tree.specs.lawful.Parts.{IsLawful};
 ghost use Rattle.pfc_types.specs.Blocks.{sub_at, process_at};
 ghost use Rattle.pfc_types.specs.declared.heads.Formal.{Formal};
 ghost use Rattle.pfc_types.specs.rules.Expressions.{Env};
+ghost use Rattle.pfc_types.specs.rules.Bodies.{around_guard};
 ghost use Rattle.pfc_types.specs.rules.Whole.{finished, broken};
 ghost use Rattle.pfc_semantics.specs.Programs.{Block, Guard, block_at, program_of};
 ghost use Rattle.pfc_semantics.specs.Resources.{bar_of, scan_of, way_to, guarded_body};
@@ -14,7 +15,7 @@ ghost use Rattle.pfc_semantics.specs.Configurations.{body_of, main_remainder};
 ghost use Rattle.pfc_translation.specs.Calls.{resource_of};
 ghost use Rattle.pfc_translation.specs.Images.{site_in, image_of};
 ghost use Rattle.pfc_standing_code.specs.Shapes.{a_number};
-ghost use Rattle.pfc_standing_code.specs.Settings.{Setting, of_own, of_turn, IsMains};
+ghost use Rattle.pfc_standing_code.specs.Settings.{Setting, of_own, of_turn, IsInTrial, IsMains};
 ghost use Rattle.pfc_standing_code.specs.Typed.{HasShape};
 ghost use Rattle.pfc_standing_code.specs.TypedStatements.{AreTyped};
 ghost use Rattle.pfc_standing_code.specs.Words.{IsChecked};
@@ -47,14 +48,16 @@ pub fn bodies_are_typed()
         → HasShape (guard_site (program_of t) b guard) guard.test a_number }
 {}
 
-/// The types and blocks that are known in a body and in a guard are the program's. Whoever sees the variables and objects in view at such a place has
-/// all that is asked of the names there.
+/// The types and blocks that are known in a body and in a guard are the program's, and the rules know a guard as one of the resource around its procedure.
+/// Whoever sees the variables and objects in view at such a place, in a scan those in a guard, has all that is asked of the names there.
 pub fn names_are_checked()
     ensures bodies { (t : ProgramTree) (b : Block) → IsLawful (forget_program t) → broken t ≡ [] → IsBody t b → b.env.state ≡ finished t }
     ensures guards { (t : ProgramTree) (b : Block) (guard : Guard) → IsLawful (forget_program t) → broken t ≡ [] → IsBody t b → b.guard ≡ Some guard
         → guard.env.state ≡ finished t }
-    ensures seen { (t : ProgramTree) (g : Setting) (b : Block) (env : Env) → IsOfImage t g → env.state ≡ finished t → IsSeen g b env
-        → IsChecked g b env }
+    ensures places { (t : ProgramTree) (b : Block) (guard : Guard) → IsLawful (forget_program t) → broken t ≡ [] → IsBody t b → b.guard ≡ Some guard
+        → guard.env.around ≡ around_guard b.outer }
+    ensures seen { (t : ProgramTree) (g : Setting) (b : Block) (env : Env) → IsOfImage t g → env.state ≡ finished t → IsInTrial g.trial env
+        → IsSeen g b env → IsChecked g b env }
 {}
 
 /// In each setting of the image of a lawful program in which no static rule is broken the code of a block performs its body, for whoever sees what is

@@ -17,7 +17,7 @@ use Rattle.pfc_types.specs.declared.heads.SubHead.{SubHead}
 use Rattle.pfc_types.specs.declared.view.Around.{Around}
 use Rattle.pfc_types.specs.rules.Kinds.{variable_type}
 use Rattle.pfc_types.specs.rules.Calls.{last_field, before_last}
-use Rattle.pfc_types.specs.rules.Expressions.{find, as_desig, expr_type, desig_type, selected}
+use Rattle.pfc_types.specs.rules.Expressions.{guard_allows, find, as_desig, expr_type, desig_type, selected}
 use Rattle.pfc_types.specs.rules.Statements.{scopes_in, arm_scopes, comm_scopes, alt_scopes, alts_scopes, names_any}
 use Rattle.pfc_semantics.specs.Displays.{Spot, TypedSpot}
 use Rattle.pfc_semantics.specs.Predeclared.{Function, Procedure, abs, sqr, odd, ord, chr, succ, pred, eof, eoln, empty as empty_function, clock, random, no_function, function_of, reader, writer, initial, wait, signal, delay, resume, sleep, no_procedure, procedure_of}
@@ -130,14 +130,17 @@ module _ (g : Program) (b : Block) (state : State) (c d : Around) (alike : AreAl
       factor (negation f p) h k = (k.0, factor f a_number k.1)
       factor (paren e p) h k = expr e h k
       factor (used (desig x ss q) args p) h k =
-          let w = spot_of s.env (find s.env x) in
-          used_same (meaning_of (find s.env x)) h (IsDeclared s w.spot w.t) (IsDeclared t w.spot w.t) (λ u. AreSelectors s w.t ss u)
-          (λ u. AreSelectors t w.t ss u) ss (λ formals. AreArguments s formals args) (λ formals. AreArguments t formals args)
-          (λ f. IsFunction f h (IsGivenFirst s args) (IsLentFirst s args (Some condition)))
-          (λ f. IsFunction f h (IsGivenFirst t args) (IsLentFirst t args (Some condition)))
-          (declared w.spot w.t) (λ u j. selectors w.t ss u j) (λ formals j. arguments formals args j)
-          (λ f j. function_same f h (IsGivenFirst s args) (IsGivenFirst t args) (IsLentFirst s args (Some condition)) (IsLentFirst t args (Some condition))
-          (λ i. given_first args i) (λ i. lent_first args (Some condition) i) j) k
+          let w = spot_of s.env (find s.env x) in (
+            subst (λ (r : Option ℕ). guard_allows r (find s.env x) ≡ true) alike.guard k.0,
+            used_same (meaning_of (find s.env x)) h (IsDeclared s w.spot w.t) (IsDeclared t w.spot w.t) (λ u. AreSelectors s w.t ss u)
+                (λ u. AreSelectors t w.t ss u) ss (λ formals. AreArguments s formals args) (λ formals. AreArguments t formals args)
+                (λ f. IsFunction f h (IsGivenFirst s args) (IsLentFirst s args (Some condition)))
+                (λ f. IsFunction f h (IsGivenFirst t args) (IsLentFirst t args (Some condition)))
+                (declared w.spot w.t) (λ u j. selectors w.t ss u j) (λ formals j. arguments formals args j)
+                (λ f j. function_same f h (IsGivenFirst s args) (IsGivenFirst t args) (IsLentFirst s args (Some condition))
+                (IsLentFirst t args (Some condition))
+                (λ i. given_first args i) (λ i. lent_first args (Some condition) i) j) k.1,
+          )
 
       given_first : (args : ActualTrees) → IsGivenFirst s args → IsGivenFirst t args
       given_first no_actuals k = k

@@ -18,7 +18,7 @@ use Rattle.pfc_cells.specs.Homes.{Homes, Lies, layout_at, cells_before}
 use Rattle.pfc_cells.specs.Memory.{Entries, Lives, MemoryIs}
 use Rattle.pfc_cells.proofs.Reading.{are_live}
 use Rattle.pfc_standing_code.specs.Shapes.{IsSound, is_object_type}
-use Rattle.pfc_standing_code.specs.Settings.{Setting, IsBeside}
+use Rattle.pfc_standing_code.specs.Settings.{Setting, IsInTrial, IsBeside}
 use Rattle.pfc_standing_code.specs.Typed.{IsDeclaredAt}
 use Rattle.pfc_standing_code.specs.Words.{AreKnown, first_word, IsWordAt, names_at, IsInView, IsChecked}
 use Rattle.pfc_views.specs.Views.{block_site, Sees, LiesAt, AreObjects, AreFew}
@@ -74,8 +74,8 @@ module _ (g : Setting) (homes : Homes) (entries : Entries) (store : Store) (keep
       let known_as = objects.known (located store display v) t at.place at.lies object in
       (known_as.0, ap g.number at.word ∙ known_as.1)
 
-  pub names_checked : env.state ≡ g.program.state → IsBeside g g.block b → IsChecked g b env
-  names_checked state beside =
+  pub names_checked : env.state ≡ g.program.state → IsBeside g g.block b → IsInTrial g.trial env → IsChecked g b env
+  names_checked state beside tried =
       record {
         sound = sound;
         known = known;
@@ -84,4 +84,5 @@ module _ (g : Setting) (homes : Homes) (entries : Entries) (store : Store) (keep
         objects = has_number;
         state = state;
         beside = beside;
+        tried = tried;
       }

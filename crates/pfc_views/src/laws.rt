@@ -15,7 +15,7 @@ ghost use Rattle.pfc_cells.specs.Homes.{Home, Homes, Lies};
 ghost use Rattle.pfc_cells.specs.Memory.{Entry, Entries, MemoryIs};
 ghost use Rattle.pfc_cells.specs.Activations.{with_home, with_entries};
 ghost use Rattle.pfc_standing_code.specs.Shapes.{IsSound};
-ghost use Rattle.pfc_standing_code.specs.Settings.{View, Setting, IsBeside};
+ghost use Rattle.pfc_standing_code.specs.Settings.{View, Setting, IsInTrial, IsBeside};
 ghost use Rattle.pfc_standing_code.specs.Words.{AreKnown, IsWord, IsChecked};
 ghost use Rattle.pfc_views.specs.Views.{own_place, Sees, LiesAt, AreObjects, AreFew};
 ghost use Rattle.pfc_views.specs.Keeping.{IsLike};
@@ -62,11 +62,12 @@ pub fn actions_keep_what_is_seen()
 {}
 
 /// The names in view in the block at hand, or in one beside it, are as the laws on standing code ask of them: their cells are in view, their addresses
-/// are addresses, and their objects have numbers.
+/// are addresses, and their objects have numbers. In a scan they are those of a guard.
 pub fn seen_names_are_checked()
     ensures { (g : Setting) (homes : Homes) (entries : Entries) (store : Store) (keeps : ℕ → Bool) (display : Display) (b : Block) (w : ℤ)
         (chain : List ℕ) (stacks : Stacks) (env : Env)
         → AreCounted g.program.state.forms → IsSound g.program.state.forms → MemoryIs g.program homes entries store stacks → AreFew stacks
         → AreObjects g.program homes entries store g.number → Sees g.program homes entries store keeps display b g.accepts w chain g.view
-        → AreKnown g.program b g.accepts env → env.state ≡ g.program.state → IsBeside g g.block b → IsChecked g b env }
+        → AreKnown g.program b g.accepts env → env.state ≡ g.program.state → IsBeside g g.block b → IsInTrial g.trial env
+        → IsChecked g b env }
 {}

@@ -3,3 +3,4 @@ pub mod Clock
 pub mod Ends
 pub mod Runs
 pub mod Tried
+pub mod Wants

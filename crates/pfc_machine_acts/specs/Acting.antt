@@ -1,5 +1,5 @@
 -- One action of a process, counted.
-use Rattle.std.specs.Prelude.{ℕ, zero, suc, ◌≡◌, ◌<◌, List, ◌++◌, length, get_or, set, Result, Ok, Err}
+use Rattle.std.specs.Prelude.{ℕ, zero, suc, ◌≡◌, ◌<◌, true, List, ◌++◌, length, get_or, set, Result, Ok, Err}
 use Rattle.pfc_base.specs.declared.memory_error.Memory.{Memory}
 use Rattle.pfc_code.specs.declared.instructions.Instr.{Instr}
 use Rattle.pfc_code.specs.Images.{PlainImage}
@@ -15,7 +15,7 @@ use Rattle.pfc_select_actions.specs.Selects.{takes_up}
 use Rattle.pfc_machine_acts.specs.declared.acts.ActionEnd.{ActionEnd}
 use Rattle.pfc_machine_acts.specs.declared.acts.ActionEnd.TheVariants.{Done, Faulted}
 use Rattle.pfc_machine_acts.specs.Conditions.{CanDo}
-use Rattle.pfc_machine_acts.specs.Performing.{acts_by, choices_for}
+use Rattle.pfc_machine_acts.specs.Performing.{acts_by, choices_for, may_want_memory}
 use Rattle.pfc_machine_acts.specs.Quietly.{quietly}
 use Rattle.pfc_machine_acts.specs.Running.{IsNext}
 
@@ -78,17 +78,18 @@ pub record IsDone (e : PrintedEffect) (line p n : ℕ) (picking picking' : Picki
   pub bytes : out' ≡ out ++ printed.bytes
   pub chosen : picking' ≡ after_choosing picking n
 
--- What the answer to an action of process p tells, which stands before it at a line, and chooses among n. A fault changes nothing but the count, the
--- clock and the line. Want of memory changes nothing, and the action can be tried again.
-abbrev pub IsAnswer : PrintedEffect → ℕ → ℕ → ℕ → Machine → Picking → Picking → List ℕ → List ℕ → Result ActionEnd Memory → Machine → Type 0
-IsAnswer e line p n before picking picking' out out' (Ok Done) new = IsDone e line p n picking picking' out out' new
-IsAnswer e line p n before picking picking' out out' (Ok (Faulted at f)) new =
+-- What the answer to an action of process p by an instruction tells, which stands before it at a line, and chooses among n. A fault changes nothing
+-- but the count, the clock and the line. Want of memory comes only of an action that may want it and changes nothing: it can be tried again.
+abbrev pub IsAnswer : PrintedEffect → Instr → ℕ → ℕ → ℕ → Machine → Picking → Picking → List ℕ → List ℕ → Result ActionEnd Memory → Machine → Type 0
+IsAnswer e i line p n before picking picking' out out' (Ok Done) new = IsDone e line p n picking picking' out out' new
+IsAnswer e i line p n before picking picking' out out' (Ok (Faulted at f)) new =
     (e ≡ Err f) × (at ≡ line) × (new ≡ acted line p (at_rest before)) × (out' ≡ out) × (picking' ≡ picking)
-IsAnswer e line p n before picking picking' out out' (Err memory) new = (new ≡ at_rest before) × (out' ≡ out) × (picking' ≡ picking)
+IsAnswer e i line p n before picking picking' out out' (Err memory) new =
+    (may_want_memory i ≡ true) × (new ≡ at_rest before) × (out' ≡ out) × (picking' ≡ picking)
 
 -- an action of instruction i, before which the process came
 abbrev pub IsActed : PlainImage → ℕ → Machine → Instr → Picking → Picking → List ℕ → List ℕ → Result ActionEnd Memory → Machine → Type 0
 IsActed image p before i picking picking' out out' result new =
     let n = choices_for i p before in
-    IsAnswer (comes_to (quietly image i p before) (acts_by image i (choice_among picking n) p before)) (line_of image p before) p n before
+    IsAnswer (comes_to (quietly image i p before) (acts_by image i (choice_among picking n) p before)) i (line_of image p before) p n before
     picking picking' out out' result new

@@ -1,5 +1,5 @@
 -- What each action does, by the kind of its instruction: one line for each.
-use Rattle.std.specs.Prelude.{ℕ, [], get_or, Option, None, Some, Ok, Err}
+use Rattle.std.specs.Prelude.{ℕ, ◌≡◌, Bool, true, false, [], get_or, Option, None, Some, Result, Ok, Err}
 use Rattle.std.specs.List.{slice_get}
 use Rattle.pfc_code.specs.declared.images.Block.{Block}
 use Rattle.pfc_code.specs.declared.instructions.Instr.{Instr}
@@ -7,6 +7,8 @@ use Rattle.pfc_code.specs.declared.instructions.Instr.TheVariants.{CALL, RET, RE
 use Rattle.pfc_code.specs.Images.{PlainImage}
 use Rattle.pfc_stacks.specs.Effects as stacked
 use Rattle.pfc_values.specs.declared.simple.Simple.TheVariants.{Integer, Boolean, Char}
+use Rattle.pfc_machines.specs.declared.actions.ActionFault.{ActionFault}
+use Rattle.pfc_machines.specs.declared.actions.ActionFault.TheVariants.{Fault, Memory}
 use Rattle.pfc_machines.specs.declared.machine.Machine.{Machine}
 use Rattle.pfc_machines.specs.Actions.{at_rest, Effect, PrintedEffect}
 use Rattle.pfc_own_actions.specs.Creating.{creates}
@@ -113,3 +115,25 @@ acts_by image i choice p m = does_alone (stacked.effect image.blocks i p m.stack
 abbrev pub choices_for : Instr → ℕ → Machine → ℕ
 choices_for (SEL mark x) p m = choices mark p m
 choices_for i p m = 0
+
+-- ## Memory
+
+-- Calls, requeues, creations and output pieces may want memory, and no other action.
+abbrev pub may_want_memory : Instr → Bool
+may_want_memory (CALL k l) = true
+may_want_memory (MCALL n k) = true
+may_want_memory (RCALL g k) = true
+may_want_memory (REQ g k) = true
+may_want_memory (NEW k) = true
+may_want_memory (WRI w) = true
+may_want_memory (WRB w) = true
+may_want_memory (WRC w) = true
+may_want_memory (WRS s w) = true
+may_want_memory WRNL = true
+may_want_memory i = false
+
+-- memory is wanting only where it may be
+abbrev pub WantsMemoryIf : Bool → Result Unit ActionFault → Type 0
+WantsMemoryIf may (Ok u) = Unit {0}
+WantsMemoryIf may (Err (Fault f)) = Unit {0}
+WantsMemoryIf may (Err Memory) = may ≡ true

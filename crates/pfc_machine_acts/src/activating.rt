@@ -3,7 +3,7 @@ ghost use Rattle.std.specs.Prelude.{◌≡◌};
 ghost use Rattle.pfc_code.specs.Images.{plain_image};
 ghost use Rattle.pfc_machines.specs.Actions.{IsTaken};
 ghost use Rattle.pfc_machine_acts.specs.Conditions.{IsActing, CanActivate};
-ghost use Rattle.pfc_machine_acts.specs.Performing.{calls_by};
+ghost use Rattle.pfc_machine_acts.specs.Performing.{calls_by, may_want_memory, WantsMemoryIf};
 
 use crate::holding::hold;
 use pfc_call_actions::{call, call_monitor, call_resource, end_call, end_function, requeue};
@@ -22,7 +22,8 @@ pub(crate) fn activate(
 ) -> Result<(), ActionFault>
     requires acting { IsActing r.number machine.old }
     requires can { CanActivate (plain_image image.now) i choice r.number machine.old }
-    ensures { IsTaken (calls_by (plain_image image.now) i choice r.number machine.old) machine.old result machine.new }
+    ensures taken { IsTaken (calls_by (plain_image image.now) i choice r.number machine.old) machine.old result machine.new }
+    ensures memory { WantsMemoryIf (may_want_memory i) result }
 {
     match i {
         Instr::CALL(k, l) => call(machine, image, r, k, l),

@@ -108,7 +108,7 @@ fn carry_out(
 ) -> Result<ActionEnd, Memory>
     requires { CanDo (plain_image image.now) i (choice_among picker.old (choices_for i r.number machine.old)) r.number machine.old }
     ensures { let n = choices_for i r.number machine.old in
-        IsAnswer (performs (plain_image image.now) i (choice_among picker.old n) r.number machine.old) line r.number n machine.old
+        IsAnswer (performs (plain_image image.now) i (choice_among picker.old n) r.number machine.old) i line r.number n machine.old
         picker.old picker.new out.old out.new result machine.new }
 {
     let p = r.number();
@@ -129,8 +129,8 @@ fn carry_out(
 }
 
 /// One action of a process: its quiet instructions, and the action that comes next, which is counted. What it prints is put behind `out`, and a
-/// plain select that has something to choose among asks the picker. Its only refusal is want of memory, which leaves the process before that
-/// action, and the output and the picker as they were.
+/// plain select that has something to choose among asks the picker. Its only refusal is want of memory, which comes only of a call, a requeue, a
+/// creation or output, and leaves the process before that action, and the output and the picker as they were.
 pub fn act(
     machine: &mut Machine,
     image: &Image,

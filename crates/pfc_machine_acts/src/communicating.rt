@@ -1,8 +1,8 @@
 //! Actions that meet other processes: messages, entries and selects.
-ghost use Rattle.std.specs.Prelude.{◌≡◌};
+ghost use Rattle.std.specs.Prelude.{◌≡◌, false};
 ghost use Rattle.pfc_machines.specs.Actions.{IsTaken};
 ghost use Rattle.pfc_machine_acts.specs.Conditions.{IsActing, CanCommunicate};
-ghost use Rattle.pfc_machine_acts.specs.Performing.{meets_by};
+ghost use Rattle.pfc_machine_acts.specs.Performing.{meets_by, WantsMemoryIf};
 
 use pfc_code::Instr;
 use pfc_machines::{ActionFault, Machine};
@@ -20,7 +20,8 @@ pub(crate) fn communicate(
 ) -> Result<(), ActionFault>
     requires acting { IsActing r.number machine.old }
     requires can { CanCommunicate i choice r.number machine.old }
-    ensures { IsTaken (meets_by i choice r.number machine.old) machine.old result machine.new }
+    ensures taken { IsTaken (meets_by i choice r.number machine.old) machine.old result machine.new }
+    ensures memory { WantsMemoryIf false result }
 {
     match i {
         Instr::SEND(z) => Ok(send(machine, r, z)),

@@ -1,9 +1,9 @@
 //! Actions on semaphores, conditions and resources.
-ghost use Rattle.std.specs.Prelude.{◌≡◌};
+ghost use Rattle.std.specs.Prelude.{◌≡◌, false};
 ghost use Rattle.pfc_code.specs.Images.{plain_image};
 ghost use Rattle.pfc_machines.specs.Actions.{IsTaken};
 ghost use Rattle.pfc_machine_acts.specs.Conditions.{IsActing, CanHold};
-ghost use Rattle.pfc_machine_acts.specs.Performing.{holds_by};
+ghost use Rattle.pfc_machine_acts.specs.Performing.{holds_by, WantsMemoryIf};
 
 use crate::communicating::communicate;
 use pfc_code::{Image, Instr};
@@ -22,7 +22,8 @@ pub(crate) fn hold(
 ) -> Result<(), ActionFault>
     requires acting { IsActing r.number machine.old }
     requires can { CanHold (plain_image image.now) i choice r.number machine.old }
-    ensures { IsTaken (holds_by (plain_image image.now) i choice r.number machine.old) machine.old result machine.new }
+    ensures taken { IsTaken (holds_by (plain_image image.now) i choice r.number machine.old) machine.old result machine.new }
+    ensures memory { WantsMemoryIf false result }
 {
     match i {
         Instr::SINI => Ok(initialise(machine, r)?),

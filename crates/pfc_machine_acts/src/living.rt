@@ -3,7 +3,7 @@ ghost use Rattle.std.specs.Prelude.{◌≡◌};
 ghost use Rattle.pfc_code.specs.Images.{plain_image};
 ghost use Rattle.pfc_machines.specs.Actions.{IsTaken};
 ghost use Rattle.pfc_machine_acts.specs.Conditions.{IsActing, CanLive};
-ghost use Rattle.pfc_machine_acts.specs.Performing.{lives_by};
+ghost use Rattle.pfc_machine_acts.specs.Performing.{lives_by, may_want_memory, WantsMemoryIf};
 
 use crate::activating::activate;
 use pfc_code::{Image, Instr};
@@ -22,7 +22,8 @@ pub(crate) fn live(
 ) -> Result<(), ActionFault>
     requires acting { IsActing r.number machine.old }
     requires can { CanLive (plain_image image.now) i choice r.number machine.old }
-    ensures { IsTaken (lives_by (plain_image image.now) i choice r.number machine.old) machine.old result machine.new }
+    ensures taken { IsTaken (lives_by (plain_image image.now) i choice r.number machine.old) machine.old result machine.new }
+    ensures memory { WantsMemoryIf (may_want_memory i) result }
 {
     match i {
         Instr::COEND => Ok(join(machine, r)),

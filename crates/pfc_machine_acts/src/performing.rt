@@ -3,7 +3,7 @@ ghost use Rattle.std.specs.Prelude.{◌≡◌};
 ghost use Rattle.pfc_code.specs.Images.{plain_image};
 ghost use Rattle.pfc_machines.specs.Actions.{IsPrinted, IsTaken};
 ghost use Rattle.pfc_machine_acts.specs.Conditions.{IsActing, CanLive, CanDo};
-ghost use Rattle.pfc_machine_acts.specs.Performing.{lives_by, silent, performs};
+ghost use Rattle.pfc_machine_acts.specs.Performing.{lives_by, silent, performs, may_want_memory, WantsMemoryIf};
 
 use crate::living::live;
 use pfc_code::{Image, Instr};
@@ -23,13 +23,15 @@ fn live_silently(
 ) -> Result<(), ActionFault>
     requires acting { IsActing r.number machine.old }
     requires can { CanLive (plain_image image.now) i choice r.number machine.old }
-    ensures { IsPrinted (silent (lives_by (plain_image image.now) i choice r.number machine.old)) machine.old out.now result machine.new out.now }
+    ensures printed { IsPrinted (silent (lives_by (plain_image image.now) i choice r.number machine.old)) machine.old out.now result machine.new out.now }
+    ensures memory { WantsMemoryIf (may_want_memory i) result }
 {
     live(machine, image, r, i, choice)
 }
 
 /// Performs an instruction of a process that is an action and not of the stacks alone. A select takes the alternative at the place of the choice,
-/// from 0. What is printed is put behind `out`. The faults are those of the action, and leave the machine as it was, as want of memory does.
+/// from 0. What is printed is put behind `out`. The faults are those of the action, and leave the machine as it was, as want of memory does, which
+/// comes only of calls, requeues, creations and output.
 pub fn perform(
     machine: &mut Machine,
     image: &Image,
@@ -39,7 +41,8 @@ pub fn perform(
     out: &mut Output,
 ) -> Result<(), ActionFault>
     requires { CanDo (plain_image image.now) i choice r.number machine.old }
-    ensures { IsPrinted (performs (plain_image image.now) i choice r.number machine.old) machine.old out.old result machine.new out.new }
+    ensures printed { IsPrinted (performs (plain_image image.now) i choice r.number machine.old) machine.old out.old result machine.new out.new }
+    ensures memory { WantsMemoryIf (may_want_memory i) result }
 {
     match i {
         Instr::WRI(w) => write_value(machine, r, Simple::Integer, w, out),

@@ -1,0 +1,12 @@
+use Rattle.std.proofs.Common.{◌≡◌, true, [], ◌∷◌, sym, subst}
+use Rattle.pfc_code.specs.Images.{PlainImage}
+use Rattle.pfc_sched.specs.Picks.{by_turn}
+use Rattle.pfc_machines.specs.Machines.{start_machine}
+use Rattle.pfc_acts_tests.specs.Runs.{may_run}
+use Rattle.pfc_acts_tests.proofs.Allowed.{select_runs}
+use Rattle.pfc_acts_tests.proofs.programs.select.Goals as goal
+
+pub run_of-requires-clause-may : goal.run_of-requires-clause-may
+run_of-requires-clause-may c =
+    subst (λ (image : PlainImage). may_run image (0 ∷ 0 ∷ 0 ∷ 0 ∷ 1 ∷ 2 ∷ 3 ∷ 3 ∷ 3 ∷ 1 ∷ []) (by_turn 0) (start_machine image [] 1) ≡ true) (sym c.in_ok-image.ensures)
+    select_runs

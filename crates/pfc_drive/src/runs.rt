@@ -49,9 +49,9 @@ impl Session {
         let mut out = Output::new(alloc);
         loop {
             if let Some(ending) = self.turn(image, picker, limit, &mut out) {
-                return hand_over(ending, &out, sink);
+                return hand_over(ending, &mut out, sink);
             }
-            let Ok(()) = hand_piece(&mut out, sink) else {
+            let Ok(()) = hand_piece(PIECE, &mut out, sink) else {
                 return Ending::SinkFailed;
             };
         }
@@ -137,14 +137,16 @@ impl Session {
     }
 }
 
-/// All bytes that are held to the sink, where they are enough for a piece.
-fn hand_piece<O: Sink>(out: &mut Output, sink: &mut O) -> Result<(), Cut>
+/// All bytes that are held to the sink, where there are at least so many.
+fn hand_piece<O: Sink>(least: usize, out: &mut Output, sink: &mut O) -> Result<(), Cut>
+    requires { 0 < least }
+    ensures few { OnOk result (length out.new < least) }
     ensures sent { OnOk result (IsSent out.old out.new (O.written sink.old) (O.written sink.new)) }
     ensures cut { OnErr result (AppendsFront (O.written sink.old) (O.written sink.new) out.old) }
     ensures faults { O.faults sink.old ≤ O.faults sink.new }
     ensures failed { OnErr result (Rose (O.faults sink.old) (O.faults sink.new)) }
 {
-    if out.bytes().len() < PIECE {
+    if out.bytes().len() < least {
         return Ok(());
     }
     write_all(sink, out.bytes())?;
@@ -154,9 +156,9 @@ fn hand_piece<O: Sink>(out: &mut Output, sink: &mut O) -> Result<(), Cut>
 
 /// The rest of the output to the sink, behind a run's ending, unless memory was refused. It answers that ending, or that the
 /// sink took no more.
-fn hand_over<O: Sink>(ending: Ending, out: &Output, sink: &mut O) -> Ending
+fn hand_over<O: Sink>(ending: Ending, out: &mut Output, sink: &mut O) -> Ending
     requires { ending ≢ Ending.SinkFailed }
-    ensures over { IsHandedOver out.now (O.written sink.old) (O.written sink.new) ending result }
+    ensures over { IsHandedOver out.old (O.written sink.old) (O.written sink.new) ending result }
     ensures faults { O.faults sink.old ≤ O.faults sink.new }
     ensures failed { result ≡ Ending.SinkFailed → Rose (O.faults sink.old) (O.faults sink.new) }
     ensures main { IsOfMain ending → IsOfMain result }
@@ -164,7 +166,7 @@ fn hand_over<O: Sink>(ending: Ending, out: &Output, sink: &mut O) -> Ending
     if let Ending::Memory = ending {
         return ending;
     }
-    match write_all(sink, out.bytes()) {
+    match hand_piece(1, out, sink) {
         Ok(()) => ending,
         Err(_cut) => Ending::SinkFailed,
     }

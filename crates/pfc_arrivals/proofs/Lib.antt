@@ -1,0 +1,16 @@
+pub mod Blocks
+pub mod Armed
+pub mod Gone
+pub mod Taken
+pub mod Turns
+pub mod Standing
+pub mod Ahead
+pub mod Within
+pub mod Remade
+pub mod Steps
+pub mod Arriving
+pub mod Picked
+pub mod Evaluating
+pub mod Guards
+pub mod Untried
+pub mod Agreed

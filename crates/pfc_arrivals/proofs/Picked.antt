@@ -1,0 +1,67 @@
+-- Who is picked may act, where all actions are kept.
+use Rattle.std.proofs.Common.{ℕ, zero, suc, ◌%◌, ◌<◌, max, sym, subst, arith}
+use Rattle.std.proofs.Math.Nat.{mod-lt}
+use Rattle.pfc_sched.specs.Picks.{Picking, by_words, by_turn, by_list}
+use Rattle.pfc_sched.specs.Words.{word}
+use Rattle.pfc_semantics.specs.Remainders.{Action}
+use Rattle.pfc_semantics.specs.Configurations.{Config}
+use Rattle.pfc_semantics.specs.Selects.{choices}
+use Rattle.pfc_semantics.specs.Steps.{effect, line_of, next_of}
+use Rattle.pfc_code.specs.Images.{PlainImage}
+use Rattle.pfc_translation.specs.Images.{image_of}
+use Rattle.pfc_machines.specs.declared.machine.Machine.{Machine}
+use Rattle.pfc_machine_acts.specs.Acting.{choice_among, comes_to}
+use Rattle.pfc_machine_acts.specs.Conditions.{CanDo}
+use Rattle.pfc_machine_acts.specs.Performing.{acts_by}
+use Rattle.pfc_machine_acts.specs.Quietly.{quietly}
+use Rattle.pfc_representation.specs.Levels.{Facts, program_in}
+use Rattle.pfc_representation.specs.Machines.{Represents}
+use Rattle.pfc_representation.specs.Actions.{IsChoice, ComeToSame, IsKept, AreKept}
+use Rattle.pfc_arrivals.specs.Arrivals.{IsAboutToAct, ComesToAction, ActsAsItsSource}
+use Rattle.pfc_arrivals.proofs.Arriving.{comes_to_action}
+
+at_most : (k n : ℕ) → k < suc n → k < max 1 (suc n)
+at_most k n less = grind (arith, less)
+
+choice_is : (picking : Picking) (n : ℕ) → IsChoice (choice_among picking n) n
+choice_is picking zero = grind arith
+choice_is (by_words g) (suc n) = at_most (word g % suc n) n (mod-lt (word g) (grind arith))
+choice_is (by_turn last) (suc n) = at_most 0 n (grind arith)
+choice_is (by_list picks item) (suc n) = at_most 0 n (grind arith)
+
+module _ (facts : Facts) (m : Machine) (c : Config) (p : ℕ) (picking : Picking) (kept : AreKept (λ level n. Unit {0})) (is : Represents facts m c)
+    (about : IsAboutToAct facts m c p) where
+  abbrev n : Action
+  n = next_of (program_in facts) c p
+
+  abbrev image : PlainImage
+  image = image_of facts.tree
+
+  abbrev choice : ℕ
+  choice = choice_among picking (choices (program_in facts) c p n)
+
+  module _ (come : ComesToAction facts m c p) where
+    by_kept : IsKept facts come.before c p choice n → ActsAsItsSource facts m c p picking
+    by_kept k = record {
+      may = record {
+        short = is.alike.program.short;
+        descriptor = subst (λ size. p < size) (sym is.alike.words.descriptors) about.process;
+        count = come.count;
+        before = come.before;
+        instr = k.instr;
+        next = record { run = come.run; few = come.few; is = k.is; can = k.can_step; no_move = k.no_move };
+        can = subst (λ many. CanDo image k.instr (choice_among picking many) p come.before) (sym k.choices) k.can_do;
+      };
+      line = k.line;
+      choices_same = k.choices;
+      same =
+          subst (λ many. ComeToSame facts come.before c p (line_of n)
+          (comes_to (quietly image k.instr p come.before) (acts_by image k.instr (choice_among picking many) p come.before))
+          (effect (program_in facts) c p (choice_among picking many) n)) (sym k.choices) k.same;
+    }
+
+    alike : ActsAsItsSource facts m c p picking
+    alike = by_kept (kept facts come.before c p choice come.level n tt come.acting come.arrived (choice_is picking (choices (program_in facts) c p n)))
+
+  pub acts_alike : ActsAsItsSource facts m c p picking
+  acts_alike = alike (comes_to_action facts m c p is about)

@@ -1,0 +1,63 @@
+-- Where a process that is about to act comes to its next action.
+use Rattle.std.specs.Prelude.{List, ◌++◌, Result, Ok, Err, ℕ, ◌^◌, ◌≡◌, ◌≤◌, ◌<◌, length}
+use Rattle.pfc_base.specs.declared.memory_error.Memory.{Memory}
+use Rattle.pfc_state.specs.Stands.{Is_ready}
+use Rattle.pfc_world.specs.Tables.{at}
+use Rattle.pfc_world.specs.Transitions.{begun}
+use Rattle.pfc_sched.specs.Picks.{Picking}
+use Rattle.pfc_semantics.specs.Configurations.{Config}
+use Rattle.pfc_semantics.specs.Events.{step}
+use Rattle.pfc_semantics.specs.Selects.{choices}
+use Rattle.pfc_semantics.specs.Steps.{effect, line_of, next_of}
+use Rattle.pfc_translation.specs.Images.{image_of}
+use Rattle.pfc_machines.specs.declared.machine.Machine.{Machine}
+use Rattle.pfc_select_actions.specs.Selects.{takes_up}
+use Rattle.pfc_machine_acts.specs.declared.acts.ActionEnd.{ActionEnd}
+use Rattle.pfc_machine_acts.specs.Acting.{MayAct, choice_among, comes_to, line_of as machine_line}
+use Rattle.pfc_machine_acts.specs.Performing.{acts_by, choices_for}
+use Rattle.pfc_machine_acts.specs.Quietly.{quietly}
+use Rattle.pfc_machine_acts.specs.Running.{QuietRun}
+use Rattle.pfc_representation.specs.Levels.{Facts, program_in, LivingLevel}
+use Rattle.pfc_representation.specs.Machines.{Agrees}
+use Rattle.pfc_representation.specs.Acting.{IsActing, TakesNumber, HasArrived}
+use Rattle.pfc_representation.specs.Actions.{ComeToSame}
+
+-- the process acts
+abbrev pub begins : ℕ → Machine → Machine
+begins p m = record m { world = begun m.world p }
+
+-- Process p is ready and may be picked. What its next action takes as a count or as a rank has 32 bits.
+pub record IsAboutToAct (facts : Facts) (m : Machine) (c : Config) (p : ℕ) : Type 0 where
+  pub process : p < length c.activities
+  pub ready : at c.table.rows p ≡ Is_ready
+  pub few : c.table.done < 10 ^ 18
+  pub number : TakesNumber (next_of (program_in facts) c p)
+
+-- Quiet instructions of process p, no more than the code has, lead to the action that comes next in the source text.
+pub record ComesToAction (facts : Facts) (m : Machine) (c : Config) (p : ℕ) : Type 0 where
+  pub level : LivingLevel
+  pub count : ℕ
+  pub before : Machine
+  pub run : QuietRun (image_of facts.tree) p count (takes_up p (begins p m)) before
+  pub few : count ≤ length (image_of facts.tree).code
+  pub acting : IsActing facts before c p level
+  pub arrived : HasArrived facts before c p level (next_of (program_in facts) c p)
+
+-- Process p may act on the machine, and what its action comes to there and in the source text is the same, with the same choice.
+pub record ActsAsItsSource (facts : Facts) (m : Machine) (c : Config) (p : ℕ) (picking : Picking) : Type 0 where
+  pub may : MayAct (image_of facts.tree) picking p (begins p m)
+  pub line : machine_line (image_of facts.tree) p may.before ≡ line_of (next_of (program_in facts) c p)
+  pub choices_same : choices_for may.instr p may.before ≡ choices (program_in facts) c p (next_of (program_in facts) c p)
+  pub same :
+      let choice = choice_among picking (choices_for may.instr p may.before) in
+      ComeToSame facts may.before c p (line_of (next_of (program_in facts) c p))
+      (comes_to (quietly (image_of facts.tree) may.instr p may.before) (acts_by (image_of facts.tree) may.instr choice p may.before))
+      (effect (program_in facts) c p choice (next_of (program_in facts) c p))
+
+-- What an action has come to, of which this is the answer: the machine agrees with the configuration behind the step of the source text, and what the action
+-- prints stands behind what was there on both sides. Want of memory is no action.
+abbrev pub HasAgreed : Facts → Config → ℕ → ℕ → Result ActionEnd Memory → List ℕ → List ℕ → Machine → Type 0
+HasAgreed facts c p choice (Ok end) out out' new =
+    let behind = (step (program_in facts) c p choice).config in
+    Agrees facts new behind × ((bytes : List ℕ) × (out' ≡ out ++ bytes) × (behind.output ≡ c.output ++ bytes))
+HasAgreed facts c p choice (Err memory) out out' new = Unit {0}

@@ -1,0 +1,15 @@
+pub mod Whole
+pub mod Rearmed
+pub mod Made
+pub mod Others
+pub mod Held
+pub mod Waiting
+pub mod Sight
+pub mod Found
+pub mod Partner
+pub mod Meeting
+pub mod Stacks
+pub mod Finding
+pub mod Passing
+pub mod Sending
+pub mod Receiving

@@ -1,0 +1,15 @@
+pub mod Tests
+pub mod Rows
+pub mod Freed
+pub mod Step
+pub mod Change
+pub mod Finding
+pub mod Numbers
+pub mod Popped
+pub mod Blocking
+pub mod Signals
+pub mod Coends
+pub mod Marks
+pub mod Handing
+pub mod Delaying
+pub mod Resuming

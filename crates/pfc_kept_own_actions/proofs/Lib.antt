@@ -1,0 +1,13 @@
+pub mod Blocks
+pub mod Within
+pub mod Steps
+pub mod Arrived
+pub mod Alone
+pub mod Reading
+pub mod Writing
+pub mod Asking
+pub mod Printing
+pub mod Turning
+pub mod Taking
+pub mod Faulting
+pub mod Trying

@@ -1,0 +1,11 @@
+pub mod Placed
+pub mod Rising
+pub mod Owned
+pub mod Walk
+pub mod Mains
+pub mod Cells
+pub mod Population
+pub mod Counted
+pub mod Few
+pub mod Conditions
+pub mod Scans

@@ -1,0 +1,13 @@
+pub mod Levels
+pub mod Rooms
+pub mod Alternatives
+pub mod Callers
+pub mod Hands
+pub mod Holding
+pub mod Trials
+pub mod Processes
+pub mod Objects
+pub mod Machines
+pub mod Keeping
+pub mod Acting
+pub mod Actions

@@ -1,0 +1,4 @@
+mod Gathering
+mod Ready
+mod Stepping
+mod Turning

@@ -1,0 +1,11 @@
+pub mod Rooms
+pub mod Standings
+pub mod Tables
+pub mod LetOn
+pub mod AlikeLetOn
+pub mod Ended
+pub mod Stores
+pub mod Main
+pub mod AlikeEnded
+pub mod Settled
+pub mod Reported

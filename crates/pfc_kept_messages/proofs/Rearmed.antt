@@ -109,6 +109,7 @@ module _ (facts : Facts) (homes : Homes) (entries : Entries) (store : Store) (ta
           word = is.word;
           caller = is.caller;
           trial = is.trial;
+          accepts = is.accepts;
           seen = is.seen;
           back = is.back;
         }

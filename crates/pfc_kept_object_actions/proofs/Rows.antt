@@ -84,6 +84,7 @@ module _ (facts : Facts) (homes : Homes) (entries : Entries) (store : Store) (st
           word = is.word;
           caller = is.caller;
           trial = is.trial;
+          accepts = is.accepts;
           seen = seen_anew earlier.callers below v a.display outer is.seen;
           back = is.back;
         }

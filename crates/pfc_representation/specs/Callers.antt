@@ -29,7 +29,7 @@ use Rattle.pfc_standing_code.specs.Performs.{own_again}
 use Rattle.pfc_standing_images.specs.Images.{IsOfBlock}
 use Rattle.pfc_views.specs.Views.{own_place}
 use Rattle.pfc_representation.specs.Levels.{Facts, program_in, LivingLevel, block_of, in_turn, IsBlockAt, HasSetting, DoesOn, IsSeenBy}
-use Rattle.pfc_representation.specs.Rooms.{HasRoom, GoesOnWithin}
+use Rattle.pfc_representation.specs.Rooms.{process_count, HasRoom, GoesOnWithin, MayMeet}
 use Rattle.pfc_representation.specs.Alternatives.{AreMade}
 
 -- ## Where an end goes back to
@@ -150,6 +150,7 @@ pub record IsCalled (facts : Facts) (homes : Homes) (entries : Entries) (store :
   pub trial : outer.setting.trial ≡ of_own
   pub seen : IsSeenBy facts homes entries store table p earlier.callers below v a.display outer
   pub back : GoesBack facts outer own.address level.setting.under a.mark a.caller
+  pub accepts : MayMeet (process_count facts) earlier.room.meetings outer.arms
 
 -- where the code of a level goes on
 abbrev pub IsWithin : Facts → LivingLevel → ℕ → Communicating → Type 0

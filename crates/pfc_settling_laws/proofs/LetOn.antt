@@ -120,6 +120,7 @@ module _ (facts : Facts) (homes : Homes) (entries : Entries) (store : Store) (st
         trial = is.trial;
         seen = seen_on p earlier.callers below v a.display outer is.seen;
         back = is.back;
+        accepts = is.accepts;
       }
 
   callers_on : (p room : ℕ) (level : LivingLevel) (w : ℤ) (latest : Communicating) (xs : List Activation) (es : List Entry)

@@ -1,0 +1,11 @@
+pub mod Roomier
+pub mod Tops
+pub mod Beginnings
+pub mod Faults
+pub mod Called
+pub mod Calling
+pub mod Ended
+pub mod Turned
+pub mod Returned
+pub mod Returning
+pub mod Scanning

@@ -70,7 +70,7 @@ set_twice (z ∷ xs) zero x y = refl
 set_twice (z ∷ xs) (suc i) x y = ap (λ rest. z ∷ rest) (set_twice xs i x y)
 
 -- who is ready waits for nothing
-ready_holds : (holds : Type 0) (r : ℕ) (stand : Stand) → stand ≡ Is_ready → holds ⊎ (waits_for_resource r stand ≡ true) → holds
+pub ready_holds : (holds : Type 0) (r : ℕ) (stand : Stand) → stand ≡ Is_ready → holds ⊎ (waits_for_resource r stand ≡ true) → holds
 ready_holds holds r stand ready (inl h) = h
 ready_holds holds r stand ready (inr h) = absurd (let both : false ≡ true = ap (λ (s : Stand). waits_for_resource r s) (sym ready) ∙ h in cc)
 

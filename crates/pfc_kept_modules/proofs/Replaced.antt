@@ -1,5 +1,5 @@
 -- A requeue: an activation takes the place of the last, over the same callers.
-use Rattle.std.proofs.Common.{◌≡◌, ◌≢◌, ℕ, zero, suc, ◌+◌, ◌-◌, ◌^◌, ◌<◌, ◌==◌, ◌||◌, if◌then◌else◌, ℤ, pos, Bool, true, false, List, [], ◌∷◌}
+use Rattle.std.proofs.Common.{◌≡◌, ◌≢◌, ℕ, ◌+◌, ◌-◌, ◌^◌, ◌<◌, ◌==◌, ◌||◌, if◌then◌else◌, ℤ, pos, Bool, true, false, List, [], ◌∷◌}
 use Rattle.std.proofs.Common.{length, drop, set, slice_get, get_or, All, Some, None, refl, sym, ap, ◌∙◌, subst, arith, inl}
 use Rattle.std.proofs.lemmas.List.{get_or-set_same, length-set}
 use Rattle.pfc_types.specs.declared.types.TypeId.{TypeId}
@@ -51,6 +51,7 @@ use Rattle.pfc_representation.specs.Acting.{IsActing}
 use Rattle.pfc_representation.proofs.Kept.{may_keep}
 use Rattle.pfc_kept_own_actions.proofs.Arrived.{stack_there}
 use Rattle.pfc_kept_calls.proofs.Caller.{lender_apart, number_is, entries_here, entries_there, outer, hold, is_free, seen_here, hand, shows}
+use Rattle.pfc_kept_calls.proofs.Lists.{set_twice}
 use Rattle.pfc_kept_calls.proofs.Ended.{not_main, not_below, no_objects, like_ended, own_is, number_back}
 use Rattle.pfc_kept_calls.proofs.Returned.{has, e, rest, home, home_at as old_home_at, base, own}
 use Rattle.pfc_kept_modules.specs.Exported.{IsExported}
@@ -294,11 +295,6 @@ module _ (facts : Facts) (m : Machine) (c : Config) (p : ℕ) (level : LivingLev
 
     abbrev between : Stacks
     between = set m.stacks p (replaced k code s)
-
-    set_twice : {A : Type 0} (xs : List A) (i : ℕ) (y z : A) → set (set xs i y) i z ≡ set xs i z
-    set_twice [] i y z = refl
-    set_twice (v ∷ xs) zero y z = refl
-    set_twice (v ∷ xs) (suc i) y z = ap (λ more. v ∷ more) (set_twice xs i y z)
 
     held_between : HoldStore here homes entries store between
     held_between =

@@ -31,7 +31,6 @@ use Rattle.pfc_call_actions.specs.Requeues.{in_place, requeues as machine_requeu
 use Rattle.pfc_call_actions.specs.Returns.{scans_from}
 use Rattle.pfc_machine_acts.specs.Performing.{silent, with_block}
 use Rattle.pfc_standing_code.specs.Settings.{Trial, of_own, AreOver, site_of, IsBeside, same_block, both_mains, IsAt}
-use Rattle.pfc_standing_code.specs.Typed.{IsOfSub}
 use Rattle.pfc_standing_code.specs.Words.{AreHeld, AreKnown, IsChecked}
 use Rattle.pfc_standing_code.specs.Performs.{own_block}
 use Rattle.pfc_standing_images.specs.Images.{IsOfImage}
@@ -53,13 +52,14 @@ use Rattle.pfc_kept_calls.proofs.Returned.{has, e, home, home_at, base}
 use Rattle.pfc_kept_calls.proofs.Scanning.{ready_holds}
 use Rattle.pfc_kept_modules.specs.Exported.{IsExported}
 use Rattle.pfc_kept_modules.specs.Requeued.{MayRequeue, AreLentOn}
+use Rattle.pfc_kept_modules.proofs.Subs.{IsSubOf}
 use Rattle.pfc_kept_modules.proofs.Replaced.{top, others, activations_are, entries_are, IsRequeue}
 use Rattle.pfc_kept_modules.proofs.Requeued.{represents_requeued}
 
 module _ (facts : Facts) (m : Machine) (c : Config) (p choice : ℕ) (level : LivingLevel) (acting : IsActing facts m c p level) (x : Context) (b : Block)
     (scope : ℕ) (formals : List Formal) (given : List Argument) (below : List ℤ) (checked : IsChecked level.setting b x.env)
     (alone : (level.setting.trial ≡ of_own) × (level.arms ≡ [])) (may : MayRequeue level scope) (over : AreOver level.setting below)
-    (sub : IsOfSub (site_of level.setting b x) scope formals)
+    (sub : IsSubOf level.setting.program scope formals)
     (held : AreHeld level.setting.view (site_of level.setting b x) formals given (operands_of m.stacks p) below)
     (there : IsAt level.setting (stack_of m.stacks p).at (REQ (resource_of (site_of level.setting b x)) (block_number level.setting.program scope)) x.line)
     (lends : AreLentOn (program_in facts) c p given (activity_of (program_in facts) c p).activations)
@@ -93,11 +93,10 @@ module _ (facts : Facts) (m : Machine) (c : Config) (p choice : ℕ) (level : Li
   target : (n : ℕ) × IsExported facts.tree n k callee formals × (module_of blocks block.outer ≡ Some n)
   target = by level.setting.program same sub
     where
-      by : (q : Program) → q ≡ g → IsOfSub (record (site_of level.setting b x) { program = q }) scope formals
+      by : (q : Program) → q ≡ g → IsSubOf q scope formals
           → (n : ℕ) × IsExported facts.tree n k callee formals × (module_of blocks block.outer ≡ Some n)
       by q is of_sub =
-          let of : IsOfSub (record (site_of level.setting b x) { program = g }) scope formals = subst (λ (z : Program). IsOfSub (record
-          (site_of level.setting b x) { program = z }) scope formals) is of_sub in
+          let of : IsSubOf g scope formals = subst (λ (z : Program). IsSubOf z scope formals) is of_sub in
           let found = may.exported facts.tree of.number same acting.alike.program of.among of.own_scope in
           (found.0, subst (λ (fs : List Formal). IsExported facts.tree found.0 k callee fs) (sym of.own_formals) found.1, found.2)
 
@@ -310,4 +309,5 @@ pub requeued_kept : (facts : Facts) (m : Machine) (c : Config) (p choice : ℕ) 
     → HasArrived facts m c p level (calls x (to_requeue scope) given) → IsKept facts m c p choice (calls x (to_requeue scope) given)
 requeued_kept facts m c p choice level x scope given may lends acting arrived =
     let (b, checked, (formals, below, held, (alone, (over, sub, takes, there)))) = arrived.arrived in
-    requeue_kept facts m c p choice level acting x b scope formals given below checked alone may over sub held there lends arrived
+    requeue_kept facts m c p choice level acting x b scope formals given below checked alone may over
+    (record { number = sub.number; among = sub.among; own_scope = sub.own_scope; own_formals = sub.own_formals }) held there lends arrived

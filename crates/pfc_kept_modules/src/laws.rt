@@ -8,7 +8,7 @@ ghost use Rattle.pfc_representation.specs.Trials.{mark_of};
 ghost use Rattle.pfc_representation.specs.Acting.{IsActing, HasArrived};
 ghost use Rattle.pfc_representation.specs.Actions.{IsKept, AreKept};
 ghost use Rattle.pfc_kept_modules.specs.Groups.{EntersModule};
-ghost use Rattle.pfc_kept_modules.specs.Endings.{EndsInMonitor, AreOutside};
+ghost use Rattle.pfc_kept_modules.specs.Endings.{EndsInMonitor, AreOutside, IsInOnce};
 ghost use Rattle.pfc_kept_modules.specs.Requeued.{MayRequeue, AreLentOn};
 
 /// A call of a procedure of a monitor or of a resource from outside begins the same activation on both sides, and the process has the module or waits for it
@@ -24,6 +24,13 @@ pub fn monitors_are_left()
         → EndsInMonitor level action → mark_of (activity_of (program_in facts) c p).activations ≡ of_monitor n
         → AreOutside n (activity_of (program_in facts) c p).activations → IsActing facts m c p level → HasArrived facts m c p level action
         → IsKept facts m c p choice action }
+{}
+
+/// The end of a procedure, wherever it was called from.
+pub fn procedures_are_left()
+    ensures { (facts : Facts) (m : Machine) (c : Config) (p choice : ℕ) (level : LivingLevel) (action : Action) → EndsInMonitor level action
+        → IsInOnce (mark_of (activity_of (program_in facts) c p).activations) (activity_of (program_in facts) c p).activations
+        → IsActing facts m c p level → HasArrived facts m c p level action → IsKept facts m c p choice action }
 {}
 
 /// A requeue begins the same activation on both sides in place of the last, with the same caller, and the same scan comes first; or both find the stack full.

@@ -10,6 +10,7 @@ pub mod Leaving
 pub mod Ending
 pub mod Keeping
 pub mod Lent
+pub mod Lending
 pub mod Replaced
 pub mod Renewed
 pub mod Requeued

@@ -36,11 +36,12 @@ use Rattle.pfc_standing_code.specs.Performs.{own_block}
 use Rattle.pfc_standing_images.specs.Images.{IsOfImage}
 use Rattle.pfc_standing_images.proofs.Wholes.{block_stands}
 use Rattle.pfc_standing_images.proofs.Guards.{turn_there}
+use Rattle.pfc_views.specs.Views.{block_site}
 use Rattle.pfc_representation.specs.Levels.{Facts, program_in, LivingLevel, block_of, IsBlockAt}
 use Rattle.pfc_representation.specs.Holding.{holders_in, HoldsFor}
 use Rattle.pfc_representation.specs.Machines.{goes_on}
 use Rattle.pfc_representation.specs.Acting.{IsActing, HasArrived}
-use Rattle.pfc_representation.specs.Actions.{ComeToSame, IsKept}
+use Rattle.pfc_representation.specs.Actions.{ComeToSame, IsKept, AreKept}
 use Rattle.pfc_kept_own_actions.proofs.Alone.{can_go}
 use Rattle.pfc_kept_own_actions.proofs.Arrived.{has_setting, stack_there, code_there, code_line, acts_now}
 use Rattle.pfc_kept_calls.proofs.Tops.{cells_of_top}
@@ -51,8 +52,10 @@ use Rattle.pfc_kept_calls.proofs.Ended.{first_stands}
 use Rattle.pfc_kept_calls.proofs.Returned.{has, e, home, home_at, base}
 use Rattle.pfc_kept_calls.proofs.Scanning.{ready_holds}
 use Rattle.pfc_kept_modules.specs.Exported.{IsExported}
-use Rattle.pfc_kept_modules.specs.Requeued.{MayRequeue, AreLentOn}
+use Rattle.pfc_kept_modules.specs.Requeued.{IsLasting, MayRequeue, Requeues}
 use Rattle.pfc_kept_modules.proofs.Subs.{IsSubOf}
+use Rattle.pfc_kept_modules.proofs.Lent.{IsLentOn}
+use Rattle.pfc_kept_modules.proofs.Lending.{all_lent}
 use Rattle.pfc_kept_modules.proofs.Replaced.{top, others, activations_are, entries_are, IsRequeue}
 use Rattle.pfc_kept_modules.proofs.Requeued.{represents_requeued}
 
@@ -62,7 +65,7 @@ module _ (facts : Facts) (m : Machine) (c : Config) (p choice : ℕ) (level : Li
     (sub : IsSubOf level.setting.program scope formals)
     (held : AreHeld level.setting.view (site_of level.setting b x) formals given (operands_of m.stacks p) below)
     (there : IsAt level.setting (stack_of m.stacks p).at (REQ (resource_of (site_of level.setting b x)) (block_number level.setting.program scope)) x.line)
-    (lends : AreLentOn (program_in facts) c p given (activity_of (program_in facts) c p).activations)
+    (lasts : All (IsLasting (block_site level.setting.program level.setting.block)) given)
     (arrived : HasArrived facts m c p level (calls x (to_requeue scope) given)) where
   abbrev g : Program
   g = program_in facts
@@ -180,6 +183,12 @@ module _ (facts : Facts) (m : Machine) (c : Config) (p choice : ℕ) (level : Li
   held_there : AreHeld level.setting.view (site_of (outer facts m c p level acting) b x) formals given s.operands below
   held_there = subst (λ (z : Program). AreHeld level.setting.view (record (site_of level.setting b x) { program = z }) formals given
       s.operands below) same held
+
+  lends : All (IsLentOn g c p (top facts m c p level acting more).number) given
+  lends =
+      all_lent facts m c p level acting more alone.0 b checked.beside x known formals given s.operands below held_there
+      (subst (λ (y : Block). All (IsLasting (block_site g y)) given) (sym (alone_there b checked.beside))
+      (subst (λ (z : Program). All (IsLasting (block_site z block)) given) same lasts))
 
   enough : code.params ≤ length s.operands
   enough = arguments_there facts m c p level acting alone.0 b callee k code formals x given below checked.beside known can.takes can.there can.is held_there
@@ -303,11 +312,9 @@ module _ (facts : Facts) (m : Machine) (c : Config) (p choice : ℕ) (level : Li
     same = come_to_same;
   }
 
-pub requeued_kept : (facts : Facts) (m : Machine) (c : Config) (p choice : ℕ) (level : LivingLevel) (x : Context) (scope : ℕ) (given : List Argument)
-    → MayRequeue level scope
-    → AreLentOn (program_in facts) c p given (activity_of (program_in facts) c p).activations → IsActing facts m c p level
-    → HasArrived facts m c p level (calls x (to_requeue scope) given) → IsKept facts m c p choice (calls x (to_requeue scope) given)
-requeued_kept facts m c p choice level x scope given may lends acting arrived =
+pub requeued_kept : AreKept Requeues
+requeued_kept facts m c p choice level (calls x (to_requeue scope) given) may acting arrived chosen =
     let (b, checked, (formals, below, held, (alone, (over, sub, takes, there)))) = arrived.arrived in
-    requeue_kept facts m c p choice level acting x b scope formals given below checked alone may over
-    (record { number = sub.number; among = sub.among; own_scope = sub.own_scope; own_formals = sub.own_formals }) held there lends arrived
+    requeue_kept facts m c p choice level acting x b scope formals given below checked alone may.0 over
+    (record { number = sub.number; among = sub.among; own_scope = sub.own_scope; own_formals = sub.own_formals }) held there may.1 arrived
+requeued_kept facts m c p choice level n may acting arrived chosen = absurd may

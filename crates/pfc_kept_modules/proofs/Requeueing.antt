@@ -1,6 +1,6 @@
 -- A requeue, which the code has arrived at.
-use Rattle.std.proofs.Common.{◌≡◌, ℕ, suc, ◌+◌, ◌≤◌, ℤ, Bool, true, false, if◌then◌else◌, List, [], ◌∷◌, length, slice_get, get_or, All, Option, Some}
-use Rattle.std.proofs.Common.{Ok, Err, refl, sym, ap, ◌∙◌, subst, arith, ◌⊎◌, inl, inr}
+use Rattle.std.proofs.Common.{◌≡◌, ℕ, suc, ◌+◌, ◌^◌, ◌<◌, ◌≤◌, ℤ, Bool, true, false, if◌then◌else◌, List, [], ◌∷◌, length, slice_get, get_or, All, Option, Some}
+use Rattle.std.proofs.Common.{Ok, Err, refl, sym, ap, ◌∙◌, subst, arith, ◌⊎◌, inl, inr, length-append}
 use Rattle.std.specs.Prelude.{nat_le}
 use Rattle.std.proofs.lemmas.List.{append-nil}
 use Rattle.std.proofs.lemmas.Option.{slice_get_within, get_or_from_slice_get}
@@ -14,45 +14,48 @@ use Rattle.pfc_world.specs.Tables.{at}
 use Rattle.pfc_semantics.specs.Layouts.{Layout}
 use Rattle.pfc_semantics.specs.Objects.{module_number}
 use Rattle.pfc_semantics.specs.Programs.{Block, Guard, Program, block_at, block_number, layout_cells}
-use Rattle.pfc_semantics.specs.Remainders.{Context, Argument, calls, to_requeue}
+use Rattle.pfc_semantics.specs.Remainders.{Context, Argument, Action, calls, to_requeue}
 use Rattle.pfc_semantics.specs.Resources.{requeues, requeued_in}
 use Rattle.pfc_semantics.specs.Configurations.{of_resource, Activation, Config, activity_of}
 use Rattle.pfc_semantics.specs.Calls.{cells_below, cells_above, most_cells}
 use Rattle.pfc_translation.specs.Sites.{module_of}
 use Rattle.pfc_translation.specs.Calls.{number_or_none, resource_of}
 use Rattle.pfc_translation.specs.Images.{image_of, site_in}
-use Rattle.pfc_stacks.specs.Stacks.{Stack, stack_of, operands_of}
+use Rattle.pfc_stacks.specs.Refs.{word_of}
+use Rattle.pfc_stacks.specs.Stacks.{Stack, stack_of, operands_of, last_activation}
 use Rattle.pfc_stacks.specs.Activations.{has_place, size_of, params_of}
 use Rattle.pfc_cells.specs.Homes.{Home, layout_at}
 use Rattle.pfc_cells.specs.Memory.{Entry, CellsAre, ProcessIs}
 use Rattle.pfc_machines.specs.declared.machine.Machine.{Machine}
+use Rattle.pfc_machines.specs.Descriptors.{descriptor_of}
 use Rattle.pfc_call_actions.specs.Calls.{unless_full as machine_unless_full}
 use Rattle.pfc_call_actions.specs.Requeues.{in_place, requeues as machine_requeues}
 use Rattle.pfc_call_actions.specs.Returns.{scans_from}
 use Rattle.pfc_machine_acts.specs.Performing.{silent, with_block}
 use Rattle.pfc_standing_code.specs.Settings.{Trial, of_own, AreOver, site_of, IsBeside, same_block, both_mains, IsAt}
 use Rattle.pfc_standing_code.specs.Words.{AreHeld, AreKnown, IsChecked}
-use Rattle.pfc_standing_code.specs.Performs.{own_block}
+use Rattle.pfc_standing_code.specs.Performs.{own_block, own_room}
 use Rattle.pfc_standing_images.specs.Images.{IsOfImage}
 use Rattle.pfc_standing_images.proofs.Wholes.{block_stands}
 use Rattle.pfc_standing_images.proofs.Guards.{turn_there}
 use Rattle.pfc_views.specs.Views.{block_site}
-use Rattle.pfc_representation.specs.Levels.{Facts, program_in, LivingLevel, block_of, IsBlockAt}
+use Rattle.pfc_representation.specs.Levels.{Facts, program_in, LivingLevel, block_of, room_of, IsBlockAt}
+use Rattle.pfc_representation.specs.Rooms.{guards_room}
 use Rattle.pfc_representation.specs.Holding.{holders_in, HoldsFor}
 use Rattle.pfc_representation.specs.Machines.{goes_on}
 use Rattle.pfc_representation.specs.Acting.{IsActing, HasArrived}
-use Rattle.pfc_representation.specs.Actions.{ComeToSame, IsKept, AreKept}
+use Rattle.pfc_representation.specs.Actions.{ComeToSame, IsKept}
 use Rattle.pfc_kept_own_actions.proofs.Alone.{can_go}
 use Rattle.pfc_kept_own_actions.proofs.Arrived.{has_setting, stack_there, code_there, code_line, acts_now}
 use Rattle.pfc_kept_calls.proofs.Tops.{cells_of_top}
 use Rattle.pfc_kept_calls.proofs.Caller.{outer}
 use Rattle.pfc_kept_calls.proofs.Faults.{faulted}
-use Rattle.pfc_kept_calls.proofs.Sizes.{first_values, params_within, arguments_there}
-use Rattle.pfc_kept_calls.proofs.Ended.{first_stands}
+use Rattle.pfc_kept_calls.proofs.Sizes.{first_values, params_within, arguments_there, short_below}
+use Rattle.pfc_kept_calls.proofs.Ended.{first_stands, operands_fit}
 use Rattle.pfc_kept_calls.proofs.Returned.{has, e, home, home_at, base}
 use Rattle.pfc_kept_calls.proofs.Scanning.{ready_holds}
 use Rattle.pfc_kept_modules.specs.Exported.{IsExported}
-use Rattle.pfc_kept_modules.specs.Requeued.{IsLasting, MayRequeue, Requeues}
+use Rattle.pfc_kept_modules.specs.Requeued.{IsLasting, MayRequeue, HasFewOperands, Requeues}
 use Rattle.pfc_kept_modules.proofs.Subs.{IsSubOf}
 use Rattle.pfc_kept_modules.proofs.Lent.{IsLentOn}
 use Rattle.pfc_kept_modules.proofs.Lending.{all_lent}
@@ -66,7 +69,7 @@ module _ (facts : Facts) (m : Machine) (c : Config) (p choice : ℕ) (level : Li
     (held : AreHeld level.setting.view (site_of level.setting b x) formals given (operands_of m.stacks p) below)
     (there : IsAt level.setting (stack_of m.stacks p).at (REQ (resource_of (site_of level.setting b x)) (block_number level.setting.program scope)) x.line)
     (lasts : All (IsLasting (block_site level.setting.program level.setting.block)) given)
-    (arrived : HasArrived facts m c p level (calls x (to_requeue scope) given)) where
+    (room : HasFewOperands m p) (arrived : HasArrived facts m c p level (calls x (to_requeue scope) given)) where
   abbrev g : Program
   g = program_in facts
 
@@ -194,6 +197,20 @@ module _ (facts : Facts) (m : Machine) (c : Config) (p choice : ℕ) (level : Li
   enough = arguments_there facts m c p level acting alone.0 b callee k code formals x given below checked.beside known can.takes can.there can.is held_there
       counted
 
+  -- the operands of the callers are among those that are held, for which there is room
+  few : length level.setting.under < 2 ^ 32
+  few =
+      let short : length below ≤ length s.operands =
+      short_below facts m c p level acting alone.0 b callee k code formals x given below checked.beside known can.takes can.there can.is held_there counted in
+      let parts : length below ≡ length over.0 + length level.setting.under = ap (λ (l : List ℤ). length l) over.1 ∙ length-append over.0 level.setting.under in
+      let fits : length s.operands ≤ level.setting.room = arrived.room in
+      let own : room_of level ≡ level.setting.room = ap (λ (t : Trial). own_room t level.setting.room) alone.0 in
+      let all : room_of level + guards_room facts ≤ s.room =
+      operands_fit facts acting.homes acting.entries c.store c.table p s.room level (word_of (last_activation m.stacks p))
+      (descriptor_of m.descriptors p).communications (activity_of g c p).activations (acting.entries p) acting.actor.stands.callers in
+      let small : s.room < 2 ^ 32 = room in
+      omega (arith, short, parts, fits, own, all, small)
+
   outer_image : IsOfImage facts.tree (outer facts m c p level acting)
   outer_image =
       let has = (has_setting facts m c p level acting).image in
@@ -252,7 +269,7 @@ module _ (facts : Facts) (m : Machine) (c : Config) (p choice : ℕ) (level : Li
     turn = turn.1;
     lends = lends;
     below_cells = below_cells;
-    few = may.few;
+    few = few;
   }
 
   -- ## Both sides
@@ -312,9 +329,10 @@ module _ (facts : Facts) (m : Machine) (c : Config) (p choice : ℕ) (level : Li
     same = come_to_same;
   }
 
-pub requeued_kept : AreKept Requeues
-requeued_kept facts m c p choice level (calls x (to_requeue scope) given) may acting arrived chosen =
+pub requeued_kept : (facts : Facts) (m : Machine) (c : Config) (p choice : ℕ) (level : LivingLevel) (n : Action) → Requeues level n → HasFewOperands m p
+    → IsActing facts m c p level → HasArrived facts m c p level n → IsKept facts m c p choice n
+requeued_kept facts m c p choice level (calls x (to_requeue scope) given) may room acting arrived =
     let (b, checked, (formals, below, held, (alone, (over, sub, takes, there)))) = arrived.arrived in
     requeue_kept facts m c p choice level acting x b scope formals given below checked alone may.0 over
-    (record { number = sub.number; among = sub.among; own_scope = sub.own_scope; own_formals = sub.own_formals }) held there may.1 arrived
-requeued_kept facts m c p choice level n may acting arrived chosen = absurd may
+    (record { number = sub.number; among = sub.among; own_scope = sub.own_scope; own_formals = sub.own_formals }) held there may.1 room arrived
+requeued_kept facts m c p choice level n may room acting arrived = absurd may

@@ -7,14 +7,15 @@ use Rattle.pfc_types.specs.Blocks.{sub_at}
 use Rattle.pfc_semantics.specs.Programs.{Block, Guard, block_at, block_number, program_of, layout_cells}
 use Rattle.pfc_semantics.specs.Remainders.{Argument, by_value, by_reference, Action, Call, calls, to_requeue}
 use Rattle.pfc_translation.specs.Sites.{Site, module_of, is_mains, blocks_of, links_to, refers}
+use Rattle.pfc_stacks.specs.Stacks.{stack_of}
+use Rattle.pfc_machines.specs.declared.machine.Machine.{Machine}
 use Rattle.pfc_views.specs.Views.{block_site}
 use Rattle.pfc_representation.specs.Levels.{LivingLevel, IsProgram}
 use Rattle.pfc_kept_modules.specs.Exported.{IsExported}
 
 -- A process at this level is in the body of a guarded procedure, which is none of main's bodies, and the procedure with this scope is another of the same
 -- resource, with a guard. The cells of each block are those of its variables. All this is told of every lawful program in which no rule is broken: the rules
--- let `requeue` stand only in the body of a guarded procedure, in which no accept stands, and name only one of the same resource. The operands of the callers
--- are fewer than 2 ^ 32: there are no more than an image of 200,000 instructions holds in as many activations as fit on a stack.
+-- let `requeue` stand only in the body of a guarded procedure, in which no accept stands, and name only one of the same resource.
 pub record MayRequeue (level : LivingLevel) (scope : ℕ) : Type 0 where
   pub last : level.setting.last ≡ RET
   pub own : Guard
@@ -29,7 +30,10 @@ pub record MayRequeue (level : LivingLevel) (scope : ℕ) : Type 0 where
   pub counted : (t : ProgramTree) (k : ℕ) (b : Block) → level.setting.program ≡ program_of t → IsProgram t
       → slice_get ((program_of t).main ∷ (program_of t).blocks) k ≡ Some b → b.cells ≡ layout_cells (program_of t).state.forms b.layout
   pub unmet : level.setting.meetings ≡ []
-  pub few : length level.setting.under < 2 ^ 32
+
+-- How many operands a process may hold has 32 bits. So it is on every machine: its calls end for want of memory where they would need room for more.
+abbrev pub HasFewOperands : Machine → ℕ → Type 0
+HasFewOperands m p = (stack_of m.stacks p).room < 2 ^ 32
 
 -- An argument that is passed by reference is a variable of main or of a module, or a reference parameter of the block itself. So it is in a requeue of every
 -- lawful program in which no rule is broken: no other variable of the activation that it ends may be passed so, and around a procedure of a resource are

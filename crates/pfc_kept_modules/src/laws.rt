@@ -9,7 +9,7 @@ ghost use Rattle.pfc_representation.specs.Acting.{IsActing, HasArrived};
 ghost use Rattle.pfc_representation.specs.Actions.{IsKept, AreKept};
 ghost use Rattle.pfc_kept_modules.specs.Groups.{EntersModule};
 ghost use Rattle.pfc_kept_modules.specs.Endings.{EndsInMonitor, AreOutside, IsInOnce};
-ghost use Rattle.pfc_kept_modules.specs.Requeued.{Requeues};
+ghost use Rattle.pfc_kept_modules.specs.Requeued.{HasFewOperands, Requeues};
 
 /// A call of a procedure of a monitor or of a resource from outside begins the same activation on both sides, and the process has the module or waits for it
 /// on both, also where it holds it itself; or both find the stack full.
@@ -35,5 +35,6 @@ pub fn procedures_are_left()
 
 /// A requeue begins the same activation on both sides in place of the last, with the same caller, and the same scan comes first; or both find the stack full.
 pub fn requeues_are_kept()
-    ensures { AreKept Requeues }
+    ensures { (facts : Facts) (m : Machine) (c : Config) (p choice : ℕ) (level : LivingLevel) (n : Action) → Requeues level n → HasFewOperands m p
+        → IsActing facts m c p level → HasArrived facts m c p level n → IsKept facts m c p choice n }
 {}

@@ -28,7 +28,7 @@ use Rattle.pfc_representation.specs.Machines.{Represents, Reports, Agrees, goes_
 use Rattle.pfc_representation.specs.Actions.{ComeToSame, AreKept}
 use Rattle.pfc_settling_laws.proofs.Reported.{agreeing_reports, still_represented}
 use Rattle.pfc_settling_laws.proofs.Settled.{agrees_settled}
-use Rattle.pfc_arrivals.specs.Arrivals.{IsAboutToAct, ActsAsItsSource}
+use Rattle.pfc_arrivals.specs.Arrivals.{IsAboutToAct, ActsAsItsSource, AreNumbered, IsNumbered}
 use Rattle.pfc_arrivals.proofs.Picked.{acts_alike}
 use Rattle.pfc_sessions.specs.Courses.{IsCourse}
 use Rattle.pfc_sessions.specs.Runs.{IsPicked, step_of, run_from}
@@ -122,7 +122,7 @@ few_of n h = grind (arith, h)
 -- ## An action
 
 module _
-    (facts : Facts) (first : Config) (kept : AreKept (λ level n. Unit {0})) (numbers : TakeNumbers (program_in facts) first) (picking : Picking) (m : Machine)
+    (facts : Facts) (first : Config) (kept : AreKept (λ level n. IsNumbered level)) (numbered : AreNumbered facts) (numbers : TakeNumbers (program_in facts) first) (picking : Picking) (m : Machine)
     (c : Config) (p : ℕ) (so : Relates facts first m c) (pick : IsPicked picking (machine_settled m) p)
   where
     abbrev image : PlainImage
@@ -174,7 +174,7 @@ module _
         }
 
     acts : ActsAsItsSource facts s d p behind
-    acts = acts_alike facts s d p behind kept represents about
+    acts = acts_alike facts s d p behind kept numbered represents about
 
     -- as the machine acts
     module _ (does : ActsAsItsSource facts s d p behind) where
@@ -243,35 +243,35 @@ module _
 -- ## Any number of actions
 
 pub goes_on_agreeing :
-    (facts : Facts) (left : ℕ) (picking : Picking) (m : Machine) (c : Config) → AreKept (λ level n. Unit {0}) → TakeNumbers (program_in facts) c
+    (facts : Facts) (left : ℕ) (picking : Picking) (m : Machine) (c : Config) → AreKept (λ level n. IsNumbered level) → AreNumbered facts → TakeNumbers (program_in facts) c
     → Represents facts m c → Agree (image_of facts.tree) (program_in facts) left picking m c
-goes_on_agreeing facts left picking m c kept numbers is =
+goes_on_agreeing facts left picking m c kept numbered numbers is =
     kept_agrees (image_of facts.tree) (program_in facts) (Relates facts c) (agrees_here facts c)
-    (λ pick n d p so picks. acts_alike_so facts c kept numbers pick n d p so picks) left picking m c
+    (λ pick n d p so picks. acts_alike_so facts c kept numbered numbers pick n d p so picks) left picking m c
     (record { agrees = goes_on is; reached = at_first; sound = is.alike.fault; alone = is.alike.between.acting })
 
 -- ## Whole runs
 
 module _
-    (facts : Facts) (input : List ℕ) (seed limit : ℕ) (picking : Picking) (m : Machine) (kept : AreKept (λ level n. Unit {0}))
+    (facts : Facts) (input : List ℕ) (seed limit : ℕ) (picking : Picking) (m : Machine) (kept : AreKept (λ level n. IsNumbered level)) (numbered : AreNumbered facts)
     (numbers : TakeNumbers (program_in facts) (start (program_in facts) input seed)) (is : Represents facts m (start (program_in facts) input seed))
   where
     abbrev first : Config
     first = start (program_in facts) input seed
 
     all_along : Agree (image_of facts.tree) (program_in facts) limit picking m first
-    all_along = goes_on_agreeing facts limit picking m first kept numbers is
+    all_along = goes_on_agreeing facts limit picking m first kept numbered numbers is
 
     pub runs_alike : AreRunsAlike (run_from (image_of facts.tree) limit limit picking m) (runs.run facts.tree input seed picking limit) first
     runs_alike = same_runs (image_of facts.tree) (program_in facts) limit limit picking m first all_along
 
 pub session_alike :
     (facts : Facts) (input : List ℕ) (seed limit : ℕ) (picking : Picking) (m new : Machine) (ending : Ending) (before after : Option (List ℕ))
-    → AreKept (λ level n. Unit {0}) → TakeNumbers (program_in facts) (start (program_in facts) input seed)
+    → AreKept (λ level n. IsNumbered level) → AreNumbered facts → TakeNumbers (program_in facts) (start (program_in facts) input seed)
     → Represents facts m (start (program_in facts) input seed)
     → IsCourse (image_of facts.tree) limit (run_from (image_of facts.tree) limit limit picking m) (first_stage picking m) new ending before after
     → IsSourceCourse (runs.run facts.tree input seed picking limit) (start (program_in facts) input seed) new ending before after
-session_alike facts input seed limit picking m new ending before after kept numbers is course =
+session_alike facts input seed limit picking m new ending before after kept numbered numbers is course =
     same_course (image_of facts.tree) limit (run_from (image_of facts.tree) limit limit picking m) (first_stage picking m)
     (runs.run facts.tree input seed picking limit) (start (program_in facts) input seed) new before after
-    (runs_alike facts input seed limit picking m kept numbers is) ending course
+    (runs_alike facts input seed limit picking m kept numbered numbers is) ending course

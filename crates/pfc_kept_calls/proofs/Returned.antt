@@ -1,25 +1,22 @@
 -- An activation that was called from inside its module ends: its caller goes on.
-use Rattle.std.proofs.Common.{◌≡◌, ◌≢◌, ℕ, zero, suc, ◌+◌, ◌-◌, ◌^◌, ◌<◌, ◌≤◌, ℤ, pos, Bool, true, false, List, [], ◌∷◌, length, set, get_or, All, Option}
+use Rattle.std.proofs.Common.{◌≡◌, ◌≢◌, ℕ, suc, ◌+◌, ◌-◌, ◌^◌, ◌<◌, ◌≤◌, ℤ, pos, List, [], ◌∷◌, length, set, get_or, All, Option}
 use Rattle.std.proofs.Common.{Some, None, refl, sym, ap, ◌∙◌, subst, arith, ◌⊎◌, inl, inr}
 use Rattle.std.proofs.lemmas.List.{get_or-set_same, get_or-set_other, length-set}
 use Rattle.pfc_base.specs.declared.faults.RunFault.TheVariants.{Stack as Full}
-use Rattle.pfc_types.specs.declared.types.TypeId.{TypeId}
 use Rattle.pfc_code.specs.declared.instructions.Instr.TheVariants.{END}
-use Rattle.pfc_state.specs.Stands.{Stand, is_unfinished}
-use Rattle.pfc_world.specs.Tables.{Table, at}
+use Rattle.pfc_state.specs.Stands.{is_unfinished}
+use Rattle.pfc_world.specs.Tables.{at}
 use Rattle.pfc_world.specs.Transitions.{ticked}
-use Rattle.pfc_semantics.specs.Values.{Location}
 use Rattle.pfc_semantics.specs.Store.{Store, without}
 use Rattle.pfc_semantics.specs.Programs.{Program}
 use Rattle.pfc_semantics.specs.Rewriting.{Doing}
 use Rattle.pfc_semantics.specs.Configurations.{Activation, Activity, Config, nobody, activity_of, with_activity, at_work, done_at}
 use Rattle.pfc_semantics.specs.Calls.{left_by}
-use Rattle.pfc_stacks.specs.declared.refs.Ref.{Ref}
 use Rattle.pfc_stacks.specs.Refs.{word_of, number_of}
-use Rattle.pfc_stacks.specs.Stacks.{Stack, Stacks, no_stack, stack_of, cells_of, own_word, last_activation}
+use Rattle.pfc_stacks.specs.Stacks.{Stack, Stacks, no_stack, stack_of, own_word, last_activation}
 use Rattle.pfc_stacks.specs.Activations.{returned}
-use Rattle.pfc_cells.specs.Homes.{Home, Homes, Lies}
-use Rattle.pfc_cells.specs.Memory.{Entry, Entries, IsAmong}
+use Rattle.pfc_cells.specs.Homes.{Home}
+use Rattle.pfc_cells.specs.Memory.{Entry, Entries}
 use Rattle.pfc_cells.specs.Activations.{with_entries}
 use Rattle.pfc_machines.specs.declared.machine.Machine.{Machine}
 use Rattle.pfc_machines.specs.declared.descriptors.Descriptor.{Descriptor}
@@ -30,19 +27,17 @@ use Rattle.pfc_machines.specs.Descriptors.{descriptor_by, descriptor_of, left as
 use Rattle.pfc_machine_acts.specs.Acting.{acted}
 use Rattle.pfc_standing_code.specs.Settings.{Trial, of_own, of_turn, of_another}
 use Rattle.pfc_standing_code.specs.Performs.{own_room}
-use Rattle.pfc_translation.specs.Images.{image_of}
-use Rattle.pfc_views.specs.Views.{own_place}
 use Rattle.pfc_stack_laws.specs.Standing.{HoldStore}
 use Rattle.pfc_call_laws.proofs.Returning.{held_left}
-use Rattle.pfc_representation.specs.Levels.{Facts, program_in, LivingLevel, in_turn, DoesOn, MayKeep, IsSeenBy}
+use Rattle.pfc_representation.specs.Levels.{Facts, program_in, LivingLevel, in_turn, DoesOn, IsSeenBy}
 use Rattle.pfc_representation.specs.Rooms.{process_count, guards_room, own_address, MayMeet}
 use Rattle.pfc_representation.specs.Callers.{StandsFor, Linkage, linkage_words, IsWithin, AreCallers}
 use Rattle.pfc_representation.specs.Hands.{shows_nothing}
 use Rattle.pfc_representation.specs.Holding.{Holders, holders_in, HoldsFor, HoldsScanned}
 use Rattle.pfc_representation.specs.Trials.{TrialIs, HasTried}
 use Rattle.pfc_representation.specs.Processes.{IsAtLevel, IsUnderWay, RepresentsProcess}
-use Rattle.pfc_representation.specs.Machines.{SharesWords, HoldsStore, IsBetweenActions, AreAlike, Represents}
-use Rattle.pfc_representation.specs.Keeping.{IsLender, IsSameStack, IsUntouched, IsLeftAlone}
+use Rattle.pfc_representation.specs.Machines.{SharesWords, HoldsStore, AreAlike, Represents}
+use Rattle.pfc_representation.specs.Keeping.{IsLender, IsSameStack, IsUntouched}
 use Rattle.pfc_representation.specs.Acting.{IsActing}
 use Rattle.pfc_representation.proofs.Kept.{seen_still, callers_still, process_still}
 use Rattle.pfc_representation.proofs.Quiet.{tried_waits}
@@ -50,7 +45,7 @@ use Rattle.pfc_kept_calls.proofs.Tops.{same_cell}
 use Rattle.pfc_kept_calls.proofs.Turned.{IsOwnTurn, seen_turned, callers_turned}
 use Rattle.pfc_kept_calls.proofs.Beginnings.{end_within}
 use Rattle.pfc_kept_calls.proofs.Faults.{world_then}
-use Rattle.pfc_kept_calls.proofs.Called.{lender_apart, ticks, kinds_still, entries_here, entries_there, outer, hold}
+use Rattle.pfc_kept_calls.proofs.Caller.{lender_apart, ticks, kinds_still, entries_here, entries_there, outer, hold}
 use Rattle.pfc_kept_calls.proofs.Ended.{HasCaller, caller_of, first_stands, operands_fit, as_before, not_below, only_here, no_objects, like_ended, own_is}
 use Rattle.pfc_kept_calls.proofs.Ended.{caller_small, number_back}
 

@@ -1,14 +1,10 @@
 -- A level of which the own parts are those of another: in another turn or trial of a scan, or behind it.
-use Rattle.std.proofs.Common.{◌≡◌, ℕ, ◌+◌, ◌≤◌, ◌++◌, ℤ, List, [], ◌∷◌, length, map, slice_get, refl, sym, ap, ◌∙◌, subst}
-use Rattle.pfc_types.specs.declared.types.TypeId.{TypeId}
-use Rattle.pfc_types.specs.declared.scope.Meaning.TheVariants.{Variable}
+use Rattle.std.proofs.Common.{◌≡◌, ℕ, ◌+◌, ◌≤◌, ◌++◌, ℤ, List, [], ◌∷◌, length, map, slice_get, sym, ap, ◌∙◌, subst}
 use Rattle.pfc_world.specs.Tables.{Table}
-use Rattle.pfc_semantics.specs.Values.{Location}
 use Rattle.pfc_semantics.specs.Displays.{Display}
 use Rattle.pfc_semantics.specs.Programs.{Block, Program}
 use Rattle.pfc_semantics.specs.Store.{Store}
 use Rattle.pfc_semantics.specs.Configurations.{of_resource, Activation}
-use Rattle.pfc_code.specs.declared.images.Block.{Block as CodeBlock}
 use Rattle.pfc_translation.specs.Calls.{resource_of}
 use Rattle.pfc_translation.specs.Images.{image_of, instructions, site_in}
 use Rattle.pfc_cells.specs.Homes.{Homes}

@@ -1,10 +1,9 @@
 -- A process at a turn of its scan: what the machine has of the scan is what the source text has.
-use Rattle.std.proofs.Common.{◌≡◌, ℕ, Bool, List, [], ◌∷◌, Option, Some, None, refl, sym, ap, ◌∙◌, subst, ◌⊎◌, inl, inr}
-use Rattle.std.specs.List.{slice_get}
+use Rattle.std.proofs.Common.{◌≡◌, ℕ, List, Option, Some, None, sym, ap, ◌∙◌, subst, ◌⊎◌, inl, inr}
 use Rattle.pfc_world.specs.Holders.{holder_in}
-use Rattle.pfc_semantics.specs.Remainders.{Bar, Way, Scan, leave, own}
+use Rattle.pfc_semantics.specs.Remainders.{Way, Scan, leave, own}
 use Rattle.pfc_semantics.specs.Configurations.{Activation, Config, activity_of}
-use Rattle.pfc_stacks.specs.Stacks.{Stack, stack_of}
+use Rattle.pfc_stacks.specs.Stacks.{stack_of}
 use Rattle.pfc_machines.specs.declared.machine.Machine.{Machine}
 use Rattle.pfc_machines.specs.declared.descriptors.Descriptor.{Descriptor}
 use Rattle.pfc_machines.specs.declared.descriptors.Scan.{Scan as MachineScan}

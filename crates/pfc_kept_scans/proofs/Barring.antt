@@ -1,32 +1,31 @@
 -- A false guard of the own procedure: the process is barred.
-use Rattle.std.proofs.Common.{◌≡◌, ◌≢◌, ℕ, suc, ◌+◌, ◌<◌, ◌≤◌, ℤ, Bool, true, false, List, [], ◌∷◌, length, set, drop, slice_get, get_or, Option, Some, None, Ok}
+use Rattle.std.proofs.Common.{◌≡◌, ℕ, ◌+◌, ◌≤◌, ℤ, Bool, List, [], length, set, drop, slice_get, get_or, Option, Some, None, Ok}
 use Rattle.std.proofs.Common.{refl, sym, ap, ◌∙◌, subst, arith, inl, inr, ◌⊎◌}
 use Rattle.std.proofs.lemmas.List.{get_or-set_same}
 use Rattle.pfc_code.specs.declared.instructions.Instr.TheVariants.{GRD}
 use Rattle.pfc_types.specs.rules.Expressions.{Env}
-use Rattle.pfc_state.specs.Stands.{Stand, Waits, is_unfinished}
+use Rattle.pfc_state.specs.Stands.{Stand, is_unfinished}
 use Rattle.pfc_state.specs.declared.waits.Why.TheVariants.{Barred}
 use Rattle.pfc_values.specs.Numbers.{is_true}
-use Rattle.pfc_world.specs.Holders.{Held, held_in, holder_in, given_to}
+use Rattle.pfc_world.specs.Holders.{Held, held_in, holder_in}
 use Rattle.pfc_world.specs.Partners.{next_entrant}
 use Rattle.pfc_world.specs.Resources.{given_up, barred}
 use Rattle.pfc_world.specs.Tables.{Table, at}
 use Rattle.pfc_world.specs.Transitions.{blocked, rested, ticked}
-use Rattle.pfc_semantics.specs.Programs.{Guard, Block, Program, block_number}
-use Rattle.pfc_semantics.specs.Remainders.{Context, Bar, Remainder, Action, bars}
+use Rattle.pfc_semantics.specs.Programs.{Block, Program, block_number}
+use Rattle.pfc_semantics.specs.Remainders.{Context, Bar, Remainder, bars}
 use Rattle.pfc_semantics.specs.Rewriting.{Doing, going}
-use Rattle.pfc_semantics.specs.Resources.{bar_of, barred_by}
-use Rattle.pfc_semantics.specs.Configurations.{Hand, barred_at, Activation, Activity, Config, nobody, activity_of, at_work, resources_held}
+use Rattle.pfc_semantics.specs.Resources.{barred_by}
+use Rattle.pfc_semantics.specs.Configurations.{Hand, barred_at, Activity, Config, activity_of}
 use Rattle.pfc_translation.specs.Calls.{resource_of}
 use Rattle.pfc_translation.specs.Images.{image_of, site_in}
-use Rattle.pfc_image_laws.specs.Operands.{is_end}
 use Rattle.pfc_stacks.specs.Stacks.{Stack, no_stack, stack_of, operand, operands_of, own_number, block_place}
 use Rattle.pfc_machines.specs.declared.machine.Machine.{Machine}
 use Rattle.pfc_machines.specs.declared.descriptors.Descriptor.{Descriptor}
 use Rattle.pfc_machines.specs.declared.descriptors.Scan.{Scan as MachineScan}
 use Rattle.pfc_machines.specs.Actions.{at_rest}
 use Rattle.pfc_machines.specs.Descriptors.{descriptor_by, descriptor_of}
-use Rattle.pfc_machines.specs.Quiet.{QuietEffect, acts, left_by, tried_in, tried_by, guarding, quiet_effect}
+use Rattle.pfc_machines.specs.Quiet.{QuietEffect, acts, left_by, tried_in, guarding, quiet_effect}
 use Rattle.pfc_call_actions.specs.Calls.{with_resources}
 use Rattle.pfc_resource_actions.specs.Guards as machine
 use Rattle.pfc_machine_acts.specs.Acting.{comes_to}
@@ -40,10 +39,8 @@ use Rattle.pfc_standing_code.specs.Following.{ArrivedBy}
 use Rattle.pfc_following_source.specs.Behind.{GoesOnAt}
 use Rattle.pfc_following_source.proofs.Behind.{leads_on}
 use Rattle.pfc_representation.specs.Levels.{Facts, program_in, LivingLevel, block_of, DoesOn}
-use Rattle.pfc_representation.specs.Rooms.{own_address}
-use Rattle.pfc_representation.specs.Callers.{IsWithin}
 use Rattle.pfc_representation.specs.Hands.{IsBarred}
-use Rattle.pfc_representation.specs.Holding.{holders_in, Holds}
+use Rattle.pfc_representation.specs.Holding.{Holds}
 use Rattle.pfc_representation.specs.Trials.{TrialIs, HasTried}
 use Rattle.pfc_representation.specs.Machines.{machine_table}
 use Rattle.pfc_representation.specs.Acting.{IsActing, HasArrived}
@@ -235,8 +232,13 @@ module _ (facts : Facts) (m : Machine) (c : Config) (p choice : ℕ) (level : Li
         subst (λ (xs : List Activity). ComeToSame facts m c p x.line (silent (Ok (at_rest (end bar.procedure))))
         (Ok (record c { activities = xs; table = table; resources = given.holders }))) (sym (shown_so facts m c p level acting doing hand))
         (subst (λ (ds : List Descriptor). ComeToSame facts m c p x.line
-        (silent (Ok (record m { stacks = set m.stacks p stack; descriptors = ds; world = rested (blocked (given_up (held_in m.world m.resources) r).table p
-        (Barred r bar.procedure) []); resources = (given_up (held_in m.world m.resources) r).holders })))
+        (silent (Ok (record m {
+          stacks = set m.stacks p stack;
+          descriptors = ds;
+          world = rested (blocked (given_up (held_in m.world m.resources) r).table p
+              (Barred r bar.procedure) []);
+          resources = (given_up (held_in m.world m.resources) r).holders;
+        })))
         (Ok (record c { activities = set c.activities p (record a { doing = doing; hand = hand }); table = table; resources = given.holders })))
         descriptors_same
         (comes_then facts m c p level acting x.line

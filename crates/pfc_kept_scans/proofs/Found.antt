@@ -1,10 +1,10 @@
 -- A turn has found a barred process: its guard stands before the turn, in the code of its procedure, and what it sees is seen.
-use Rattle.std.proofs.Common.{◌≡◌, ◌≢◌, ℕ, suc, ◌+◌, ◌^◌, ◌<◌, ◌≤◌, ℤ, true, false, List, [], ◌∷◌, length, slice_get, Option, Some, None, refl, sym, ap, ◌∙◌}
+use Rattle.std.proofs.Common.{◌≡◌, ◌≢◌, ℕ, ◌+◌, ◌^◌, ◌<◌, ◌≤◌, ℤ, true, false, List, [], ◌∷◌, length, slice_get, Option, Some, sym, ap, ◌∙◌}
 use Rattle.std.proofs.Common.{subst, arith}
 use Rattle.pfc_code.specs.declared.images.Block.{Block as CodeBlock}
 use Rattle.pfc_types.specs.declared.types.TypeId.{TypeId}
 use Rattle.pfc_types.specs.rules.Expressions.{Env}
-use Rattle.pfc_state.specs.Stands.{Stand, Is_idle, Is_ready, Waits, is_unfinished}
+use Rattle.pfc_state.specs.Stands.{Is_idle, Is_ready, Waits, is_unfinished}
 use Rattle.pfc_state.specs.declared.waits.Arm.{Arm as WaitArm}
 use Rattle.pfc_state.specs.declared.waits.Why.TheVariants.{Barred}
 use Rattle.pfc_world.specs.Tables.{Table, at}
@@ -48,7 +48,6 @@ use Rattle.pfc_kept_scans.specs.Groups.{IsOfItsBlock}
 use Rattle.pfc_kept_scans.proofs.LetOn.{ShowsGuard, shows_guard}
 use Rattle.pfc_kept_scans.proofs.Tops.{HasTop, top_of}
 use Rattle.pfc_kept_scans.proofs.Procedures.{one_number, guarded_there, guard_fits, body_apart}
-use Rattle.pfc_kept_scans.proofs.Turns.{turn_at}
 
 module _ (facts : Facts) (m : Machine) (c : Config) (p : ℕ) (level : LivingLevel) (acting : IsActing facts m c p level) (q r k t : ℕ) (arms : List WaitArm)
     (row : at c.table.rows q ≡ Waits (Barred r k) t arms) where

@@ -1,5 +1,5 @@
 -- A resource that the process holds passes to one that waits for it, or to nobody.
-use Rattle.std.proofs.Common.{◌≡◌, ◌≢◌, ℕ, zero, suc, ◌+◌, ◌<◌, ◌≤◌, ◌==◌, if◌then◌else◌, Bool, true, false, List, [], ◌∷◌, length, set, get_or, All}
+use Rattle.std.proofs.Common.{◌≡◌, ◌≢◌, ℕ, zero, suc, ◌<◌, ◌==◌, if◌then◌else◌, Bool, true, false, List, [], ◌∷◌, length, set, get_or, All}
 use Rattle.std.proofs.Common.{Option, Some, None, refl, sym, ap, ◌∙◌, subst, arith, ◌⊎◌, inl, inr}
 use Rattle.std.specs.Prelude.{is_some}
 use Rattle.std.proofs.lemmas.List.{get_or-set_same, get_or-set_other, length-set}
@@ -11,10 +11,10 @@ use Rattle.pfc_world.specs.Partners.{next_entrant}
 use Rattle.pfc_world.specs.Resources.{given_up}
 use Rattle.pfc_world.specs.Tables.{Table, at}
 use Rattle.pfc_world.specs.Transitions.{placed, rested}
-use Rattle.pfc_semantics.specs.Configurations.{Mark, plain, of_monitor, of_resource, Activation, Config, activity_of, resources_held}
+use Rattle.pfc_semantics.specs.Configurations.{Mark, plain, of_monitor, of_resource, Activation, Config, resources_held}
 use Rattle.pfc_machines.specs.declared.machine.Machine.{Machine}
-use Rattle.pfc_standing_code.specs.Settings.{Trial, of_own, of_turn, of_another}
-use Rattle.pfc_representation.specs.Levels.{Facts, program_in, LivingLevel}
+use Rattle.pfc_standing_code.specs.Settings.{Trial, of_own}
+use Rattle.pfc_representation.specs.Levels.{Facts, LivingLevel}
 use Rattle.pfc_representation.specs.Holding.{Holders, holders_in, waits_for_monitor, waits_for_resource, waits_for_resource_at, HoldsFor, Holds, is_quiet, waits_at_coend}
 use Rattle.pfc_representation.specs.Machines.{machine_table}
 use Rattle.pfc_representation.specs.Keeping.{HoldsStill}
@@ -23,9 +23,9 @@ use Rattle.pfc_kept_object_actions.specs.Freed.{HasItsTurn, may_be_freed}
 use Rattle.pfc_kept_object_actions.proofs.Change.{row_here, row_there, within_rows}
 use Rattle.pfc_kept_object_actions.proofs.Finding.{first_has}
 use Rattle.pfc_kept_object_actions.proofs.Popped.{world, rests as world_rests}
-use Rattle.pfc_kept_object_actions.proofs.Tests.{either, same_numbers, numbers_same, untrue}
-use Rattle.pfc_kept_scans.proofs.Behind.{IsNewStand, StandsThen, holders_with}
-use Rattle.pfc_kept_scans.proofs.Others.{IsPassedOn, ItStands, it_stays, it_is_freed, it_is_let_on}
+use Rattle.pfc_kept_object_actions.proofs.Tests.{either, numbers_same, untrue}
+use Rattle.pfc_kept_scans.proofs.Behind.{StandsThen, holders_with}
+use Rattle.pfc_kept_scans.proofs.Others.{ItStands, it_stays, it_is_freed, it_is_let_on}
 
 -- ## Who waits for a resource
 
@@ -152,9 +152,11 @@ module _ (facts : Facts) (m : Machine) (c : Config) (p : ℕ) (level : LivingLev
       by_place : (q ≡ f) ⊎ (q ≢ f) → StandsSo (Some f) q
       by_place (inr apart) = inl (row_there c.table.rows f q Is_ready apart)
       by_place (inl same) =
-          inr (ap (λ n. Some n) (sym same),
-          ap (λ n. at (set c.table.rows f Is_ready) n) same
-          ∙ row_here c.table.rows f Is_ready (within_rows c.table.rows f (not_idle r (at c.table.rows f) (some f refl))))
+          inr (
+            ap (λ n. Some n) (sym same),
+            ap (λ n. at (set c.table.rows f Is_ready) n) same
+                ∙ row_here c.table.rows f Is_ready (within_rows c.table.rows f (not_idle r (at c.table.rows f) (some f refl))),
+          )
 
   has_its_turn : (q : ℕ) → o ≡ Some q → HasItsTurn h' q (at c.table.rows q)
   has_its_turn q next =

@@ -1,5 +1,5 @@
 -- The process gives the resource away and goes on behind its scan.
-use Rattle.std.proofs.Common.{◌≡◌, ◌≢◌, ℕ, ◌+◌, ◌≤◌, ℤ, true, List, [], length, set, All, Option, Some, None, Ok, refl, sym, ap, ◌∙◌, subst, arith}
+use Rattle.std.proofs.Common.{◌≡◌, ◌≢◌, ℕ, ◌+◌, ◌≤◌, ℤ, List, [], length, set, All, Option, Some, None, Ok, refl, sym, ap, subst, arith}
 use Rattle.std.proofs.lemmas.List.{get_or-set_same}
 use Rattle.pfc_state.specs.Stands.{Stand, Is_ready, is_unfinished}
 use Rattle.pfc_world.specs.Holders.{Held, holder_in}
@@ -106,8 +106,13 @@ module _ (facts : Facts) (m : Machine) (c : Config) (p : ℕ) (level : LivingLev
 
     pub leaves_same : (world : Table) (holders : List (Option ℕ)) → world ≡ machine_table facts given.table → holders ≡ given.holders
         → ComeToSame facts m c p line
-        (silent (Ok (record m { stacks = set m.stacks p ended; descriptors = set m.descriptors p (record d { scan = None }); world = world; resources =
-        holders })))
+        (silent (Ok (record m {
+          stacks = set m.stacks p ended;
+          descriptors = set m.descriptors p (record d { scan = None });
+          world = world;
+          resources =
+              holders;
+        })))
         (Ok (record c { activities = set c.activities p (record a { doing = doing; hand = empty_hand }); table = given.table; resources = given.holders }))
     leaves_same world holders same held_same =
         comes_then facts m c p level acting line (activities facts m c p level acting (own_level level) ended given.table given.holders None doing empty_hand line)

@@ -16,7 +16,6 @@ use Rattle.pfc_cells.specs.Homes.{Homes}
 use Rattle.pfc_cells.specs.Memory.{Entries}
 use Rattle.pfc_machines.specs.declared.descriptors.Descriptor.{Descriptor}
 use Rattle.pfc_machines.specs.Quiet.{tried_in}
-use Rattle.pfc_standing_code.specs.Settings.{Trial}
 use Rattle.pfc_representation.specs.Levels.{Facts, LivingLevel}
 use Rattle.pfc_representation.specs.Hands.{shows_nothing, IsOffered, is_woken, waits_plainly, waits_selecting, IsBarred, HandIs}
 use Rattle.pfc_representation.specs.Holding.{Holders, Holds}

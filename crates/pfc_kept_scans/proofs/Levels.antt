@@ -1,6 +1,5 @@
 -- The level of a process behind its scan, and in the trial of another.
-use Rattle.std.proofs.Common.{◌≡◌, ℕ, ◌≤◌, ℤ, List, [], length, refl, sym, subst}
-use Rattle.pfc_semantics.specs.Programs.{Block}
+use Rattle.std.proofs.Common.{◌≡◌, ℕ, ◌≤◌, ℤ, List, [], length, sym, subst}
 use Rattle.pfc_semantics.specs.Rewriting.{Doing}
 use Rattle.pfc_standing_code.specs.Settings.{Setting, same_block}
 use Rattle.pfc_standing_code.specs.Effects.{Arm}

@@ -1,9 +1,8 @@
 -- The clause of the process that acts on a resource: it goes on elsewhere, in another turn or trial, or waits.
 use Rattle.std.proofs.Common.{◌≡◌, ℕ, ◌≤◌, ℤ, true, List, [], ◌∷◌, Option, refl, sym, ap, ◌∙◌, subst}
-use Rattle.pfc_state.specs.Stands.{Stand, Is_ready, is_unfinished}
+use Rattle.pfc_state.specs.Stands.{Stand, is_unfinished}
 use Rattle.pfc_world.specs.Tables.{Table, at}
 use Rattle.pfc_world.specs.Transitions.{ticked}
-use Rattle.pfc_semantics.specs.Programs.{Program}
 use Rattle.pfc_semantics.specs.Store.{Store}
 use Rattle.pfc_semantics.specs.Rewriting.{Doing}
 use Rattle.pfc_semantics.specs.Configurations.{Hand, Activation, Activity, Config, activity_of}
@@ -17,7 +16,6 @@ use Rattle.pfc_machines.specs.declared.descriptors.Descriptor.{Descriptor}
 use Rattle.pfc_machines.specs.declared.descriptors.Scan.{Scan as MachineScan}
 use Rattle.pfc_machines.specs.Communications.{Communicating}
 use Rattle.pfc_machines.specs.Descriptors.{descriptor_of}
-use Rattle.pfc_standing_code.specs.Settings.{Trial}
 use Rattle.pfc_standing_code.specs.Effects.{Arm}
 use Rattle.pfc_standing_code.specs.Performs.{own_again}
 use Rattle.pfc_representation.specs.Levels.{Facts, program_in, LivingLevel, IsSeenBy}

@@ -1,5 +1,5 @@
 -- The other processes, where one acts on a resource: they stand where they stood, or one of them is freed or let on.
-use Rattle.std.proofs.Common.{◌≡◌, ◌≢◌, ℕ, ◌<◌, ℤ, true, false, List, [], ◌∷◌, length, Option, Some, None, refl, sym, ap, ◌∙◌, subst, ◌⊎◌, inl, inr}
+use Rattle.std.proofs.Common.{◌≡◌, ◌≢◌, ℕ, ◌<◌, true, false, List, [], ◌∷◌, length, Option, Some, None, refl, sym, ap, ◌∙◌, subst, ◌⊎◌, inl, inr}
 use Rattle.pfc_state.specs.Stands.{Stand, Is_created, Is_ready, Waits, is_unfinished}
 use Rattle.pfc_state.specs.declared.waits.Why.{Why}
 use Rattle.pfc_state.specs.declared.waits.Why.TheVariants.{Send, Receive, Accept, Select, Call, Barred, Meeting}
@@ -196,7 +196,6 @@ module _ (facts : Facts) (m : Machine) (c : Config) (p : ℕ) (level : LivingLev
         (descriptor_of m.descriptors q)
     others_then q apart within = by_change (are.rows q apart)
       where
-
         old : RepresentsProcess facts acting.homes acting.entries c.store m.stacks c.table h q (activity_of (program_in facts) c q)
             (descriptor_of m.descriptors q)
         old = acting.others q within apart

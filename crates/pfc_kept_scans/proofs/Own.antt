@@ -1,6 +1,6 @@
 -- A process in a guarded procedure: its own cells have the number of the procedure, and it holds the resource.
-use Rattle.std.proofs.Common.{◌≡◌, ℕ, zero, suc, ◌+◌, ◌*◌, ◌%◌, ◌^◌, ◌<◌, ◌≤◌, ℤ, pos, true, false, List, [], ◌∷◌, ◌++◌, length, drop, slice_get, get_or, All, Option, Some}
-use Rattle.std.proofs.Common.{None, refl, sym, ap, ◌∙◌, subst, arith, ◌⊎◌, inl, inr}
+use Rattle.std.proofs.Common.{◌≡◌, ℕ, zero, suc, ◌+◌, ◌*◌, ◌%◌, ◌^◌, ◌<◌, ◌≤◌, ℤ, pos, true, false, List, [], ◌∷◌, ◌++◌, length, drop, slice_get, get_or, All, Some}
+use Rattle.std.proofs.Common.{None, sym, ap, ◌∙◌, subst, arith, inl, inr}
 use Rattle.std.proofs.lemmas.List.{get_or-append-add, get_or_append_left}
 use Rattle.pfc_code.specs.declared.instructions.Instr.{Instr}
 use Rattle.pfc_code.specs.declared.images.Block.{Block as CodeBlock}
@@ -10,8 +10,7 @@ use Rattle.pfc_image_laws.proofs.Layouts.{image_laid}
 use Rattle.pfc_state.specs.Stands.{Stand, Is_ready}
 use Rattle.pfc_world.specs.Holders.{holder_in}
 use Rattle.pfc_world.specs.Tables.{at}
-use Rattle.pfc_semantics.specs.Programs.{Guard, Block, Program, block_number}
-use Rattle.pfc_semantics.specs.Remainders.{Bar}
+use Rattle.pfc_semantics.specs.Programs.{Guard, block_number}
 use Rattle.pfc_semantics.specs.Configurations.{Mark, of_resource, Activation, Activity, Config, activity_of}
 use Rattle.pfc_translation.specs.Calls.{resource_of}
 use Rattle.pfc_translation.specs.Images.{image_of, site_in}
@@ -22,14 +21,12 @@ use Rattle.pfc_cells.specs.Memory.{Entry, ProcessIs, CellsAre, StandsOver}
 use Rattle.pfc_machines.specs.declared.machine.Machine.{Machine}
 use Rattle.pfc_machines.specs.Descriptors.{descriptor_of}
 use Rattle.pfc_machines.specs.Rooms.{end_of}
-use Rattle.pfc_standing_code.specs.Performs.{IsOwnBar}
 use Rattle.pfc_representation.specs.Levels.{Facts, program_in, LivingLevel, block_of}
 use Rattle.pfc_representation.specs.Rooms.{end_in}
 use Rattle.pfc_representation.specs.Callers.{linkage_words}
-use Rattle.pfc_representation.specs.Holding.{Holders, holders_in, HoldsFor}
+use Rattle.pfc_representation.specs.Holding.{holders_in, HoldsFor}
 use Rattle.pfc_representation.specs.Acting.{IsActing}
 use Rattle.pfc_kept_calls.proofs.Beginnings.{number_within}
-use Rattle.pfc_kept_scans.specs.Groups.{IsOfItsBlock}
 use Rattle.pfc_kept_scans.proofs.Tops.{HasTop, top_of}
 use Rattle.pfc_kept_scans.proofs.Procedures.{one_number, guarded_there}
 

@@ -1,23 +1,23 @@
 -- A true guard of a barred process: it is let on.
-use Rattle.std.proofs.Common.{◌≡◌, ◌≢◌, ℕ, suc, ◌+◌, ◌<◌, ◌≤◌, ℤ, Bool, true, false, List, [], ◌∷◌, length, set, drop, slice_get, get_or, Option, Some, None, Ok}
+use Rattle.std.proofs.Common.{◌≡◌, ℕ, ◌+◌, ◌≤◌, ℤ, Bool, true, false, List, [], length, set, drop, slice_get, get_or, Option, Some, None, Ok}
 use Rattle.std.proofs.Common.{refl, sym, ap, ◌∙◌, subst, arith, inl, inr, ◌⊎◌}
 use Rattle.std.proofs.lemmas.List.{get_or-set_same}
 use Rattle.pfc_code.specs.declared.instructions.Instr.{Instr}
 use Rattle.pfc_code.specs.declared.instructions.Instr.TheVariants.{GRD, SCAN}
 use Rattle.pfc_code.specs.declared.images.Block.{Block as CodeBlock}
 use Rattle.pfc_resource.specs.Scans.{IsBarredAt}
-use Rattle.pfc_state.specs.Stands.{Stand, Is_ready, Waits, is_unfinished}
+use Rattle.pfc_state.specs.Stands.{Stand, Waits, is_unfinished}
 use Rattle.pfc_state.specs.declared.waits.Why.TheVariants.{Barred}
 use Rattle.pfc_values.specs.Numbers.{is_true}
 use Rattle.pfc_world.specs.Holders.{Held, held_in, holder_in, given_to}
 use Rattle.pfc_world.specs.Resources.{passed_to, requeued}
 use Rattle.pfc_world.specs.Tables.{Table, at}
-use Rattle.pfc_world.specs.Transitions.{blocked, rested, ticked}
+use Rattle.pfc_world.specs.Transitions.{blocked, rested}
 use Rattle.pfc_semantics.specs.Programs.{Guard, Block, Program, block_number}
 use Rattle.pfc_semantics.specs.Remainders.{Context, Bar, Way, Scan, Tried, Remainder, leave, own, passes}
 use Rattle.pfc_semantics.specs.Rewriting.{Doing, going}
-use Rattle.pfc_semantics.specs.Resources.{bar_of, passed_by, passes_to}
-use Rattle.pfc_semantics.specs.Configurations.{Hand, empty_hand, barred_at, Activation, Activity, Config, nobody, activity_of, at_work, resources_held}
+use Rattle.pfc_semantics.specs.Resources.{passed_by, passes_to}
+use Rattle.pfc_semantics.specs.Configurations.{Hand, barred_at, Activity, Config, activity_of}
 use Rattle.pfc_translation.specs.Codes.{◌⨾◌, one}
 use Rattle.pfc_translation.specs.Expressions.{expr_code}
 use Rattle.pfc_translation.specs.Images.{image_of, guard_code}
@@ -34,7 +34,7 @@ use Rattle.pfc_resource_actions.specs.Scans.{scan_ended}
 use Rattle.pfc_machine_acts.specs.Acting.{comes_to}
 use Rattle.pfc_machine_acts.specs.Performing.{silent}
 use Rattle.pfc_machine_acts.specs.Running.{IsNoMove}
-use Rattle.pfc_standing_code.specs.Settings.{Trial, Setting, of_own, of_another, site_of, IsAt}
+use Rattle.pfc_standing_code.specs.Settings.{Trial, Setting, site_of, IsAt}
 use Rattle.pfc_standing_code.specs.Words.{IsChecked}
 use Rattle.pfc_standing_code.specs.Performs.{Tries, own_block, own_again, behind_scan}
 use Rattle.pfc_standing_code.specs.Following.{ArrivedBy}
@@ -42,7 +42,7 @@ use Rattle.pfc_standing_images.specs.Images.{BlockStands}
 use Rattle.pfc_standing_images.proofs.Wholes.{block_stands}
 use Rattle.pfc_following_source.specs.Behind.{GoesOnAt, BehindPass}
 use Rattle.pfc_following_source.proofs.Behind.{leads_on}
-use Rattle.pfc_representation.specs.Levels.{Facts, program_in, LivingLevel, block_of, room_of}
+use Rattle.pfc_representation.specs.Levels.{Facts, program_in, LivingLevel, room_of}
 use Rattle.pfc_representation.specs.Rooms.{guards_room, room_in, room_behind, own_address, HasRoomFor}
 use Rattle.pfc_representation.specs.Callers.{IsWithin}
 use Rattle.pfc_representation.specs.Hands.{IsBarred}
@@ -358,9 +358,14 @@ module _ (facts : Facts) (m : Machine) (c : Config) (p choice : ℕ) (level : Li
           (silent (Ok (at_rest (with_resources n (requeued (held_in m.world m.resources) p r bar.procedure q))))) (Ok (passed_by g c p x whom k r (own bar))))
           (sym (popped_ended code.body))
           (subst (λ (xs : List Activity). ComeToSame facts m c p x.line
-          (silent (Ok (record m { stacks = set m.stacks p stack; descriptors = set m.descriptors p (record d { scan = None }); world =
-          rested (blocked (given_to (Some q) (held_in m.world m.resources) r).table p (Barred r bar.procedure) []); resources =
-          (given_to (Some q) (held_in m.world m.resources) r).holders })))
+          (silent (Ok (record m {
+            stacks = set m.stacks p stack;
+            descriptors = set m.descriptors p (record d { scan = None });
+            world =
+                rested (blocked (given_to (Some q) (held_in m.world m.resources) r).table p (Barred r bar.procedure) []);
+            resources =
+                (given_to (Some q) (held_in m.world m.resources) r).holders;
+          })))
           (Ok (record c { activities = xs; table = table; resources = gone.holders }))) (sym (shown_so facts m c p level acting doing hand))
           (comes_then facts m c p level acting x.line
           (activities facts m c p level acting (own_level level) stack table gone.holders None doing hand x.line)

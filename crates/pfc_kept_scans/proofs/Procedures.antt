@@ -12,7 +12,7 @@ use Rattle.pfc_types.specs.rules.Bodies.{passed_part, part_scopes}
 use Rattle.pfc_semantics.specs.Layouts.{Layout}
 use Rattle.pfc_semantics.specs.Programs.{Guard, Block, Program, block_of, init_block, module_inits, part_inits, parts_inits, program_of, block_number}
 use Rattle.pfc_stacks.specs.Starts.{is_guarded, guard_room}
-use Rattle.pfc_standing_code.specs.Settings.{Setting, IsMains, IsBeside, same_block, both_mains}
+use Rattle.pfc_standing_code.specs.Settings.{Setting, IsBeside, same_block, both_mains}
 use Rattle.pfc_representation.specs.Levels.{number_in, IsBlockAt}
 
 -- ## Numbers

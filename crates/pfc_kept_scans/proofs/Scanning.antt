@@ -1,5 +1,5 @@
 -- Turns of a scan.
-use Rattle.std.proofs.Common.{◌≡◌, ◌≢◌, ℕ, ◌+◌, ◌<◌, ◌≤◌, ◌==◌, ◌&&◌, if◌then◌else◌, ℤ, Bool, true, false, List, [], ◌∷◌, length, set, slice_get, Option, Some, None, Ok}
+use Rattle.std.proofs.Common.{◌≡◌, ℕ, ◌+◌, ◌≤◌, ◌==◌, ◌&&◌, if◌then◌else◌, ℤ, Bool, true, false, List, [], length, set, slice_get, Option, Some, None, Ok}
 use Rattle.std.proofs.Common.{refl, sym, ap, ◌∙◌, subst, arith, inl}
 use Rattle.std.specs.Prelude.{is_some}
 use Rattle.std.proofs.lemmas.List.{get_or-set_same}
@@ -8,7 +8,7 @@ use Rattle.pfc_code.specs.declared.images.Block.{Block as CodeBlock}
 use Rattle.pfc_state.specs.Stands.{Stand, Is_idle, Is_created, Is_ready, Is_done, Waits, is_unfinished, ticket_of, ticket_barred, is_above}
 use Rattle.pfc_state.specs.declared.waits.Arm.{Arm as WaitArm}
 use Rattle.pfc_state.specs.declared.waits.Why.TheVariants.{Barred}
-use Rattle.pfc_world.specs.Holders.{Held, held_in, holder_in, given_to}
+use Rattle.pfc_world.specs.Holders.{Held, held_in, holder_in}
 use Rattle.pfc_world.specs.Partners.{next_barred, next_entrant}
 use Rattle.pfc_world.specs.Resources.{given_up}
 use Rattle.pfc_world.specs.Tables.{Table, at}
@@ -19,10 +19,10 @@ use Rattle.pfc_semantics.specs.Programs.{Block, Program}
 use Rattle.pfc_semantics.specs.Remainders.{Context, Bar, Way, Scan, Tried, Remainder, leave, own, scans, try_guard, try_other}
 use Rattle.pfc_semantics.specs.Rewriting.{Doing, going}
 use Rattle.pfc_semantics.specs.Resources.{tried, tried_at, scanned_all, scanned_to, scans_at}
-use Rattle.pfc_semantics.specs.Configurations.{Hand, empty_hand, barred_at, Activation, Activity, Config, activity_of, resources_held}
+use Rattle.pfc_semantics.specs.Configurations.{Hand, empty_hand, barred_at, Activity, Config, activity_of}
 use Rattle.pfc_translation.specs.Images.{image_of}
 use Rattle.pfc_stacks.specs.Refs.{word_of}
-use Rattle.pfc_stacks.specs.Stacks.{Stack, Stacks, no_stack, stack_of, operands_of, last_activation}
+use Rattle.pfc_stacks.specs.Stacks.{Stack, no_stack, stack_of, operands_of, last_activation}
 use Rattle.pfc_machines.specs.declared.machine.Machine.{Machine}
 use Rattle.pfc_machines.specs.declared.descriptors.Descriptor.{Descriptor}
 use Rattle.pfc_machines.specs.declared.descriptors.Scan.{Scan as MachineScan}
@@ -31,8 +31,7 @@ use Rattle.pfc_machines.specs.Descriptors.{descriptor_of}
 use Rattle.pfc_call_actions.specs.Calls.{with_resources}
 use Rattle.pfc_resource_actions.specs.Scans as machine
 use Rattle.pfc_machine_acts.specs.Performing.{silent}
-use Rattle.pfc_standing_code.specs.Settings.{Trial, Setting, of_own, IsAt}
-use Rattle.pfc_standing_code.specs.Effects.{Arm}
+use Rattle.pfc_standing_code.specs.Settings.{Setting, IsAt}
 use Rattle.pfc_standing_code.specs.Performs.{own_view, own_accepts, own_block, own_again, behind_scan}
 use Rattle.pfc_standing_code.specs.Following.{ArrivedBy}
 use Rattle.pfc_following_source.specs.Behind.{GoesOnAt, BehindScan, BehindTurn}
@@ -40,7 +39,7 @@ use Rattle.pfc_following_source.proofs.Behind.{leads_on}
 use Rattle.pfc_representation.specs.Levels.{Facts, program_in, LivingLevel, room_of}
 use Rattle.pfc_representation.specs.Rooms.{guards_room}
 use Rattle.pfc_representation.specs.Hands.{shows_nothing}
-use Rattle.pfc_representation.specs.Holding.{Holders, holders_in, Holds}
+use Rattle.pfc_representation.specs.Holding.{holders_in}
 use Rattle.pfc_representation.specs.Trials.{is_own, TriesAnother}
 use Rattle.pfc_representation.specs.Machines.{machine_table}
 use Rattle.pfc_representation.specs.Acting.{IsActing, HasArrived}
@@ -49,13 +48,12 @@ use Rattle.pfc_kept_own_actions.proofs.Alone.{can_go}
 use Rattle.pfc_kept_own_actions.proofs.Arrived.{stack_there, code_there, code_line, acts_now}
 use Rattle.pfc_kept_object_actions.proofs.Change.{holds_as_was}
 use Rattle.pfc_kept_object_actions.proofs.Finding.{first_has}
-use Rattle.pfc_kept_object_actions.proofs.Popped.{world, rests}
-use Rattle.pfc_kept_object_actions.proofs.Rows.{with_anew}
+use Rattle.pfc_kept_object_actions.proofs.Popped.{rests}
 use Rattle.pfc_kept_object_actions.proofs.Tests.{numbers_same, untrue}
 use Rattle.pfc_kept_scans.specs.Groups.{AreBarredAtTheirOwn, HasLeft}
 use Rattle.pfc_kept_scans.proofs.Turns.{turn_at}
-use Rattle.pfc_kept_scans.proofs.Behind.{holders_with, comes_then}
-use Rattle.pfc_kept_scans.proofs.Others.{AreOthers, it_stays, lender_still}
+use Rattle.pfc_kept_scans.proofs.Behind.{comes_then}
+use Rattle.pfc_kept_scans.proofs.Others.{AreOthers, it_stays}
 use Rattle.pfc_kept_scans.proofs.Tops.{HasTop, top_of}
 use Rattle.pfc_kept_scans.proofs.Levels.{own_level, level_with, does_with, does_own}
 use Rattle.pfc_kept_scans.proofs.AtTurn.{IsAtTurnOf, at_turn}
@@ -242,8 +240,11 @@ module _ (facts : Facts) (m : Machine) (c : Config) (p choice : ℕ) (level : Li
           (Ok (scanned_to g c p x scan k (Some whom)))
       tries_same =
           subst (λ n. ComeToSame facts m c p x.line
-          (silent (Ok (at_rest (record m { stacks = set m.stacks p (record s { at = n; looks_from = Some q }); descriptors = set m.descriptors p
-          (record d { scan = Some trying }) }))))
+          (silent (Ok (at_rest (record m {
+            stacks = set m.stacks p (record s { at = n; looks_from = Some q });
+            descriptors = set m.descriptors p
+                (record d { scan = Some trying });
+          }))))
           (Ok (scanned_to g c p x scan k (Some whom))))
           (sym (ap machine.entry_in (found.code_there facts m c p level acting q r j t arms row)))
           (comes_then facts m c p level acting x.line

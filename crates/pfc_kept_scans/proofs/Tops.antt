@@ -1,16 +1,12 @@
 -- What is told of the last activation of a process at a level.
-use Rattle.std.proofs.Common.{◌≡◌, ℕ, ◌+◌, ◌≤◌, ℤ, List, [], ◌∷◌, Some, refl}
-use Rattle.pfc_code.specs.declared.images.Block.{Block as CodeBlock}
+use Rattle.std.proofs.Common.{◌≡◌, ℕ, ◌+◌, ◌≤◌, ℤ, List, [], ◌∷◌, refl}
 use Rattle.pfc_world.specs.Tables.{Table}
-use Rattle.pfc_semantics.specs.Programs.{Guard}
 use Rattle.pfc_semantics.specs.Store.{Store}
-use Rattle.pfc_semantics.specs.Configurations.{of_resource, Activation}
-use Rattle.pfc_translation.specs.Calls.{resource_of}
-use Rattle.pfc_translation.specs.Images.{image_of, site_in}
+use Rattle.pfc_semantics.specs.Configurations.{Activation}
 use Rattle.pfc_cells.specs.Homes.{Homes}
 use Rattle.pfc_cells.specs.Memory.{Entry, Entries}
 use Rattle.pfc_machines.specs.Communications.{Communicating}
-use Rattle.pfc_representation.specs.Levels.{Facts, program_in, LivingLevel, block_of, room_of, IsBlockAt, HasSetting}
+use Rattle.pfc_representation.specs.Levels.{Facts, LivingLevel, room_of}
 use Rattle.pfc_representation.specs.Rooms.{guards_room}
 use Rattle.pfc_representation.specs.Callers.{Linkage, StandsFor, AreCallers}
 use Rattle.pfc_representation.specs.Trials.{mark_of}

@@ -1,5 +1,5 @@
 -- The turn of the scan of a resource stands at one address alone: at that which the image has for it.
-use Rattle.std.proofs.Common.{◌≡◌, ℕ, zero, suc, ◌+◌, true, false, List, [], ◌∷◌, ◌++◌, length, slice_get, Some, None, refl, sym, ap, ◌∙◌, subst, arith, ◌⊎◌}
+use Rattle.std.proofs.Common.{◌≡◌, ℕ, zero, suc, ◌+◌, true, false, List, [], ◌∷◌, ◌++◌, length, slice_get, Some, None, sym, ap, ◌∙◌, subst, arith, ◌⊎◌}
 use Rattle.std.proofs.Common.{inl, inr}
 use Rattle.pfc_code.specs.declared.instructions.Instr.{Instr}
 use Rattle.pfc_code.specs.declared.instructions.Instr.TheVariants.{SCAN}

@@ -1,19 +1,19 @@
 -- The process gives the resource away, and is barred at a procedure of it in the same action.
-use Rattle.std.proofs.Common.{◌≡◌, ◌≢◌, ℕ, zero, suc, ◌+◌, ◌<◌, ◌≤◌, ◌==◌, true, false, List, [], ◌∷◌, length, set, get_or, Option, Some, None, refl, sym, ap, ◌∙◌}
+use Rattle.std.proofs.Common.{◌≡◌, ◌≢◌, ℕ, zero, suc, ◌+◌, ◌<◌, ◌≤◌, List, [], ◌∷◌, length, set, get_or, Option, Some, None, refl, sym, ap, ◌∙◌}
 use Rattle.std.proofs.Common.{subst, arith, ◌⊎◌, inl, inr}
 use Rattle.std.proofs.lemmas.List.{get_or-set_same, length-set}
-use Rattle.pfc_state.specs.Stands.{Stand, Is_ready, Waits, is_unfinished, ticket_of, due_of}
+use Rattle.pfc_state.specs.Stands.{Stand, Waits, is_unfinished, ticket_of, due_of}
 use Rattle.pfc_state.specs.declared.waits.Why.TheVariants.{Barred}
 use Rattle.pfc_world.specs.Holders.{Held, held_in, holder_in, given_to}
 use Rattle.pfc_world.specs.Tables.{Table, at}
-use Rattle.pfc_world.specs.Transitions.{placed, blocked}
+use Rattle.pfc_world.specs.Transitions.{blocked}
 use Rattle.pfc_semantics.specs.Rewriting.{Doing}
-use Rattle.pfc_semantics.specs.Configurations.{Hand, barred_at, Activation, Activity, Config, nobody, activity_of, at_work, resources_held}
+use Rattle.pfc_semantics.specs.Configurations.{Hand, Activation, Activity, Config, nobody, activity_of, at_work, resources_held}
 use Rattle.pfc_machines.specs.declared.machine.Machine.{Machine}
-use Rattle.pfc_stacks.specs.Stacks.{Stack, stack_of}
+use Rattle.pfc_stacks.specs.Stacks.{Stack}
 use Rattle.pfc_standing_code.specs.Settings.{of_own}
 use Rattle.pfc_representation.specs.Levels.{Facts, program_in, LivingLevel}
-use Rattle.pfc_representation.specs.Holding.{Holders, holders_in, Holds, is_quiet, waits_at_coend}
+use Rattle.pfc_representation.specs.Holding.{holders_in, Holds, is_quiet, waits_at_coend}
 use Rattle.pfc_representation.specs.Machines.{machine_table}
 use Rattle.pfc_representation.specs.Acting.{IsActing}
 use Rattle.pfc_kept_object_actions.proofs.Change.{row_here, row_there}
@@ -21,7 +21,7 @@ use Rattle.pfc_kept_object_actions.proofs.Popped.{world}
 use Rattle.pfc_kept_object_actions.proofs.Tests.{either, same_numbers}
 use Rattle.pfc_kept_scans.proofs.Behind.{IsNewStand, StandsThen, holders_with}
 use Rattle.pfc_kept_scans.proofs.Others.{ItStands, AreOthers}
-use Rattle.pfc_kept_scans.proofs.Giving.{WaitsFor, given, row_count, given_mine, given_rows, given_stands, given_still, clock_same, holds_waiting}
+use Rattle.pfc_kept_scans.proofs.Giving.{WaitsFor, given, row_count, given_rows, given_stands, given_still, clock_same, holds_waiting}
 use Rattle.pfc_kept_scans.proofs.Step.{set_twice, stack_apart}
 
 -- ## Lists

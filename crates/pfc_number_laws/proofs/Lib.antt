@@ -9,3 +9,7 @@ pub mod Steps
 pub mod Communications
 pub mod Effects
 pub mod Runs
+pub mod Objects
+pub mod Names
+pub mod Declarations
+pub mod Programs

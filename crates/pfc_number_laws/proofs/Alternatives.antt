@@ -1,8 +1,8 @@
 -- What comes next in the alternatives of a select has only numbers of 32 bits.
-use Rattle.std.proofs.Common.{◌≡◌, ℕ, zero, suc, ◌+◌, ◌-◌, ◌%◌, ◌<◌, ◌≤◌, ℤ, pos, negsuc, ◌+ℤ◌, ◌-ℤ◌, Bool, true, false, if◌then◌else◌, List, [], ◌∷◌, ◌++◌, length, map, Option, Some, None, refl, arith}
+use Rattle.std.proofs.Common.{◌≡◌, ℕ, zero, suc, ◌+◌, ◌-◌, ◌%◌, ◌<◌, ℤ, pos, negsuc, ◌+ℤ◌, Bool, true, false, if◌then◌else◌, List, [], ◌∷◌, Option, Some, None, refl, arith}
 use Rattle.std.proofs.lemmas.Bool.Decides.{nat_tests}
 use Rattle.std.proofs.Math.Nat.{mod-lt}
-use Rattle.std.specs.Prelude.{int_le, int_lt, nat_abs}
+use Rattle.std.specs.Prelude.{int_le, int_lt}
 use Rattle.std.specs.Int.{int_wrapping_neg, cast_signed, cast_unsigned}
 use Rattle.std.specs.Int.Width.{w32}
 use Rattle.std.specs.List.{AllByRecursion}
@@ -18,23 +18,22 @@ use Rattle.pfc_tree.specs.trees.Exprs.{ExprTree, DesigTree}
 use Rattle.pfc_tree.specs.trees.Stmts.{StmtTrees, AcceptTree, AltTrees, CommTree, accept, accept_do, alt, no_alts, more_alts, comm_accept, comm_send, comm_receive, timeout, terminate}
 use Rattle.pfc_types.specs.Types.{extent}
 use Rattle.pfc_types.specs.Scopes.{Names, Level, look}
-use Rattle.pfc_types.specs.declared.types.TypeId.{TypeId}
 use Rattle.pfc_types.specs.declared.scope.Meaning.{Meaning}
 use Rattle.pfc_types.specs.declared.scope.Meaning.TheVariants.{Constant as AConstant}
 use Rattle.pfc_types.specs.rules.Constants.{Ordinal, signed, sign_fits, named_constant, char_value, constant_value}
-use Rattle.pfc_types.specs.rules.Expressions.{Env, find, as_desig}
+use Rattle.pfc_types.specs.rules.Expressions.{find, as_desig}
 use Rattle.pfc_types.specs.rules.Statements.{names_any, alt_scopes}
 use Rattle.pfc_values.specs.Numbers.{is_true}
-use Rattle.pfc_semantics.specs.Values.{Value, ordinal, ordinal_of}
-use Rattle.pfc_semantics.specs.Displays.{Spot, TypedSpot}
-use Rattle.pfc_semantics.specs.Remainders.{Context, Replica, Offer, Open, Alternative, Selecting, Remainder, Action, to_send, to_receive, to_accept, to_wait, to_end, go_through, open_if, offer_value, offer_wait, offer_to, offer_from, offer_into, faults}
+use Rattle.pfc_semantics.specs.Values.{Value, ordinal_of}
+use Rattle.pfc_semantics.specs.Displays.{Spot}
+use Rattle.pfc_semantics.specs.Remainders.{Context, Replica, Offer, Alternative, Selecting, Remainder, Action, to_send, to_receive, to_accept, to_wait, to_end, open_if, offer_value, offer_wait, offer_to, offer_from, offer_into, faults}
 use Rattle.pfc_semantics.specs.Expressions.{spot_of, char_in}
 use Rattle.pfc_semantics.specs.Alternatives.{replicas_from, replicas_between, replicas_by, replicas, alternative, spread_out, alternatives, accepting_of, message_of, receiver_of, a_signal, with_open, from_seconds, from_message, from_receiver, from_comm, from_opened, from_guard, from_replica, from_alternatives, select_begun}
-use Rattle.pfc_number_laws.specs.Fitting.{Fits, FitsValue, FitsMeaning, FitNames, FitsEnv}
+use Rattle.pfc_number_laws.specs.Fitting.{Fits, FitsMeaning, FitNames, FitsEnv}
 use Rattle.pfc_number_laws.specs.Written.{FitsExpr, FitsDesig, FitsPerhaps, FitsTarget, FitsConstant, FitsSpread, FitsStmt, FitStmts, FitsAccept, FitsComm, FitAlts}
 use Rattle.pfc_number_laws.specs.Remainders.{FitsReplica, FitsOffer, FitsOpen, FitsAlternative, FitAlternatives, FitsSelecting, FitsRemainder, FitsAction}
 use Rattle.pfc_number_laws.proofs.Lists.{all_append, all_push, all_mapped}
-use Rattle.pfc_number_laws.proofs.Expressions.{Goes, Arrives, either, ordinal_fits, expr_fits, desig_fits}
+use Rattle.pfc_number_laws.proofs.Expressions.{either, expr_fits, desig_fits}
 
 -- ## Constants
 

@@ -1,25 +1,23 @@
 -- Behind communication, and behind the deciding action of a select, all numbers have 32 bits.
-use Rattle.std.proofs.Common.{◌≡◌, ℕ, zero, suc, ◌+◌, Bool, true, false, nat_le, if◌then◌else◌, List, [], ◌∷◌, ◌++◌, set, Option, Some, None, Ok, Err, refl}
+use Rattle.std.proofs.Common.{ℕ, zero, suc, ◌+◌, Bool, true, false, nat_le, if◌then◌else◌, List, [], ◌∷◌, Option, Some, None, Ok, Err}
 use Rattle.std.specs.Prelude.{◌==◌, ◌*◌, slice_get}
-use Rattle.std.specs.List.{AllByRecursion}
 use Rattle.pfc_base.specs.declared.faults.RunFault.TheVariants.{Late}
 use Rattle.pfc_state.specs.declared.waits.Arm.{Arm}
-use Rattle.pfc_state.specs.declared.waits.Arm.TheVariants.{Send as To, Receive as From, Accept as Entry}
+use Rattle.pfc_state.specs.declared.waits.Arm.TheVariants.{Send as To, Receive as From}
 use Rattle.pfc_world.specs.Selects.{committed, select_waited}
 use Rattle.pfc_tree.specs.trees.Stmts.{no_stmts, more_stmts}
 use Rattle.pfc_types.specs.rules.Statements.{within_accept}
 use Rattle.pfc_semantics.specs.Values.{Value}
-use Rattle.pfc_semantics.specs.Store.{values_in, with_values}
+use Rattle.pfc_semantics.specs.Store.{values_in}
 use Rattle.pfc_semantics.specs.Displays.{Spot, frame_of}
 use Rattle.pfc_semantics.specs.Programs.{Program}
-use Rattle.pfc_semantics.specs.Remainders.{Context, Replica, Accepting, Offer, Open, Otherwise, Selecting, Remainder, to_send, to_receive, to_accept, to_wait, to_end, perform, in_names, part_from}
+use Rattle.pfc_semantics.specs.Remainders.{Context, Replica, Accepting, Offer, Open, Otherwise, Selecting, Remainder, to_send, to_receive, to_accept, to_wait, perform, in_names, part_from}
 use Rattle.pfc_semantics.specs.Statements.{behind}
-use Rattle.pfc_semantics.specs.Configurations.{Hand, empty_hand, offering, asking, barred_at, Config, Effect, activity_of, goes_on, showing, with_table}
+use Rattle.pfc_semantics.specs.Configurations.{Hand, empty_hand, offering, asking, Config, activity_of, goes_on, showing}
 use Rattle.pfc_semantics.specs.Channels.{arm_of, arms_of_all, is_communication, communications, behind_replica, behind_open, Side, is_arm, first_open, side_in, side_of, goes_behind, delivered, sent_into, sent_to, received_out, received_from}
 use Rattle.pfc_semantics.specs.Rendezvous.{taken_from, parameters_taken, meeting_of, met_by, called_into, called_at, asked, accepts_from}
-use Rattle.pfc_semantics.specs.Selects.{communicates_by, communicates_with, communicates, partner_at, plainly, meets_or_waits, meets_at, matched_places, place_taken, open_at, takes, takes_matched, Timeout, timeout_at, or_timeout, open_timeout, may_terminate_at, latest, waits_until, waits_or_closed, times_out, goes_otherwise, decides_by, decides_at}
+use Rattle.pfc_semantics.specs.Selects.{communicates_by, communicates, partner_at, plainly, meets_or_waits, meets_at, matched_places, place_taken, open_at, takes, Timeout, timeout_at, or_timeout, open_timeout, may_terminate_at, latest, waits_until, waits_or_closed, times_out, goes_otherwise, decides_by}
 use Rattle.pfc_number_laws.specs.Fitting.{FitsValue, FitList, FitsEnv}
-use Rattle.pfc_number_laws.specs.Written.{FitStmts}
 use Rattle.pfc_number_laws.specs.Remainders.{FitsReplica, FitsOffer, FitsOpen, FitOpens, FitsOtherwise, FitsSelecting, FitsRemainder}
 use Rattle.pfc_number_laws.specs.Configurations.{FitsProgram, FitsHand, FitsConfig}
 use Rattle.pfc_number_laws.proofs.Statements.{behind_fits}

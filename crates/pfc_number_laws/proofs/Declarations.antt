@@ -1,6 +1,6 @@
 -- What declarations make has constants of 32 bits alone.
-use Rattle.std.proofs.Common.{◌≡◌, ℕ, ◌+◌, Bool, true, false, if◌then◌else◌, is_some, List, [], ◌∷◌, ◌++◌, length, set, Option, Some, None, refl}
-use Rattle.std.specs.Prelude.{not, ◌&&◌, nat_le, nat_lt}
+use Rattle.std.proofs.Common.{ℕ, ◌+◌, Bool, true, false, if◌then◌else◌, is_some, List, [], ◌∷◌, ◌++◌, length, Option, Some, None}
+use Rattle.std.specs.Prelude.{not, ◌&&◌}
 use Rattle.std.specs.List.{AllByRecursion, list_any}
 use Rattle.pfc_base.specs.declared.places.Place.{Place}
 use Rattle.pfc_tree.specs.Symbols.{Text}
@@ -11,8 +11,8 @@ use Rattle.pfc_tree.specs.trees.Stmts.{StmtTree, StmtTrees, BodyTree, ArmTree, A
 use Rattle.pfc_tree.specs.trees.Parts.{KindTree, EntryTree, PartTree, PartTrees, SubTree, ModuleTree, ProcessTree, ProgramTree, consts, types, vars, sub_part, monitor, resource, process_part, no_parts, more_parts, sub, the_module, process}
 use Rattle.pfc_types.specs.Faults.{Faults, none, one, ◌⨾◌, unless}
 use Rattle.pfc_types.specs.Fields.{type_named}
-use Rattle.pfc_types.specs.Types.{Forms, integer, refusal_of, most_processes, is_simple}
-use Rattle.pfc_types.specs.Scopes.{Names, Level, meaning_in, scope_at, here, look}
+use Rattle.pfc_types.specs.Types.{integer, refusal_of, most_processes}
+use Rattle.pfc_types.specs.Scopes.{Level, meaning_in, scope_at, here, look}
 use Rattle.pfc_types.specs.Blocks.{State, note, declare, open_scope, add_name, add_form, add_sub, add_module, add_process, add_entry, export_sub, set_population, sub_at}
 use Rattle.pfc_types.specs.declared.types.TypeId.{TypeId}
 use Rattle.pfc_types.specs.declared.types.TypeForm.{TypeForm}
@@ -20,11 +20,11 @@ use Rattle.pfc_types.specs.declared.types.TypeForm.TheVariants.{Process as AProc
 use Rattle.pfc_types.specs.declared.table.TypeFault.{TypeFault}
 use Rattle.pfc_types.specs.declared.table.TypeFault.TheVariants.{Bounds, Cells, Memory}
 use Rattle.pfc_types.specs.declared.scope.Meaning.{Meaning}
-use Rattle.pfc_types.specs.declared.scope.Meaning.TheVariants.{Sub, Module, Process, Entry, Named, Faulty}
+use Rattle.pfc_types.specs.declared.scope.Meaning.TheVariants.{Sub, Module, Process, Named, Faulty}
 use Rattle.pfc_types.specs.declared.heads.SubHead.{SubHead}
 use Rattle.pfc_types.specs.declared.heads.ProcessHead.{ProcessHead}
-use Rattle.pfc_types.specs.rules.Kinds.{has_object, type_name_rules, named_type, type_meaning, variable_meaning}
-use Rattle.pfc_types.specs.rules.Constants.{Ordinal, Extent, same_ordinal, constant_value, constant_place, broken_constant, broken_ranges, range_extents, Made, added_unless, added, channel_form, made_channel, array_of, made_arrays, MadeFields, made_field, made_names, made_group, record_form, fields_begun, made, made_items, made_item, type_place}
+use Rattle.pfc_types.specs.rules.Kinds.{has_object, type_name_rules, type_meaning, variable_meaning}
+use Rattle.pfc_types.specs.rules.Constants.{Ordinal, Extent, same_ordinal, constant_value, constant_place, broken_constant, broken_ranges, range_extents, Made, added_unless, added, channel_form, array_of, made_arrays, MadeFields, made_field, made_names, made_group, record_form, fields_begun, made, made_items, made_item, type_place}
 use Rattle.pfc_types.specs.rules.Declarations.{constant_meaning, const_state, consts_state, type_state, types_state, Owner, in_program, elsewhere, owner_rules, owned_type, passes_most, populated, brought, var_name_state, var_names_state, var_state, vars_state, broken_group, group_type, Heading, formal_heading, formals_heading, group_viewed, group_heading, groups_heading, heading, EntryHeading, entry_formal, entry_formals, entry_group, entry_groups, entry_meaning, entry_state, entries_state, scope_cells, result_cells, cells_rule, accept_rule, accept_groups, accept_heading, accepted, Labels, label_noted, labels_noted, stmt_state, stmts_state, body_state, arms_state, arm_state, accept_state, alts_state, alt_state, comm_state, broken_sort, sort_of, whole_sort, sub_meaning, sub_headed, may_export, export_state, export_list, exports_state, module_owner, module_closed, init_state, process_named, process_headed, process_cells, part_state, parts_state, sub_state, module_state, process_state}
 use Rattle.pfc_types.specs.rules.Whole.{begun, declared_parts, declared_all, main_cells, finished}
 use Rattle.pfc_number_laws.specs.Fitting.{FitsMeaning, FitNames}

@@ -1,12 +1,12 @@
 -- Behind every action all numbers have 32 bits.
-use Rattle.std.proofs.Common.{◌≡◌, ℕ, ℤ, pos, negsuc, zero, suc, ◌+◌, Bool, true, false, nat_le, if◌then◌else◌, List, [], ◌∷◌, ◌++◌, length, Option, Some, None, Result, Ok, Err, refl}
+use Rattle.std.proofs.Common.{ℕ, ℤ, pos, negsuc, zero, suc, ◌+◌, Bool, true, false, nat_le, if◌then◌else◌, List, [], ◌∷◌, ◌++◌, Option, Some, None, Result, Ok, Err}
 use Rattle.std.specs.Prelude.{◌*◌, ◌/◌, ◌==◌}
 use Rattle.std.specs.List.{AllByRecursion}
 use Rattle.rand_pcg.specs.Lcg.{Lcg}
 use Rattle.pfc_base.specs.declared.faults.RunFault.{RunFault}
 use Rattle.pfc_base.specs.declared.faults.RunFault.TheVariants.{Active, NotActive, Late, Count as TooLarge}
 use Rattle.pfc_state.specs.declared.waits.Arm.TheVariants.{Accept as Entry}
-use Rattle.pfc_state.specs.declared.waits.Why.TheVariants.{Coend, Sleep, Condition}
+use Rattle.pfc_state.specs.declared.waits.Why.TheVariants.{Coend, Sleep}
 use Rattle.pfc_state.specs.Stands.{Is_created, is_unfinished, ticket_of}
 use Rattle.pfc_sched.specs.Draws.{drawn, after_draw}
 use Rattle.pfc_types.specs.Blocks.{module_at, process_at}
@@ -26,23 +26,23 @@ use Rattle.pfc_semantics.specs.Objects.{module_number}
 use Rattle.pfc_semantics.specs.Operators.{simple_of}
 use Rattle.pfc_semantics.specs.Displays.{Spot}
 use Rattle.pfc_semantics.specs.Programs.{Guard, Block, Program, block_at}
-use Rattle.pfc_semantics.specs.Remainders.{Context, Bar, Argument, Call, Remainder, AwaitsValue, Scan, Tried, Way, leave, own, in_names, scan_on, try_guard, try_other, to_procedure, to_function, to_module, to_requeue, to_process, to_entry, Action, reads, writes, turns, calls, finishes, prints, inputs, skips, asks_eof, asks_eoln, asks_clock, asks_empty, draws, joins, initials, waits, signals, delays, resumes, sleeps, meets, decides, parts, scans, bars, passes, faults}
+use Rattle.pfc_semantics.specs.Remainders.{Context, Argument, Call, Remainder, AwaitsValue, Scan, Tried, Way, leave, own, in_names, scan_on, try_guard, try_other, to_procedure, to_function, to_module, to_requeue, to_process, to_entry, Action, reads, writes, turns, calls, finishes, prints, inputs, skips, asks_eof, asks_eoln, asks_clock, asks_empty, draws, joins, initials, waits, signals, delays, resumes, sleeps, meets, decides, parts, scans, bars, passes, faults}
 use Rattle.pfc_semantics.specs.Rewriting.{going, holding}
-use Rattle.pfc_semantics.specs.Configurations.{Mark, plain, of_monitor, of_resource, Caller, of_nobody, of_remainder, of_value, Activation, Activity, Hand, empty_hand, offering, asking, barred_at, Config, Effect, activity_of, declared_block, goes_on, showing, value_for, number_for, written_for, all_passed, with_table, counted, with_counted, monitors_held, with_monitors, resources_held, with_resources, body_of}
+use Rattle.pfc_semantics.specs.Configurations.{Mark, plain, of_monitor, of_resource, Caller, of_nobody, of_remainder, of_value, Activation, Activity, Hand, asking, barred_at, Config, Effect, activity_of, goes_on, showing, value_for, number_for, written_for, all_passed, with_table, counted, with_counted, monitors_held, with_monitors, resources_held, with_resources, body_of}
 use Rattle.pfc_semantics.specs.Layouts.{sub_with}
 use Rattle.pfc_semantics.specs.Calls.{formals_of, cells_above, new_number, new_values, activated, result_in, unless_full, left_by}
-use Rattle.pfc_semantics.specs.Processes.{declaration_of, process_block, process_display, created, creates, joined, ended_activity, without_all, ended_process}
+use Rattle.pfc_semantics.specs.Processes.{declaration_of, process_block, created, creates, joined, ended_activity, without_all, ended_process}
 use Rattle.pfc_semantics.specs.Semaphores.{initials_at, signals_to}
 use Rattle.pfc_semantics.specs.Monitors.{enters_monitor}
-use Rattle.pfc_semantics.specs.Resources.{bar_of, guarded_body, enters_resource, scan_of, tried, tried_at, scanned_all, scanned_to, passed_by, way_to, resource_marked, requeued_in, requeues}
+use Rattle.pfc_semantics.specs.Resources.{guarded_body, enters_resource, scan_of, tried, tried_at, scanned_all, scanned_to, passed_by, way_to, resource_marked, requeued_in, requeues}
 use Rattle.pfc_semantics.specs.Channels.{Side, side_of}
 use Rattle.pfc_semantics.specs.Rendezvous.{called_at, enters}
 use Rattle.pfc_semantics.specs.Selects.{latest, matched_places}
 use Rattle.pfc_semantics.specs.Time.{slept, sleeps_for, clocked}
 use Rattle.pfc_semantics.specs.Steps.{enters_module, calls_by, returns_to, ends_for, ends_body, read_in, skipped_in, drawn_in, effect}
-use Rattle.pfc_number_laws.specs.Fitting.{Fits, FitsOutcome, FitsValue, FitList, FitsEnv}
+use Rattle.pfc_number_laws.specs.Fitting.{FitsOutcome, FitsValue, FitList, FitsEnv}
 use Rattle.pfc_number_laws.specs.Remainders.{FitArguments, FitsBar, FitsWay, FitsRemainder, FitsAwaiting, FitsCall, FitsAction}
-use Rattle.pfc_number_laws.specs.Configurations.{FitsGuard, FitsBlock, FitsProgram, FitsCaller, FitsActivation, FitsHand, FitsActivity, AreBytes, FitsConfig}
+use Rattle.pfc_number_laws.specs.Configurations.{FitsGuard, FitsBlock, FitsProgram, FitsCaller, FitsActivation, FitsHand, AreBytes, FitsConfig}
 use Rattle.pfc_number_laws.proofs.Numbers.{FitsItem, fitting_fits, truth_fits, item_fits, drawn_fits}
 use Rattle.pfc_number_laws.proofs.Stores.{variable_fits, without_fits, without_all_fits, new_values_fit}
 use Rattle.pfc_number_laws.proofs.Steps.{FitsEffect, effect_either, tabled, with_counts, with_monitor_holders, with_resource_holders, body_fits, guarded_fits, block_fits, activity_fits, with_activity_fits, on_it_goes, it_holds, it_shows, found_value, it_writes, all_pass, full_fits, activated_fits, left_fits}

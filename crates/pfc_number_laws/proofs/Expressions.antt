@@ -1,11 +1,9 @@
 -- What comes next in an expression has only numbers of 32 bits.
-use Rattle.std.proofs.Common.{◌≡◌, ℕ, ◌+◌, ℤ, pos, Bool, true, false, if◌then◌else◌, List, [], ◌∷◌, ◌++◌, length, Option, Some, None, Ok, Err, refl}
-use Rattle.std.specs.List.{AllByRecursion}
-use Rattle.pfc_tree.specs.Symbols.{Text}
+use Rattle.std.proofs.Common.{pos, Bool, true, false, if◌then◌else◌, List, [], ◌∷◌, ◌++◌, Option, Some, None, Ok, Err, refl}
 use Rattle.pfc_tree.specs.trees.Exprs.{ExprTree, SimpleTree, SummandTrees, TermTree, MultiplierTrees, FactorTree, DesigTree, SelectorTrees, ExprTrees, ActualTree, ActualTrees, plain, related, sum, no_summands, more_summands, product, no_multipliers, more_multipliers, number, literal, negation, paren, applied as used, desig, index, field, no_selectors, more_selectors, no_exprs, more_exprs, actual, actual_width, no_actuals, more_actuals}
 use Rattle.pfc_types.specs.Scopes.{meaning_of}
 use Rattle.pfc_types.specs.Blocks.{sub_at}
-use Rattle.pfc_types.specs.rules.Expressions.{Env, find, first_type}
+use Rattle.pfc_types.specs.rules.Expressions.{find, first_type}
 use Rattle.pfc_types.specs.declared.types.TypeId.{TypeId}
 use Rattle.pfc_types.specs.declared.scope.Meaning.{Meaning}
 use Rattle.pfc_types.specs.declared.scope.Meaning.TheVariants.{Constant, Variable, Sub, Predeclared}
@@ -17,7 +15,7 @@ use Rattle.pfc_semantics.specs.Values.{Value, ordinal, compound, points, ordinal
 use Rattle.pfc_semantics.specs.Displays.{TypedSpot}
 use Rattle.pfc_semantics.specs.Operators.{signed, added, multiplied, compared, holds, applied, simple_of}
 use Rattle.pfc_semantics.specs.Predeclared.{Function, eof, eoln, empty, clock, random, function_of}
-use Rattle.pfc_semantics.specs.Remainders.{Context, Argument, by_value, by_reference, AwaitsValue, AwaitsLocation, Call, Action, begin_sum, add_to, begin_product, multiply_by, compare_with, compare_to, invert, apply, index_into, pass_value, read_for, pass_variable, ask_empty, to_function, reads, calls, asks_empty}
+use Rattle.pfc_semantics.specs.Remainders.{Context, Argument, by_value, by_reference, AwaitsValue, AwaitsLocation, Call, Action, begin_sum, add_to, begin_product, multiply_by, compare_with, compare_to, invert, apply, index_into, pass_value, read_for, pass_variable, ask_empty, to_function, reads, asks_empty}
 use Rattle.pfc_semantics.specs.Expressions.{with_number, char_in, spot_in, spot_of, field_spot, element_spot, with_element, finish_call, from_function, from_name, from_expr, from_simple, from_summands, from_term, from_multipliers, from_factor, from_argument, from_reference, from_actual, from_lent, from_variable, from_args, from_selectors, from_indices, from_desig}
 use Rattle.pfc_number_laws.specs.Fitting.{Fits, FitsOutcome, FitsValue, FitsMeaning, FitsEnv}
 use Rattle.pfc_number_laws.specs.Written.{FitsExpr, FitsSimple, FitSummands, FitsTerm, FitMultipliers, FitsFactor, FitsDesig, FitSelectors, FitExprs, FitsActual, FitActuals}

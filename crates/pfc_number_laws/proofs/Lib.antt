@@ -13,3 +13,5 @@ pub mod Objects
 pub mod Names
 pub mod Declarations
 pub mod Programs
+pub mod Few
+pub mod Tokens

@@ -1,11 +1,10 @@
 -- Constants that a program declares have 32 bits, whatever is in view.
-use Rattle.std.proofs.Common.{◌≡◌, ℕ, ◌+◌, Bool, true, false, if◌then◌else◌, is_some, List, [], ◌∷◌, ◌++◌, length, get_or, set, Option, Some, None, refl}
-use Rattle.std.specs.Prelude.{not, nat_lt, codes, bytes_eq, option_map}
-use Rattle.std.specs.Map.{lookup}
+use Rattle.std.proofs.Common.{ℕ, Bool, true, false, if◌then◌else◌, List, [], ◌∷◌, Option, Some, None, refl}
+use Rattle.std.specs.Prelude.{nat_lt, bytes_eq, option_map}
 use Rattle.std.specs.Option.{option_or}
 use Rattle.std.specs.List.{AllByRecursion}
 use Rattle.pfc_tree.specs.Symbols.{Text}
-use Rattle.pfc_types.specs.Scopes.{Names, Level, meaning_in, position_in, predeclared_names, scope_at, within, found_at, predeclared, found_in, meaning_of, look}
+use Rattle.pfc_types.specs.Scopes.{Names, Level, meaning_in, position_in, predeclared_names, scope_at, within, found_at, found_in, meaning_of}
 use Rattle.pfc_types.specs.declared.scope.Meaning.{Meaning}
 use Rattle.pfc_types.specs.declared.view.Found.{Found}
 use Rattle.pfc_number_laws.specs.Fitting.{FitsMeaning, FitNames}

@@ -1,13 +1,10 @@
 -- What operators and functions give has 32 bits, and so have numbers that are read and drawn.
-use Rattle.std.proofs.Common.{◌≡◌, ℕ, zero, suc, ◌+◌, ◌%◌, ◌<◌, ◌≤◌, ℤ, pos, negsuc, ◌+ℤ◌, ◌-ℤ◌, Bool, true, false, if◌then◌else◌, List, [], ◌∷◌, Option, Some, None, Result, Ok, Err, refl, sym, ap, subst, arith}
+use Rattle.std.proofs.Common.{◌≡◌, ℕ, zero, suc, ◌+◌, ◌%◌, ◌<◌, ◌≤◌, ℤ, pos, negsuc, ◌+ℤ◌, ◌-ℤ◌, Bool, true, false, if◌then◌else◌, List, [], ◌∷◌, Option, Some, None, Result, Ok, Err, refl, arith}
 use Rattle.std.proofs.lemmas.Bool.Decides.{nat_tests}
-use Rattle.std.proofs.lemmas.Int.{rem_below, SFits-int_wrap}
+use Rattle.std.proofs.lemmas.Int.{rem_below}
 use Rattle.std.proofs.Math.Nat.{mod-lt}
-use Rattle.std.specs.Prelude.{unsigned_abs, int_lt, int_le, int_rem, int_div, neg_ℤ, ◌*ℤ◌, ◌==◌, ◌&&◌, ◌||◌, not}
+use Rattle.std.specs.Prelude.{unsigned_abs, int_lt, int_rem, int_div, neg_ℤ, ◌*ℤ◌, ◌==◌, ◌&&◌, ◌||◌}
 use Rattle.std.specs.Ordering.{int_eq}
-use Rattle.std.specs.Int.{int_wrapping_neg}
-use Rattle.std.specs.Int.Width.{w32}
-use Rattle.std.specs.List.{AllByRecursion}
 use Rattle.rand_pcg.specs.Lcg.{Lcg}
 use Rattle.pfc_base.specs.declared.places.Place.{Place}
 use Rattle.pfc_base.specs.declared.faults.RunFault.{RunFault}
@@ -21,11 +18,11 @@ use Rattle.pfc_tree.specs.declared.tree.MulOp.TheVariants.{Mul, Div, Mod, And}
 use Rattle.pfc_values.specs.declared.simple.Simple.{Simple}
 use Rattle.pfc_values.specs.declared.simple.Simple.TheVariants.{Integer, Boolean, Char}
 use Rattle.pfc_values.specs.Numbers.{Outcome, is_of, greatest, least, fitting, truth, is_true, remainder_of, char_of, next_of, before_of}
-use Rattle.pfc_values.specs.Inputs.{Item, item, is_digit, is_blank, integer_item, signed_item, unsigned_item, read_to, char_item, digits, behind_digits, behind_blanks, number_behind}
+use Rattle.pfc_values.specs.Inputs.{Item, item, is_digit, is_blank, signed_item, unsigned_item, read_to, char_item, digits, behind_digits, behind_blanks, number_behind}
 use Rattle.pfc_sched.specs.Words.{word}
 use Rattle.pfc_sched.specs.Draws.{drawn}
 use Rattle.pfc_semantics.specs.Operators.{signed, added, multiplied, applied}
-use Rattle.pfc_semantics.specs.Predeclared.{Function, abs, sqr, odd, ord, chr, succ, pred, eof, eoln, empty, clock, random, no_function}
+use Rattle.pfc_semantics.specs.Predeclared.{Function, abs, sqr, odd, chr, succ, pred}
 use Rattle.pfc_number_laws.specs.Fitting.{Fits, FitsOutcome}
 use Rattle.pfc_number_laws.specs.Configurations.{AreBytes}
 

@@ -1,9 +1,8 @@
 -- First values of variables have numbers of 32 bits, where there are no more objects than such numbers.
-use Rattle.std.proofs.Common.{◌≡◌, ℕ, zero, suc, ◌+◌, ◌≤◌, pos, Bool, true, false, List, [], ◌∷◌, ◌++◌, length, length-append, get_or, Option, Some, None, refl, arith}
+use Rattle.std.proofs.Common.{ℕ, zero, suc, ◌+◌, ◌≤◌, pos, List, [], ◌∷◌, ◌++◌, length, length-append, Option, Some, None, refl, arith}
 use Rattle.std.proofs.lemmas.Bool.Decides.{nat_tests}
 use Rattle.std.specs.Prelude.{fold}
 use Rattle.std.specs.List.{AllByRecursion}
-use Rattle.pfc_tree.specs.Symbols.{Text}
 use Rattle.pfc_types.specs.Types.{Forms, extent}
 use Rattle.pfc_types.specs.Fields.{FieldList}
 use Rattle.pfc_types.specs.Scopes.{Names, scope_at}
@@ -13,8 +12,8 @@ use Rattle.pfc_types.specs.declared.types.TypeForm.{TypeForm}
 use Rattle.pfc_types.specs.declared.types.TypeForm.TheVariants.{Channel, Array, Record, Process}
 use Rattle.pfc_types.specs.declared.scope.Meaning.{Meaning}
 use Rattle.pfc_types.specs.declared.scope.Meaning.TheVariants.{Variable, Process as Single, Module}
-use Rattle.pfc_semantics.specs.Values.{Value, ordinal, compound, copies}
-use Rattle.pfc_semantics.specs.Objects.{first_of, first_fields, first_form, first_next, all_first, Objects, no_objects, Numbered, Numbering, unnumbered, a_semaphore, a_channel, a_condition, a_process, numbering_of, one_more, numbered_copies, numbered_fields, as_compound, numbering_form, predeclared_numberings, numbering_next, all_numberings, one_before, alone, numbered_names, module_number, of_main, numbered_main, main_objects}
+use Rattle.pfc_semantics.specs.Values.{Value, ordinal, copies}
+use Rattle.pfc_semantics.specs.Objects.{first_of, first_fields, first_next, all_first, Objects, no_objects, Numbered, Numbering, unnumbered, a_semaphore, a_channel, a_condition, a_process, numbering_of, numbered_copies, numbered_fields, predeclared_numberings, numbering_next, all_numberings, numbered_names, module_number, of_main, numbered_main, main_objects}
 use Rattle.pfc_number_laws.specs.Fitting.{Fits, FitsValue, FitValues, FitList}
 use Rattle.pfc_number_laws.specs.Objects.{AreFew}
 use Rattle.pfc_number_laws.proofs.Lists.{all_append, all_push, all_get}

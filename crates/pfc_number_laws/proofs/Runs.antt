@@ -1,30 +1,27 @@
 -- Wherever a run comes all numbers have 32 bits.
-use Rattle.std.proofs.Common.{◌≡◌, ℕ, ◌+◌, ◌≤◌, Bool, true, false, if◌then◌else◌, List, [], ◌∷◌, ◌++◌, length, map, Option, Some, None, Result, Ok, Err, refl}
+use Rattle.std.proofs.Common.{ℕ, Bool, true, false, if◌then◌else◌, List, [], ◌∷◌, Some, Ok, Err}
 use Rattle.std.specs.Prelude.{◌==◌, ◌&&◌}
 use Rattle.std.specs.List.{AllByRecursion}
-use Rattle.pfc_base.specs.declared.faults.RunFault.{RunFault}
 use Rattle.pfc_state.specs.Stands.{Stand, may_end}
 use Rattle.pfc_world.specs.Tables.{Table}
 use Rattle.pfc_world.specs.Transitions.{ticked}
 use Rattle.pfc_world.specs.Settling.{may_all_end, settled}
 use Rattle.pfc_world.specs.Terminating.{wholly_settled}
-use Rattle.pfc_values.specs.Inputs.{without_returns, opened}
+use Rattle.pfc_values.specs.Inputs.{without_returns}
 use Rattle.pfc_semantics.specs.Store.{Store}
 use Rattle.pfc_semantics.specs.Programs.{Block, Program}
-use Rattle.pfc_semantics.specs.Remainders.{Action, Remainder, initials, delays, ends, in_names}
-use Rattle.pfc_semantics.specs.Rewriting.{next}
-use Rattle.pfc_semantics.specs.Statements.{behind}
-use Rattle.pfc_semantics.specs.Configurations.{Activity, Config, Effect, FaultAt, activity_of, with_activity, body_of, initialising, main_remainder, main_activity, declared_block, idle_activity, start, done_at, after}
+use Rattle.pfc_semantics.specs.Remainders.{Action, Remainder, initials, delays, in_names}
+use Rattle.pfc_semantics.specs.Configurations.{Activity, Config, Effect, activity_of, body_of, initialising, main_activity, idle_activity, start, done_at, after}
 use Rattle.pfc_types.specs.Blocks.{process_at}
 use Rattle.pfc_semantics.specs.Processes.{ended_activity, without_all}
 use Rattle.pfc_semantics.specs.Steps.{next_of, effect, line_of}
 use Rattle.pfc_semantics.specs.Events.{step}
 use Rattle.pfc_semantics.specs.Time.{ended_children, rooms_left, terminated_over, settled_config}
-use Rattle.pfc_number_laws.specs.Fitting.{Fits, FitsStore}
+use Rattle.pfc_number_laws.specs.Fitting.{FitsStore}
 use Rattle.pfc_number_laws.specs.Remainders.{FitsRemainder, FitsAction}
 use Rattle.pfc_number_laws.specs.Configurations.{FitsBlock, FitsProgram, FitsActivity, AreBytes, FitsConfig}
 use Rattle.pfc_number_laws.specs.Runs.{ComesTo, at_first, acts, TakesSmall}
-use Rattle.pfc_number_laws.proofs.Lists.{all_map, all_either}
+use Rattle.pfc_number_laws.proofs.Lists.{all_map}
 use Rattle.pfc_number_laws.proofs.Statements.{behind_fits}
 use Rattle.pfc_number_laws.proofs.Rewriting.{next_fits}
 use Rattle.pfc_number_laws.proofs.Stores.{without_all_fits}
@@ -88,9 +85,10 @@ module _ (g : Program) (program : FitsProgram g) where
   main_fits : FitsActivity (main_activity g)
   main_fits =
       record {
-        doing =
-            (program.main.env,
-            initialising_fits g.modules (in_names g.main.env (body_of g.main)) program.modules (program.main.env, body_fits g.main program.main));
+        doing = (
+          program.main.env,
+          initialising_fits g.modules (in_names g.main.env (body_of g.main)) program.modules (program.main.env, body_fits g.main program.main),
+        );
         activations = (tt, tt);
         hand = tt;
       }

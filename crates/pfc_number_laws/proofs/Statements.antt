@@ -1,36 +1,34 @@
 -- What comes next in a statement has only numbers of 32 bits.
-use Rattle.std.proofs.Common.{◌≡◌, ℕ, ◌+◌, ℤ, pos, ◌+ℤ◌, ◌-ℤ◌, Bool, true, false, if◌then◌else◌, List, [], ◌∷◌, ◌++◌, Option, Some, None, Result, Ok, Err, refl, arith}
+use Rattle.std.proofs.Common.{◌≡◌, ℕ, ◌+◌, ℤ, Bool, true, false, if◌then◌else◌, List, [], ◌∷◌, Option, Some, None, Result, Ok, Err, refl, arith}
 use Rattle.std.proofs.lemmas.Bool.Decides.{nat_tests}
-use Rattle.std.specs.Prelude.{int_lt, int_le}
 use Rattle.std.specs.Ordering.{int_eq}
 use Rattle.pfc_base.specs.declared.places.Place.{Place}
 use Rattle.pfc_base.specs.declared.faults.RunFault.{RunFault}
 use Rattle.pfc_tree.specs.Symbols.{Text}
-use Rattle.pfc_tree.specs.trees.Exprs.{ExprTree, DesigTree, SelectorTrees, ActualTree, ActualTrees, plain, related, sum, no_summands, more_summands, product, no_multipliers, more_multipliers, number, literal, negation, paren, applied as used, desig, no_selectors, more_selectors, index, field, actual, actual_width, no_actuals, more_actuals}
-use Rattle.pfc_tree.specs.trees.Stmts.{StmtTree, StmtTrees, BodyTree, ArmTrees, AcceptTree, empty, null, block, if_then, if_then_else, case_of, while_do, repeat_until, repeat_forever, for_do, cobegin, accepting, requeue, select, select_else, assign, send, receive, call, no_stmts, more_stmts, body, arm, no_arms, more_arms}
+use Rattle.pfc_tree.specs.trees.Exprs.{ExprTree, DesigTree, SelectorTrees, ActualTree, ActualTrees, plain, sum, no_summands, product, no_multipliers, applied as used, desig, no_selectors, more_selectors, actual, actual_width, no_actuals, more_actuals}
+use Rattle.pfc_tree.specs.trees.Stmts.{StmtTree, StmtTrees, ArmTrees, empty, null, block, if_then, if_then_else, case_of, while_do, repeat_until, repeat_forever, for_do, cobegin, accepting, requeue, select, select_else, assign, send, receive, call, no_stmts, more_stmts, body, arm, no_arms, more_arms}
 use Rattle.pfc_types.specs.Scopes.{meaning_of, meaning_in, scope_at}
-use Rattle.pfc_types.specs.Blocks.{Blocks, sub_at, module_at, process_at, entry_at}
-use Rattle.pfc_types.specs.rules.Expressions.{Env, find, as_desig, as_literal, expr_type, desig_type, selected}
+use Rattle.pfc_types.specs.Blocks.{sub_at, module_at, process_at, entry_at}
+use Rattle.pfc_types.specs.rules.Expressions.{Env, find, as_desig, expr_type, desig_type, selected}
 use Rattle.pfc_types.specs.rules.Calls.{last_field, before_last}
 use Rattle.pfc_types.specs.rules.Statements.{scopes_in, arm_scopes, alts_scopes, names_any}
-use Rattle.pfc_types.specs.declared.types.TypeId.{TypeId}
 use Rattle.pfc_types.specs.declared.scope.Meaning.{Meaning}
 use Rattle.pfc_types.specs.declared.scope.Meaning.TheVariants.{Variable, Sub, Module, Process, Entry, Predeclared}
 use Rattle.pfc_types.specs.declared.heads.Formal.{Formal}
 use Rattle.pfc_types.specs.declared.heads.SubHead.{SubHead}
 use Rattle.pfc_values.specs.Numbers.{is_true}
 use Rattle.pfc_values.specs.Pieces.{padded}
-use Rattle.pfc_semantics.specs.Values.{Value, ordinal, ordinal_of}
+use Rattle.pfc_semantics.specs.Values.{Value, ordinal_of}
 use Rattle.pfc_semantics.specs.Displays.{Spot, TypedSpot}
 use Rattle.pfc_semantics.specs.Predeclared.{Procedure, reader, writer, initial, wait, signal, delay, resume, sleep, no_procedure, procedure_of}
-use Rattle.pfc_semantics.specs.Remainders.{Context, Count, Offer, Open, Otherwise, Selecting, Remainder, Action, to_send, to_receive, to_accept, perform, turn, until, behind_pass, next_pass, write_on, read_on, at_coend, store_at, choose, choose_arm, while_true, until_true, count_from, count_to, show, show_wide, pad, set_count, delay_with, sleep_for, send_on, assign_to, input_to, activate_with, enter_with, initial_to, wait_at, signal_at, delay_at, resume_at, send_to, receive_from, receive_into, to_procedure, to_module, to_requeue, to_process, to_entry, writes, turns, prints, inputs, skips, joins, initials, waits, signals, delays, resumes, sleeps, meets}
-use Rattle.pfc_semantics.specs.Expressions.{spot_of, from_expr, from_desig, from_args, from_selectors}
-use Rattle.pfc_semantics.specs.Alternatives.{context, alternatives, select_begun, accepting_of, message_of, receiver_of, a_signal}
-use Rattle.pfc_semantics.specs.Statements.{behind, from_assign, as_string, from_piece, from_width, shown_as, from_shown, from_wide, from_string, from_wide_string, from_item, from_writes, item_of, from_input, from_reads, expr_of, behind_first, from_initial, from_delay, from_procedure, from_activation, from_entry_call, from_entry, name_in_process, process_of_type, from_process, from_field, from_called_variable, from_called_process, from_exported, from_module, from_called, from_call, from_requeue, plain_open, from_sent, from_send, from_received, from_receive, is_past, next_kept, counting, next_count, begin_pass, from_bounds, from_pass, again, from_until, are_labels, from_stmt, from_stmts, from_arms}
-use Rattle.pfc_number_laws.specs.Fitting.{Fits, FitsValue, FitsEnv}
+use Rattle.pfc_semantics.specs.Remainders.{Context, Count, Otherwise, Remainder, Action, to_send, to_receive, turn, until, next_pass, write_on, read_on, at_coend, store_at, choose, choose_arm, while_true, until_true, count_from, count_to, show, show_wide, pad, set_count, delay_with, sleep_for, send_on, assign_to, input_to, activate_with, enter_with, initial_to, wait_at, signal_at, delay_at, resume_at, send_to, receive_from, receive_into, to_procedure, to_module, to_requeue, to_process, to_entry, writes, turns, prints, inputs, skips, joins, initials, waits, signals, delays, resumes, sleeps, meets}
+use Rattle.pfc_semantics.specs.Expressions.{spot_of, from_expr, from_args}
+use Rattle.pfc_semantics.specs.Alternatives.{context, alternatives, select_begun, message_of, receiver_of}
+use Rattle.pfc_semantics.specs.Statements.{behind, from_assign, as_string, from_piece, from_width, shown_as, from_string, from_wide_string, from_item, from_writes, item_of, from_input, from_reads, expr_of, behind_first, from_initial, from_delay, from_procedure, from_activation, from_entry_call, from_entry, name_in_process, process_of_type, from_process, from_field, from_called_variable, from_called_process, from_exported, from_module, from_called, from_call, from_requeue, plain_open, from_sent, from_send, from_received, from_receive, is_past, next_kept, counting, next_count, begin_pass, from_bounds, from_pass, again, from_until, are_labels, from_stmt, from_stmts, from_arms}
+use Rattle.pfc_number_laws.specs.Fitting.{Fits, FitsEnv}
 use Rattle.pfc_number_laws.specs.Written.{FitsExpr, FitsDesig, FitSelectors, FitsActual, FitActuals, FitsPerhaps, FitsTarget, FitsStmt, FitStmts, FitArms}
-use Rattle.pfc_number_laws.specs.Remainders.{FitsOffer, FitsCount, FitsRemainder, FitsAction}
-use Rattle.pfc_number_laws.proofs.Expressions.{Goes, Arrives, either, ordinal_fits, expr_fits, desig_fits, args_fit, selectors_fit, argument_fits, reference_fits}
+use Rattle.pfc_number_laws.specs.Remainders.{FitsCount, FitsRemainder, FitsAction}
+use Rattle.pfc_number_laws.proofs.Expressions.{either, ordinal_fits, expr_fits, desig_fits, args_fit, selectors_fit, argument_fits, reference_fits}
 use Rattle.pfc_number_laws.proofs.Alternatives.{perhaps_unless, target_unless, begun_fits, accepted_fits, all_fit, alternatives_fit}
 
 pub behind_fits : (n : ℕ) (ss : StmtTrees) (k : Remainder) → FitStmts ss → FitsRemainder k → FitsRemainder (behind n ss k)

@@ -1,19 +1,18 @@
 -- What changes of configurations leave: activities, and the store.
-use Rattle.std.proofs.Common.{◌≡◌, ℕ, ◌+◌, pos, Bool, true, false, if◌then◌else◌, List, [], ◌∷◌, ◌++◌, map, Option, Some, None, Ok, Err, refl}
+use Rattle.std.proofs.Common.{ℕ, Bool, true, false, if◌then◌else◌, List, [], ◌∷◌, Option, Some, None, Ok, Err}
 use Rattle.std.specs.Prelude.{◌==◌, nat_le}
 use Rattle.std.specs.List.{AllByRecursion}
 use Rattle.pfc_base.specs.declared.faults.RunFault.TheVariants.{Stack}
-use Rattle.pfc_types.specs.rules.Expressions.{Env}
 use Rattle.pfc_world.specs.Tables.{Table}
 use Rattle.pfc_world.specs.Holders.{Held}
 use Rattle.pfc_world.specs.Semaphores.{Counted}
-use Rattle.pfc_semantics.specs.Values.{Value, points}
-use Rattle.pfc_semantics.specs.Store.{Store, with_room, without}
+use Rattle.pfc_semantics.specs.Values.{Value}
+use Rattle.pfc_semantics.specs.Store.{with_room, without}
 use Rattle.pfc_semantics.specs.Displays.{Spot}
 use Rattle.pfc_semantics.specs.Programs.{Block, Guard, Program, found_block, block_at}
-use Rattle.pfc_semantics.specs.Remainders.{Context, Argument, by_value, by_reference, Bar, Remainder, AwaitsValue, ends}
+use Rattle.pfc_semantics.specs.Remainders.{Context, Argument, by_value, by_reference, Remainder, AwaitsValue, ends}
 use Rattle.pfc_semantics.specs.Rewriting.{Doing, going, holding}
-use Rattle.pfc_semantics.specs.Configurations.{Mark, Caller, Activation, Activity, Hand, empty_hand, Config, Effect, body_of, nobody, activity_of, with_activity, doing_next, goes_on, holds, showing, location_for, value_for, written_for, passed, all_passed, with_table, with_counted, with_monitors, with_resources}
+use Rattle.pfc_semantics.specs.Configurations.{Mark, Caller, Activation, Activity, Hand, Config, Effect, body_of, nobody, activity_of, with_activity, doing_next, goes_on, holds, showing, location_for, value_for, written_for, passed, all_passed, with_table, with_counted, with_monitors, with_resources}
 use Rattle.pfc_semantics.specs.Calls.{most_cells, unless_full, new_number, new_values, activated, left_by}
 use Rattle.pfc_semantics.specs.Resources.{guarded_body}
 use Rattle.pfc_number_laws.specs.Fitting.{FitsValue, FitList, FitsEnv}

@@ -1,11 +1,10 @@
 -- The store, and first values of variables, with numbers of 32 bits.
-use Rattle.std.proofs.Common.{◌≡◌, ℕ, zero, suc, ◌+◌, pos, Bool, true, false, if◌then◌else◌, List, [], ◌∷◌, ◌++◌, length, get_or, set, drop, map, Option, Some, None, refl}
+use Rattle.std.proofs.Common.{ℕ, zero, suc, ◌+◌, pos, List, [], ◌∷◌, length, set, drop, map, refl}
 use Rattle.std.specs.Prelude.{◌==◌}
-use Rattle.std.specs.List.{AllByRecursion}
 use Rattle.pfc_types.specs.declared.scope.Meaning.{Meaning}
 use Rattle.pfc_types.specs.declared.scope.Meaning.TheVariants.{Variable}
 use Rattle.pfc_semantics.specs.Values.{Location, Value, Values, ordinal, compound, points, no_values, more_values, part_at, with_part_at, part_of, with_part_of, part, with_part, path_of}
-use Rattle.pfc_semantics.specs.Store.{Room, Store, values_in, variable, value_at, with_values, stored, without}
+use Rattle.pfc_semantics.specs.Store.{Store, values_in, variable, value_at, with_values, stored, without}
 use Rattle.pfc_semantics.specs.Objects.{first_laid}
 use Rattle.pfc_semantics.specs.Programs.{Block, Program}
 use Rattle.pfc_semantics.specs.Configurations.{Activation}

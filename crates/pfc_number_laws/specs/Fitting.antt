@@ -1,8 +1,7 @@
 -- Numbers that have 32 bits, and values that are made of such.
-use Rattle.std.specs.Prelude.{ℕ, ℤ, ◌≡◌, true, List, Option, Some, None, Ok, Err}
+use Rattle.std.specs.Prelude.{ℕ, ℤ, ◌≡◌, true, List, Option, Some, Ok, Err}
 use Rattle.std.specs.List.{AllByRecursion}
 use Rattle.pfc_types.specs.Scopes.{Names, Level, look}
-use Rattle.pfc_types.specs.declared.types.TypeId.{TypeId}
 use Rattle.pfc_types.specs.declared.scope.Meaning.{Meaning}
 use Rattle.pfc_types.specs.declared.scope.Meaning.TheVariants.{Constant}
 use Rattle.pfc_types.specs.rules.Expressions.{Env}

@@ -4,3 +4,4 @@ pub mod Remainders
 pub mod Configurations
 pub mod Runs
 pub mod Objects
+pub mod Tokens

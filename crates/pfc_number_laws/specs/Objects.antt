@@ -1,5 +1,5 @@
 -- How many objects there are.
-use Rattle.std.specs.Prelude.{ℕ, ◌≤◌, length}
+use Rattle.std.specs.Prelude.{◌≤◌, length}
 use Rattle.pfc_semantics.specs.Objects.{Objects}
 
 -- the number of each object has 32 bits

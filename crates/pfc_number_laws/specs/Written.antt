@@ -1,5 +1,5 @@
 -- Numbers that are written in a text have 32 bits: those of expressions and of constants. A number that a text can be read with has, and a char is a byte.
-use Rattle.std.specs.Prelude.{Option, Some, None, List, [], ◌∷◌}
+use Rattle.std.specs.Prelude.{Option, Some, None}
 use Rattle.std.specs.List.{AllByRecursion}
 use Rattle.pfc_tree.specs.declared.tree.Constant.{Constant}
 use Rattle.pfc_tree.specs.declared.tree.Constant.TheVariants.{Number, Named, Literal}

@@ -6,4 +6,7 @@
 
 mod laws;
 
-pub use laws::{counts_and_ranks_are_small, numbers_stay_small};
+pub use laws::{
+    checked_programs_have_small_numbers, checked_programs_take_small_numbers,
+    counts_and_ranks_are_small, numbers_stay_small,
+};

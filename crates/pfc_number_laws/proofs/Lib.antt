@@ -1,0 +1,17 @@
+pub mod Lists
+pub mod Numbers
+pub mod Expressions
+pub mod Alternatives
+pub mod Statements
+pub mod Rewriting
+pub mod Stores
+pub mod Steps
+pub mod Communications
+pub mod Effects
+pub mod Runs
+pub mod Objects
+pub mod Names
+pub mod Declarations
+pub mod Programs
+pub mod Few
+pub mod Tokens

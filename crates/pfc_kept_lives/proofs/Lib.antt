@@ -1,0 +1,5 @@
+pub mod Bound
+pub mod Finished
+pub mod Only
+pub mod Ended
+pub mod Ending

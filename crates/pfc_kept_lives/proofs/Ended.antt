@@ -313,7 +313,8 @@ module _ (facts : Facts) (m : Machine) (c : Config) (p : ℕ) (level : LivingLev
           words = words_then over.size;
           holds = subst (λ (x : Store). HoldsStore facts acting.homes entries x m.stacks (v.done + 1)) (sym left_is) holds_then;
           kinds =
-  XX
+              same_kinds facts acting.homes acting.entries c c' old.holds.objects
+              (record { known = objects_then.known; only = old.holds.objects.only }) refl activity_count old.kinds;
           children = λ away q less. over.quiet main_waits away q less;
           main = main_then;
           between = between_then;

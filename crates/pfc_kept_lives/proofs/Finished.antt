@@ -166,17 +166,17 @@ main_finished w there =
 
 -- ## The machine's table
 
--- has finished alike
-pub finished_alike : (facts : Facts) (w : Table) (p n : ℕ)
-    → finished (record (machine_table facts w) { acting = Some n }) p ≡ machine_table facts (finished w p)
-finished_alike facts w p n = by (is_released (set w.rows p Is_done))
-  where
-    abbrev before : Table
-    before = rested (placed (record (machine_table facts w) { acting = Some n }) p Is_done)
+module _ (facts : Facts) (w : Table) (p n : ℕ) where
+  abbrev before : Table
+  before = rested (placed (record (machine_table facts w) { acting = Some n }) p Is_done)
 
-    abbrev after : Table
-    after = rested (placed w p Is_done)
+  abbrev after : Table
+  after = rested (placed w p Is_done)
 
-    by : (b : Bool) → (if b then placed before 0 Is_ready else before) ≡ machine_table facts (if b then placed after 0 Is_ready else after)
-    by true = refl
-    by false = refl
+  by_release : (b : Bool) → (if b then placed before 0 Is_ready else before) ≡ machine_table facts (if b then placed after 0 Is_ready else after)
+  by_release true = refl
+  by_release false = refl
+
+  -- has finished alike
+  pub finished_alike : finished (record (machine_table facts w) { acting = Some n }) p ≡ machine_table facts (finished w p)
+  finished_alike = by_release (is_released (set w.rows p Is_done))

@@ -5,3 +5,8 @@ pub mod Parting
 pub mod Parts
 pub mod Owners
 pub mod Stopping
+pub mod Arguments
+pub mod Asking
+pub mod EntryCalls
+pub mod Accepting
+pub mod Accepts

@@ -10,3 +10,6 @@ pub mod Asking
 pub mod EntryCalls
 pub mod Accepting
 pub mod Accepts
+pub mod Ranges
+pub mod Anew
+pub mod Owner

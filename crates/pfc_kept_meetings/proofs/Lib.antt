@@ -1,0 +1,15 @@
+pub mod Tried
+pub mod Lenders
+pub mod Settled
+pub mod Parting
+pub mod Parts
+pub mod Owners
+pub mod Stopping
+pub mod Arguments
+pub mod Asking
+pub mod EntryCalls
+pub mod Accepting
+pub mod Accepts
+pub mod Ranges
+pub mod Anew
+pub mod Owner

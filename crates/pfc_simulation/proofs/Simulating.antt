@@ -49,20 +49,20 @@ use Rattle.pfc_simulation.proofs.Steps.{step_is, same_choice, same_choosing}
 -- ## The relation
 
 -- The machine agrees with a configuration that a run comes to, whose last action was no fault.
-record Relates (facts : Facts) (first : Config) (m : Machine) (c : Config) : Type 0 where
-  agrees : Agrees facts m c
-  reached : IsReached (program_in facts) first c
-  sound : c.fault ≡ None
-  alone : c.table.acting ≡ None
+pub record Relates (facts : Facts) (first : Config) (m : Machine) (c : Config) : Type 0 where
+  pub agrees : Agrees facts m c
+  pub reached : IsReached (program_in facts) first c
+  pub sound : c.fault ≡ None
+  pub alone : c.table.acting ≡ None
 
 module _ (facts : Facts) (first : Config) (m : Machine) (c : Config) (so : Relates facts first m c) where
-  agrees_then : Agrees facts (machine_settled m) (settled_config c)
+  pub agrees_then : Agrees facts (machine_settled m) (settled_config c)
   agrees_then = agrees_settled facts m c so.agrees
 
   reports_then : Reports facts (machine_settled m) (settled_config c)
   reports_then = agreeing_reports facts (machine_settled m) (settled_config c) agrees_then
 
-  agrees_here : AgreesHere m c
+  pub agrees_here : AgreesHere m c
   agrees_here =
       let now : Reports facts m c = agreeing_reports facts m c so.agrees in
       record {
@@ -125,43 +125,43 @@ module _
     (facts : Facts) (first : Config) (kept : AreKept (λ level n. IsNumbered level)) (numbered : AreNumbered facts) (numbers : TakeNumbers (program_in facts) first) (picking : Picking) (m : Machine)
     (c : Config) (p : ℕ) (so : Relates facts first m c) (pick : IsPicked picking (machine_settled m) p)
   where
-    abbrev image : PlainImage
+    abbrev pub image : PlainImage
     image = image_of facts.tree
 
-    abbrev g : Program
+    abbrev pub g : Program
     g = program_in facts
 
-    abbrev s : Machine
+    abbrev pub s : Machine
     s = machine_settled m
 
-    abbrev d : Config
+    abbrev pub d : Config
     d = settled_config c
 
     abbrev behind : Picking
     behind = after_pick picking s.world.rows
 
-    abbrev next : Action
+    abbrev pub next : Action
     next = next_of g d p
 
     reports : Reports facts s d
     reports = reports_then facts first m c so
 
-    rows : s.world.rows ≡ d.table.rows
+    pub rows : s.world.rows ≡ d.table.rows
     rows = ap (λ (w : Table). w.rows) reports.world
 
-    sound : d.fault ≡ None
+    pub sound : d.fault ≡ None
     sound = settled_fault c ∙ so.sound
 
-    goes : runs.ending_at d ≡ None
+    pub goes : runs.ending_at d ≡ None
     goes = same_ending s d sound rows ∙ pick.goes
 
-    represents : Represents facts s d
+    pub represents : Represents facts s d
     represents = still_represented facts s d (agrees_then facts first m c so) goes
 
-    picks : picked picking d.table.rows ≡ Process p
+    pub picks : picked picking d.table.rows ≡ Process p
     picks = ap (λ (xs : List Stand). picked picking xs) (sym rows) ∙ pick.picks
 
-    about : IsAboutToAct facts s d p
+    pub about : IsAboutToAct facts s d p
     about =
         let (within, ready) = picks_ready picking s.world.rows p pick.picks in
         let there : at d.table.rows p ≡ Is_ready = ap (λ (xs : List Stand). at xs p) (sym rows) ∙ ready_is (at s.world.rows p) ready in
@@ -237,8 +237,12 @@ module _
         };
       }
 
-    acts_alike_so : ActsAlike image g picking m c p (Relates facts first)
+    pub acts_alike_so : ActsAlike image g picking m c p (Relates facts first)
     acts_alike_so = acts_so acts (comes_so acts)
+
+    -- also where the action is a fault
+    pub agrees_behind : Agrees facts (step_of image picking m p).machine (behind_action g picking c p)
+    agrees_behind = let is = comes_so acts in is.agrees
 
 -- ## Any number of actions
 

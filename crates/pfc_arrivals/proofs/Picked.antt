@@ -36,7 +36,7 @@ choice_is (by_turn last) (suc n) = at_most 0 n (grind arith)
 choice_is (by_list picks item) (suc n) = at_most 0 n (grind arith)
 
 -- the numbers at a level are those of all
-numbered_at : (facts : Facts) (level : LivingLevel) → AreNumbered facts → HasSetting facts level → IsNumbered level
+pub numbered_at : (facts : Facts) (level : LivingLevel) → AreNumbered facts → HasSetting facts level → IsNumbered level
 numbered_at facts level numbered has = λ t same.
     has.number ∙ numbered
     ∙ ap (λ (g : Program). number_at (objects_of g)) (sym has.image.program ∙ same)

@@ -21,6 +21,7 @@ use Rattle.pfc_run_agreement.specs.Agreement.{ActsAlike}
 use Rattle.pfc_simulation.specs.Reached.{TakeNumbers, at_first}
 use Rattle.pfc_simulation.proofs.Simulating.{Relates, acts_alike_so, goes, picks}
 use Rattle.pfc_source_runs.specs.Points.{Point, first_point, point_behind, by_process, next_point, point_after, Passes}
+use Rattle.pfc_arrivals.specs.Arrivals.{AreNumbered, IsNumbered}
 
 -- The machine's stage is at the point: it agrees with the configuration, the same picks, and what was printed is the same.
 pub record IsAt (facts : Facts) (c : Config) (s : Stage) (t : Point) : Type 0 where
@@ -28,7 +29,7 @@ pub record IsAt (facts : Facts) (c : Config) (s : Stage) (t : Point) : Type 0 wh
   pub picks : s.picking ≡ t.picking
   pub printed : t.config.output ≡ c.output ++ s.printed
 
-module _ (facts : Facts) (c : Config) (kept : AreKept (λ level n. Unit {0})) (numbers : TakeNumbers (program_in facts) c) where
+module _ (facts : Facts) (c : Config) (kept : AreKept (λ level n. IsNumbered level)) (numbered : AreNumbered facts) (numbers : TakeNumbers (program_in facts) c) where
   abbrev image : PlainImage
   image = image_of facts.tree
 
@@ -44,7 +45,7 @@ module _ (facts : Facts) (c : Config) (kept : AreKept (λ level n. Unit {0})) (n
     t = step_of image s.picking s.machine p
 
     acts : ActsAlike image g s.picking s.machine d p (Relates facts c)
-    acts = acts_alike_so facts c kept numbers s.picking s.machine d p so.relates pick
+    acts = acts_alike_so facts c kept numbered numbers s.picking s.machine d p so.relates pick
 
     comes_on : IsAt facts c (behind_action image s p) (point_behind g (first_point s.picking d) p)
     comes_on = record {
@@ -58,8 +59,8 @@ module _ (facts : Facts) (c : Config) (kept : AreKept (λ level n. Unit {0})) (n
         let behind = acts.kept sound in
         record {
           process = p;
-          goes = goes facts c kept numbers s.picking s.machine d p so.relates pick;
-          picks = picks facts c kept numbers s.picking s.machine d p so.relates pick;
+          goes = goes facts c kept numbered numbers s.picking s.machine d p so.relates pick;
+          picks = picks facts c kept numbered numbers s.picking s.machine d p so.relates pick;
           sound = behind.sound;
         }
 
@@ -78,7 +79,7 @@ module _ (facts : Facts) (c : Config) (kept : AreKept (λ level n. Unit {0})) (n
       pub picks_so : picked t.picking (settled_config t.config).table.rows ≡ Process p
       picks_so =
           subst (λ (x : Point). picked x.picking (settled_config x.config).table.rows ≡ Process p) same
-          (picks facts c kept numbers s.picking s.machine t.config p so.relates pick)
+          (picks facts c kept numbered numbers s.picking s.machine t.config p so.relates pick)
 
       module _ (sound : (step_of image s.picking s.machine p).fault ≡ None) where
         pub passes_so : Passes g t

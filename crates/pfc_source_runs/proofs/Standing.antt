@@ -32,9 +32,10 @@ use Rattle.pfc_source_runs.proofs.Ending.{Ends, agreeing, uncounted as not_count
 use Rattle.pfc_source_runs.proofs.Turns.{ends_so}
 use Rattle.pfc_source_runs.proofs.Untried.{is_untried}
 use Rattle.pfc_source_runs.proofs.Ways.{way_to}
+use Rattle.pfc_arrivals.specs.Arrivals.{AreNumbered, IsNumbered}
 
 module _
-    (facts : Facts) (c : Config) (kept : AreKept (λ level n. Unit {0})) (numbers : TakeNumbers (program_in facts) c) (limit : ℕ) (picking : Picking)
+    (facts : Facts) (c : Config) (kept : AreKept (λ level n. IsNumbered level)) (numbered : AreNumbered facts) (numbers : TakeNumbers (program_in facts) c) (limit : ℕ) (picking : Picking)
     (m : Machine) (is : Represents facts m c) (new : Machine) (before after : Option (List ℕ))
   where
     abbrev image : PlainImage
@@ -57,11 +58,11 @@ module _
 
     ends : Ends facts limit first f h []
     ends =
-        ends_so facts kept limit first numbers limit 0 (first_stage picking m) (omega arith) (λ k low. absurd (omega (arith, low)))
-        (starts_at facts c kept numbers picking m is)
+        ends_so facts kept numbered limit first numbers limit 0 (first_stage picking m) (omega arith) (λ k low. absurd (omega (arith, low)))
+        (starts_at facts c kept numbered numbers picking m is)
 
     alike : AreRunsAlike f h c
-    alike = same_runs image g limit limit picking m c (goes_on_agreeing facts limit picking m c kept numbers is)
+    alike = same_runs image g limit limit picking m c (goes_on_agreeing facts limit picking m c kept numbered numbers is)
 
     -- ## At the end
 
@@ -77,11 +78,11 @@ module _
     broken : (point_is : Point → Type 0) (stage_is : Stage → Type 0) → ((s : Stage) (t : Point) → IsAt facts c s t → stage_is s → point_is t)
         → session.IsBrokenOff image limit f (first_stage picking m) stage_is before after → IsBrokenOff g limit h first point_is before after
     broken point_is stage_is so b =
-        let there : IsAt facts c (stage b.count) (point_after g b.count first) = comes_to facts c kept numbers picking m is b.count b.way.passed in
+        let there : IsAt facts c (stage b.count) (point_after g b.count first) = comes_to facts c kept numbered numbers picking m is b.count b.way.passed in
         record {
           count = b.count;
           left = b.left;
-          way = way_to g limit first b.count b.left b.way.sum (passes_to facts c kept numbers picking m is b.count b.way.passed);
+          way = way_to g limit first b.count b.left b.way.sum (passes_to facts c kept numbered numbers picking m is b.count b.way.passed);
           stands = so (stage b.count) (point_after g b.count first) there b.stands;
           bytes = (stage b.count).printed;
           output = there.printed;
@@ -122,7 +123,7 @@ module _
     wanting : session.IsWanting image limit f (first_stage picking m) new before after → IsWanting facts limit h first new before after
     wanting (was_refused b) =
         refused
-        (broken (λ t. IsUntried facts new t) (λ s. stages.IsUntried image s new) (λ s t so untried. is_untried facts c kept numbers s t so new untried) b)
+        (broken (λ t. IsUntried facts new t) (λ s. stages.IsUntried image s new) (λ s t so untried. is_untried facts c kept numbered numbers s t so new untried) b)
     wanting (was_worn_out wears machine front) = worn_out (worn ends wears machine front)
 
     -- ## All endings

@@ -34,8 +34,9 @@ use Rattle.pfc_simulation.proofs.Simulating.{Relates, agrees_then, agrees_here, 
 use Rattle.pfc_source_runs.specs.Points.{Point, by_process, point_behind, next_point, point_after, Passes}
 use Rattle.pfc_source_runs.proofs.Coming.{IsAt, picks_so, passes_so, comes_so}
 use Rattle.pfc_source_runs.proofs.Ending.{Ends, agreeing, uncounted, along, plain_ending, plain_deadlock, plain_limit, plain_script, plain_fault, fault_process, faulty_run}
+use Rattle.pfc_arrivals.specs.Arrivals.{AreNumbered, IsNumbered}
 
-module _ (facts : Facts) (kept : AreKept (λ level n. Unit {0})) (limit : ℕ) (first : Point) (numbers : TakeNumbers (program_in facts) first.config) where
+module _ (facts : Facts) (kept : AreKept (λ level n. IsNumbered level)) (numbered : AreNumbered facts) (limit : ℕ) (first : Point) (numbers : TakeNumbers (program_in facts) first.config) where
   abbrev image : PlainImage
   image = image_of facts.tree
 
@@ -126,27 +127,27 @@ module _ (facts : Facts) (kept : AreKept (λ level n. Unit {0})) (limit : ℕ) (
         alike_fault : x.fault ≡ fault_of e.fault
         alike_fault =
             let acts : ActsAlike image g s.picking s.machine t.config p (Relates facts first.config)
-            = acts_alike_so facts first.config kept numbers s.picking s.machine t.config p so.relates pick in
+            = acts_alike_so facts first.config kept numbered numbers s.picking s.machine t.config p so.relates pick in
             subst (λ (y : Picking). x.fault ≡ fault_of (agreement.behind_action g y t.config p).fault) so.picks acts.alike.fault
 
         agrees_so : Agrees facts x.machine e
         agrees_so =
             subst (λ (y : Picking). Agrees facts x.machine (agreement.behind_action g y t.config p)) so.picks
-            (agrees_behind facts first.config kept numbers s.picking s.machine t.config p so.relates pick)
+            (agrees_behind facts first.config kept numbered numbers s.picking s.machine t.config p so.relates pick)
 
         is_process : p < process_count facts
         is_process =
-            let there : Represents facts m d = represents facts first.config kept numbers s.picking s.machine t.config p so.relates pick in
-            let ready : IsAboutToAct facts m d p = about facts first.config kept numbers s.picking s.machine t.config p so.relates pick in
+            let there : Represents facts m d = represents facts first.config kept numbered numbers s.picking s.machine t.config p so.relates pick in
+            let ready : IsAboutToAct facts m d p = about facts first.config kept numbered numbers s.picking s.machine t.config p so.relates pick in
             subst (λ (size : ℕ). p < size) there.alike.words.processes ready.process
 
         point_on : next_point g t ≡ point_behind g t p
-        point_on = ap (λ (y : Pick). by_process t (point_behind g t) y) (picks_so facts first.config kept numbers s t so p pick)
+        point_on = ap (λ (y : Pick). by_process t (point_behind g t) y) (picks_so facts first.config kept numbered numbers s t so p pick)
 
         sound_on : x.fault ≡ None → EndsIn (behind_bytes x.printed (run_from image limit left x.picking x.machine)) (source_on p) s.printed
         sound_on is =
             let s' : Stage = behind_action image s p in
-            let ends = later s' (passes_so facts first.config kept numbers s t so p pick is) (comes_so facts first.config kept numbers s t so p pick is) in
+            let ends = later s' (passes_so facts first.config kept numbered numbers s t so p pick is) (comes_so facts first.config kept numbered numbers s t so p pick is) in
             behind_so x.printed (source_step g d p (sr.choice_among (picking_behind t.picking t.config) (choices_of g t.config p))).event
             (run_from image limit left x.picking x.machine)
             (sr.run_from g limit left (sr.behind_choice (picking_behind t.picking t.config) (choices_of g t.config p)) e) s.printed

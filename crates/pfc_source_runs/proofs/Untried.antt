@@ -25,6 +25,9 @@ use Rattle.pfc_simulation.proofs.Steps.{quiet_leads}
 use Rattle.pfc_source_runs.specs.Points.{Point}
 use Rattle.pfc_source_runs.specs.Standing.{IsUntried}
 use Rattle.pfc_source_runs.proofs.Coming.{IsAt, picks_so}
+use Rattle.pfc_arrivals.specs.Arrivals.{AreNumbered, IsNumbered}
+use Rattle.pfc_arrivals.proofs.Picked.{numbered_at}
+use Rattle.pfc_arrivals.proofs.Standing.{has_setting}
 
 first_choice : (n : ℕ) → 0 < max 1 n
 first_choice zero = grind arith
@@ -32,7 +35,7 @@ first_choice (suc n) = grind arith
 
 -- ## Where quiet instructions lead
 
-module _ (facts : Facts) (kept : AreKept (λ level n. Unit {0})) (m : Machine) (c : Config) (p : ℕ) (come : ComesToAction facts m c p) where
+module _ (facts : Facts) (kept : AreKept (λ level n. IsNumbered level)) (numbered : AreNumbered facts) (m : Machine) (c : Config) (p : ℕ) (come : ComesToAction facts m c p) where
   abbrev image : PlainImage
   image = image_of facts.tree
 
@@ -45,11 +48,11 @@ module _ (facts : Facts) (kept : AreKept (λ level n. Unit {0})) (m : Machine) (
       (record { run = come.run; few = come.few; is = k.is; can = k.can_step; no_move = k.no_move })
 
   stands_before : before_action image p m ≡ come.before
-  stands_before = stands_by (kept facts come.before c p 0 come.level next tt come.acting come.arrived (first_choice (choices (program_in facts) c p next)))
+  stands_before = stands_by (kept facts come.before c p 0 come.level next (numbered_at facts come.level numbered (has_setting facts come.before c p come.level come.acting)) come.acting come.arrived (first_choice (choices (program_in facts) c p next)))
 
 -- ## At a stage
 
-module _ (facts : Facts) (c : Config) (kept : AreKept (λ level n. Unit {0})) (numbers : TakeNumbers (program_in facts) c) (s : Stage) (t : Point)
+module _ (facts : Facts) (c : Config) (kept : AreKept (λ level n. IsNumbered level)) (numbered : AreNumbered facts) (numbers : TakeNumbers (program_in facts) c) (s : Stage) (t : Point)
     (so : IsAt facts c s t) (new : Machine) (is : stages.IsUntried (image_of facts.tree) s new) where
   abbrev m : Machine
   m = machine_settled s.machine
@@ -58,20 +61,20 @@ module _ (facts : Facts) (c : Config) (kept : AreKept (λ level n. Unit {0})) (n
   d = settled_config t.config
 
   represented : Represents facts m d
-  represented = represents facts c kept numbers s.picking s.machine t.config is.process so.relates is.picked
+  represented = represents facts c kept numbered numbers s.picking s.machine t.config is.process so.relates is.picked
 
   ready : IsAboutToAct facts m d is.process
-  ready = about facts c kept numbers s.picking s.machine t.config is.process so.relates is.picked
+  ready = about facts c kept numbered numbers s.picking s.machine t.config is.process so.relates is.picked
 
   untried_by : ComesToAction facts m d is.process → IsUntried facts new t
   untried_by come = record {
     process = is.process;
-    picks = picks_so facts c kept numbers s t so is.process is.picked;
+    picks = picks_so facts c kept numbered numbers s t so is.process is.picked;
     level = come.level;
     before = come.before;
     acting = come.acting;
     arrived = come.arrived;
-    machine = is.machine ∙ ap at_rest (stands_before facts kept m d is.process come);
+    machine = is.machine ∙ ap at_rest (stands_before facts kept numbered m d is.process come);
   }
 
   pub is_untried : IsUntried facts new t

@@ -125,6 +125,7 @@ module _ (facts : Facts) (level : LivingLevel) (arms : List Arm) where
           trial = called.trial;
           seen = called.seen;
           back = called.back;
+          accepts = called.accepts;
         },
         within,
         others,

@@ -124,6 +124,9 @@ kinds_still facts homes homes' entries entries' c c' before now counts activitie
         subst (λ n. is.0 < n) (sym activities) is.3,
         is.4,
       );
+  channel_numbers = λ l t v r lies form.
+      let object = object_formed (program_in facts).state.forms t (Channel v) refl form in
+      let is = old.channel_numbers l t v r (lay l (Some t) r lies object) form in (is.0, same_object l (Some t) r lies object ∙ is.1, is.2);
   channels = λ l m t u v w r s lies other one two same.
       let first = object_formed (program_in facts).state.forms t (Channel v) refl one in
       let second = object_formed (program_in facts).state.forms u (Channel w) refl two in
@@ -545,6 +548,7 @@ module _ (facts : Facts) (m : Machine) (c : Config) (p : ℕ) (level : LivingLev
       operands = fits (length (drop code.params s.operands)) (length below) (ap (λ (xs : List ℤ). length xs) is_left) s.spare
           (guards_room facts) acting.actor.spare;
       made = made_fits;
+      branches = tt;
     }
       where
         fits : (under count : ℕ) → under ≡ count → (spare guards : ℕ) → spare ≡ guards → count + code.operands + guards ≤ max s.room

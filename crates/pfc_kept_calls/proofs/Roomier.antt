@@ -53,7 +53,7 @@ module _ (facts : Facts) (homes : Homes) (entries : Entries) (store : Store) (ta
       (in_room e bigger)
   fits_larger level k e larger fits =
       let few = fits.operands in
-      record { operands = omega (arith, few, more); made = larger_for e _ bigger larger fits.made }
+      record { operands = omega (arith, few, more); made = larger_for e _ bigger larger fits.made; branches = fits.branches }
 
   first_larger : (level : LivingLevel) (w : ℤ) (latest : Communicating) (a : Activation) (e : Entry) → IsLarger latest.room bigger
       → IsFirst facts homes store p room level w latest a e → IsFirst facts homes store p room' level w (in_room latest bigger) a e

@@ -99,7 +99,7 @@ module _ (facts : Facts) (homes : Homes) (entries : Entries) (store : Store) (ta
   callers_turned room w last (a ∷ []) (e ∷ []) is = record {
     own = is.own;
     stands = stands_turned a e w is.own is.stands;
-    fits = record { operands = is.fits.operands; made = is.fits.made };
+    fits = record { operands = is.fits.operands; made = is.fits.made; branches = is.fits.branches };
     made = is.made;
     block = is.block;
     number = is.number;
@@ -118,7 +118,7 @@ module _ (facts : Facts) (homes : Homes) (entries : Entries) (store : Store) (ta
     record {
       own = called.own;
       stands = stands_turned a e w called.own called.stands;
-      fits = record { operands = called.fits.operands; made = called.fits.made };
+      fits = record { operands = called.fits.operands; made = called.fits.made; branches = called.fits.branches };
       made = called.made;
       home = called.home;
       at = called.at;

@@ -24,7 +24,7 @@ use Rattle.pfc_semantics.specs.Displays.{Spot, TypedSpot}
 use Rattle.pfc_semantics.specs.Predeclared.{Function, eof, eoln, empty, clock, no_function, function_of}
 use Rattle.pfc_semantics.specs.Programs.{block_number}
 use Rattle.pfc_semantics.specs.Expressions.{spot_of}
-use Rattle.pfc_translation.specs.Sites.{Site, at_line, forms_of, blocks_of, is_mains, layout_with, place_of}
+use Rattle.pfc_translation.specs.Sites.{Site, at_line, forms_of, blocks_of, is_mains, is_accept, layout_with, place_of}
 use Rattle.pfc_translation.specs.Addresses.{element_in, type_behind}
 use Rattle.pfc_translation.specs.Calls.{formals_cells}
 use Rattle.pfc_translation.specs.Operands.{arguments, results}
@@ -41,6 +41,10 @@ is_seen s i = is_mains (blocks_of s) i || list_any (λ (level : Level). level.sc
 -- the line of a place does not matter to its variables
 abbrev pub unlined : Site → Site
 unlined s = at_line s 0
+
+-- the scope is one in view in the body of the block or that of an accept in it, or its variables are main's
+abbrev pub is_in_block : Site → ℕ → Bool
+is_in_block s i = is_mains (blocks_of s) i || (list_any (λ (level : Level). level.scope == i) s.block.env.view || is_accept s.block i)
 
 abbrev pub variables_by : Site → ℕ → Option SubHead → ℕ
 variables_by s i (Some head) = length (layout_with s i)
@@ -119,7 +123,7 @@ FromOutside blocks n i sort = (i ≡ (module_at blocks n).scope) × (is_function
 abbrev pub ByRequeue : ℕ → SubSort → Type 0
 ByRequeue i sort = sort ≡ Guarded
 
--- A sub of the program has this scope and these parameters. It is declared in a scope in view or in one of main's, and is as is asked.
+-- A sub of the program has this scope and these parameters. It is declared in a scope in view in the block or in one of main's, and is as is asked.
 pub record IsOfSub (s : Site) (scope : ℕ) (formals : List Formal) (asked : ℕ → SubSort → Type 0) : Type 0 where
   pub number : ℕ
   pub among : number < length (blocks_of s).subs
@@ -128,7 +132,7 @@ pub record IsOfSub (s : Site) (scope : ℕ) (formals : List Formal) (asked : ℕ
   pub within : ℕ
   pub name : Text
   pub declared : meaning_in (scope_at (blocks_of s).scopes within) name ≡ Some (Sub number)
-  pub seen : is_seen s within ≡ true
+  pub seen : is_in_block s within ≡ true
   pub as_asked : asked within (sub_at (blocks_of s) number).sort
 
 -- a sub that is called, and leaves so many operands

@@ -15,7 +15,7 @@ use Rattle.pfc_types.specs.declared.heads.SubSort.TheVariants.{Function}
 use Rattle.pfc_name_laws.specs.Reached.{GivesSimple}
 use Rattle.pfc_semantics.specs.Expressions.{spot_of}
 use Rattle.pfc_translation.specs.Sites.{Site, forms_of, blocks_of}
-use Rattle.pfc_standing_code.specs.Typed.{StandsAt, IsDeclared, is_seen, TakesCells, LeavesCells}
+use Rattle.pfc_standing_code.specs.Typed.{StandsAt, IsDeclared, is_in_block, TakesCells, LeavesCells}
 use Rattle.pfc_type_laws.specs.Tables.{IsOfVariables, IsBuiltUp}
 
 -- how many operands a call leaves
@@ -23,7 +23,7 @@ abbrev pub left_behind : SubSort → ℕ
 left_behind (Function t) = 1
 left_behind sort = 0
 
--- The heading is that of a sub of the program, whose name stands in a scope that is in view, or in one of main's.
+-- The heading is that of a sub of the program, whose name stands in a scope that is in view in the block, or in one of main's.
 pub record IsNamedSub (s : Site) (head : SubHead) : Type 0 where
   pub number : ℕ
   pub among : number < length (blocks_of s).subs
@@ -31,7 +31,7 @@ pub record IsNamedSub (s : Site) (head : SubHead) : Type 0 where
   pub within : ℕ
   pub name : Text
   pub declared : meaning_in (scope_at (blocks_of s).scopes within) name ≡ Some (Sub number)
-  pub seen : is_seen s within ≡ true
+  pub seen : is_in_block s within ≡ true
 
 -- The block of a sub of the program takes the cells of its parameters, and leaves a function's value, which is of a simple type.
 pub record HasBlock (s : Site) (head : SubHead) : Type 0 where

@@ -39,7 +39,7 @@ use Rattle.pfc_image_cells.proofs.Subs.{program_named}
 use Rattle.pfc_image_cells.proofs.Layouts.{IsAt, get_there, found_place}
 use Rattle.pfc_image_cells.proofs.Formals.{result_stands}
 use Rattle.pfc_image_cells.proofs.Trees.{equal_number, mains_are, Fine, Placed, mains_hold, own_sub}
-use Rattle.pfc_standing_code.specs.Typed.{unlined, variables_by, variables_of, StandsAt, IsDeclared}
+use Rattle.pfc_standing_code.specs.Typed.{unlined, is_in_block, variables_by, variables_of, StandsAt, IsDeclared}
 use Rattle.pfc_typed_phrases.specs.Names.{left_behind, IsNamedSub, HasBlock, IsLaid, HavePlaces, AreKnown}
 use Rattle.pfc_typed_phrases.proofs.Seen.{or_last, own_variable}
 use Rattle.pfc_typed_phrases.proofs.Known.{names_known}
@@ -250,10 +250,18 @@ module _ (t : ProgramTree) (lawful : IsLawful (forget_program t)) (clean : broke
             of_scope f.scope (subst (λ (m : Meaning). Stands bs f.scope m) is (named_stands (finished t) (known t lawful clean) v x f h))
 
     -- it stands among the names of a scope in view
-    sub_named : (v : List Level) (a : Around) (l : ℕ) (x : Text) (n : ℕ) → meaning_of (found_in bs.scopes v x) ≡ Some (Sub n)
+    sub_named : (v : List Level) (a : Around) (l : ℕ) → Views v → (x : Text) (n : ℕ) → meaning_of (found_in bs.scopes v x) ≡ Some (Sub n)
         → IsNamedSub (at (finished t) v a l) (sub_at bs n)
-    sub_named v a l x n e = by (found_in bs.scopes v x) refl e
+    sub_named v a l view x n e = by (found_in bs.scopes v x) refl e
       where
+        in_block : (i : ℕ) → (sees b.env.view i ≡ true) ⊎ (is_accept b i ≡ true) → is_in_block (at (finished t) v a l) i ≡ true
+        in_block i (inl there) =
+            or_last (is_mains bs i) (list_any (λ (level : Level). level.scope == i) b.env.view || is_accept b i)
+            (or_first (list_any (λ (level : Level). level.scope == i) b.env.view) (is_accept b i) (any_sees b.env.view i there))
+        in_block i (inr own) =
+            or_last (is_mains bs i) (list_any (λ (level : Level). level.scope == i) b.env.view || is_accept b i)
+            (or_last (list_any (λ (level : Level). level.scope == i) b.env.view) (is_accept b i) own)
+
         in_scope : (o : Option ℕ) (f : Found) → f.scope ≡ o → found_in bs.scopes v x ≡ Some f → Stands bs o (Sub n) → f.meaning ≡ Sub n
             → IsNamedSub (at (finished t) v a l) (sub_at bs n)
         in_scope None f q h there is = absurd there
@@ -265,7 +273,7 @@ module _ (t : ProgramTree) (lawful : IsLawful (forget_program t)) (clean : broke
               within = i;
               name = x;
               declared = found_meaning bs.scopes v x f i h q ∙ ap Some is;
-              seen = or_last (is_mains bs i) (list_any (λ (level : Level). level.scope == i) v) (any_sees v i (found_sees bs.scopes v x f i h q));
+              seen = in_block i (view i (found_sees bs.scopes v x f i h q));
             }
 
         by : (o : Option Found) → found_in bs.scopes v x ≡ o → meaning_of o ≡ Some (Sub n) → IsNamedSub (at (finished t) v a l) (sub_at bs n)
@@ -285,7 +293,7 @@ module _ (t : ProgramTree) (lawful : IsLawful (forget_program t)) (clean : broke
         }
 
     pub places : (v : List Level) (a : Around) (l : ℕ) → Views v → HavePlaces (at (finished t) v a l)
-    places v a l view = record { variables = variables v a l view; subs = λ x n e. has_block v a l n (sub_found v x n e) (sub_named v a l x n e) }
+    places v a l view = record { variables = variables v a l view; subs = λ x n e. has_block v a l n (sub_found v x n e) (sub_named v a l view x n e) }
 
     -- ## Results
 
@@ -421,6 +429,7 @@ module _ (t : ProgramTree) (lawful : IsLawful (forget_program t)) (clean : broke
 
     exported : (v : List Level) (a : Around) (l k n : ℕ) (x : Text) → meaning_in (scope_at bs.scopes (module_at bs k).scope) x ≡ Some (Sub n)
         → (sub_at bs n).exported ≡ true → IsOpen (at (finished t) v a l) k n
+    unfolding has_block
     exported v a l k n x e marked =
         let i = (module_at bs k).scope in
         let below : n < length bs.subs =
@@ -436,7 +445,8 @@ module _ (t : ProgramTree) (lawful : IsLawful (forget_program t)) (clean : broke
               within = i;
               name = x;
               declared = e;
-              seen = or_first (is_mains bs i) (list_any (λ (level : Level). level.scope == i) v) (module_mains bs k);
+              seen = or_first (is_mains bs i) (list_any (λ (level : Level). level.scope == i) b.env.view || is_accept b i)
+                  (module_mains bs k);
             });
           };
           within = refl;

@@ -1,0 +1,4 @@
+pub mod Heads
+pub mod Fine
+pub mod Declared
+pub mod Parts

@@ -14,8 +14,6 @@ use Rattle.pfc_types.specs.Scopes.{Names, Level, scope_at, meaning_in}
 use Rattle.pfc_types.specs.Blocks.{State, no_sub, no_process, sub_at, process_at, note, declare, add_name, export_sub, open_scope}
 use Rattle.pfc_types.specs.declared.table.Held.{Held}
 use Rattle.pfc_types.specs.declared.heads.SubHead.{SubHead}
-use Rattle.pfc_types.specs.declared.heads.SubSort.{SubSort}
-use Rattle.pfc_types.specs.declared.heads.SubSort.TheVariants.{Guarded}
 use Rattle.pfc_types.specs.declared.heads.ProcessHead.{ProcessHead}
 use Rattle.pfc_types.specs.declared.scope.Meaning.{Meaning}
 use Rattle.pfc_types.specs.declared.scope.Meaning.TheVariants.{Constant, Named, Variable, Sub, Module, Process, Entry, Predeclared, Faulty}
@@ -25,11 +23,8 @@ use Rattle.pfc_type_laws.proofs.WalkTypes.{scope_pushed}
 use Rattle.pfc_main_names.proofs.Placed.{IsPlaced as HasItsPlace, IsAround}
 use Rattle.pfc_main_names.proofs.Owned.{held_begins}
 use Rattle.pfc_main_names.proofs.Walk.{begins_length}
+use Rattle.pfc_callee_laws.specs.Callees.{is_guarded_sort}
 use Rattle.pfc_callee_laws.proofs.Heads.{Keeps}
-
-abbrev pub is_guarded_sort : SubSort → Bool
-is_guarded_sort Guarded = true
-is_guarded_sort sort = false
 
 -- a name that is declared in a block, and is none of its parameters
 abbrev pub IsOwn : Meaning → Type 0

@@ -27,8 +27,9 @@ use Rattle.pfc_types.proofs.WalkDeclarations.{entries_walked, exports_kept}
 use Rattle.pfc_types.proofs.WalkStatements.{heading_opened, init_opened}
 use Rattle.pfc_types.proofs.WalkParts.{part_walked, parts_walked, sub_headed_walked, process_headed_walked}
 use Rattle.pfc_semantics.specs.Programs.{Block}
+use Rattle.pfc_callee_laws.specs.Callees.{is_guarded_sort}
 use Rattle.pfc_callee_laws.specs.Agreeing.{PartAgrees, PartsAgree, SubAgrees, ModuleAgrees, ProcessAgrees}
-use Rattle.pfc_callee_laws.proofs.Fine.{is_guarded_sort, IsOwn, IsFine, IsFineSub, AreFine, Fine, note_fine, open_fine, declare_fine, sub_fine as sub_added, process_fine as process_added, export_fine}
+use Rattle.pfc_callee_laws.proofs.Fine.{IsOwn, IsFine, IsFineSub, AreFine, Fine, note_fine, open_fine, declare_fine, sub_fine as sub_added, process_fine as process_added, export_fine}
 use Rattle.pfc_callee_laws.proofs.Declared.{OwnerFits, consts_fine, types_fine, vars_fine, IsBegun, heading_begun, accept_begun, parameters_alone, entries_fine, process_named_fine}
 
 sort_guarded : (s : State) (view : List Level) (kind : KindTree) → is_guarded_sort (sort_of s view kind) ≡ is_guarded kind

@@ -107,7 +107,7 @@ left_same head = by head.sort
     by (Function t) = refl
 
 -- each process has a scope of its own
-process_own :
+pub process_own :
     (heads : List ProcessHead) (n : ℕ)
     → ((m k : ℕ) → m < k → k < length heads → (get_or heads m no_process).scope < (get_or heads k no_process).scope) → n < length heads
     → process_with heads (get_or heads n no_process).scope ≡ Some (get_or heads n no_process)

@@ -1,0 +1,54 @@
+-- What is told once, of the program, of a block that is called or created.
+use Rattle.std.specs.Prelude.{ℕ, ◌<◌, ◌≡◌, Bool, true, false, List, [], ◌∷◌, length, Some}
+use Rattle.std.specs.List.{slice_get}
+use Rattle.pfc_code.specs.declared.images.Block.{Block as CodeBlock}
+use Rattle.pfc_tree.specs.trees.Parts.{ProgramTree}
+use Rattle.pfc_types.specs.Types.{is_simple}
+use Rattle.pfc_types.specs.declared.types.TypeId.{TypeId}
+use Rattle.pfc_types.specs.declared.heads.Formal.{Formal}
+use Rattle.pfc_types.specs.declared.heads.SubHead.{SubHead}
+use Rattle.pfc_types.specs.declared.heads.SubSort.{SubSort}
+use Rattle.pfc_types.specs.declared.heads.SubSort.TheVariants.{Guarded}
+use Rattle.pfc_types.specs.declared.scope.Meaning.{Meaning}
+use Rattle.pfc_types.specs.declared.scope.Meaning.TheVariants.{Variable}
+use Rattle.pfc_semantics.specs.Layouts.{sub_with}
+use Rattle.pfc_semantics.specs.Programs.{Block, block_at, block_number, layout_cells, program_of}
+use Rattle.pfc_translation.specs.Sites.{is_mains}
+use Rattle.pfc_translation.specs.Images.{image_of}
+use Rattle.pfc_standing_code.specs.Words.{AreKnown}
+use Rattle.pfc_call_laws.specs.Blocks.{Takes, own_variables}
+use Rattle.pfc_call_laws.specs.Around.{HasScopes}
+use Rattle.pfc_call_laws.specs.Calls.{HasNoObjects}
+
+abbrev pub is_guarded_sort : SubSort → Bool
+is_guarded_sort Guarded = true
+is_guarded_sort sort = false
+
+-- A block of the program is found by its scope, by which code knows its number, and the image has it. Its parameters stand first in its layout, of which each
+-- variable takes its cells. No part of its variables is an object, what is in view in its body is known there, and it is none of main's bodies.
+pub record IsActivated (t : ProgramTree) (scope : ℕ) (formals : List Formal) : Type 0 where
+  pub there : slice_get (program_of t).blocks (block_number (program_of t) scope) ≡ Some (block_at (program_of t) scope)
+  pub own_scope : (block_at (program_of t) scope).scope ≡ scope
+  pub code : CodeBlock
+  pub is : slice_get (image_of t).blocks (block_number (program_of t) scope) ≡ Some code
+  pub takes : Takes (program_of t) (block_at (program_of t) scope) formals code
+  pub cells : (block_at (program_of t) scope).cells ≡ layout_cells (program_of t).state.forms (block_at (program_of t) scope).layout
+  pub scopes : HasScopes (program_of t) (block_at (program_of t) scope)
+  pub objects : HasNoObjects (program_of t) (block_at (program_of t) scope)
+  pub known : AreKnown (program_of t) (block_at (program_of t) scope) [] (block_at (program_of t) scope).env
+  pub state : (block_at (program_of t) scope).env.state ≡ (program_of t).state
+  pub not_mains : is_mains (program_of t).state.blocks (block_at (program_of t) scope).scope ≡ false
+  pub apart : (i : ℕ) → slice_get ((program_of t).main ∷ (program_of t).modules) i ≡ Some (block_at (program_of t) scope) → ⊥
+
+-- the block of a sub: all its variables are of its own scope, and it has a guard where the sub is guarded
+pub record IsSubBlock (t : ProgramTree) (head : SubHead) : Type 0 where
+  pub activated : IsActivated t head.scope head.formals
+  pub headed : sub_with (program_of t).state.blocks.subs head.scope ≡ Some head
+  pub own : (j : ℕ) (m : Meaning) → slice_get (block_at (program_of t) head.scope).layout j ≡ Some m
+      → j < own_variables (program_of t) (block_at (program_of t) head.scope)
+
+-- the result of a function is a variable of a simple type, which stands behind the parameters
+pub record HasResultAt (t : ProgramTree) (head : SubHead) : Type 0 where
+  pub of_type : TypeId
+  pub simple : is_simple of_type ≡ true
+  pub laid : slice_get (block_at (program_of t) head.scope).layout (length head.formals) ≡ Some (Variable of_type false)

@@ -12,7 +12,7 @@ use Rattle.pfc_standing_code.specs.Words.{is_known, AreKnown}
 use Rattle.pfc_call_laws.proofs.Places.{or_cases, or_left, or_right}
 use Rattle.pfc_nesting_laws.proofs.Numbered.{Below}
 
-any_sees : (view : List Level) (i : ℕ) → list_any (λ (level : Level). level.scope == i) view ≡ true → sees view i ≡ true
+pub any_sees : (view : List Level) (i : ℕ) → list_any (λ (level : Level). level.scope == i) view ≡ true → sees view i ≡ true
 any_sees [] i h = absurd (cc)
 any_sees (l ∷ view) i h = by (l.scope == i) h (λ e. any_sees view i e)
   where

@@ -16,7 +16,7 @@ use Rattle.pfc_types.specs.rules.FaultyNames.{all_typed}
 use Rattle.pfc_types.specs.rules.Bodies.{level, passed, passed_part, passed_groups, passed_entries, part_scopes}
 use Rattle.pfc_name_laws.specs.Reached.{formal_meaning}
 use Rattle.pfc_semantics.specs.Layouts.{Layout, is_laid, laid_names, accepts_laid, process_layout, sub_layout_at}
-use Rattle.pfc_semantics.specs.Programs.{Block, part_blocks, parts_blocks, sub_blocks, module_blocks, process_blocks}
+use Rattle.pfc_semantics.specs.Programs.{Block, layout_cells, part_blocks, parts_blocks, sub_blocks, module_blocks, process_blocks}
 use Rattle.pfc_image_laws.specs.Levels.{sees}
 use Rattle.pfc_image_numbers.proofs.Rules.{and_left, and_right}
 use Rattle.pfc_image_cells.proofs.Layouts.{AreLaid}
@@ -26,9 +26,10 @@ use Rattle.pfc_nesting_laws.proofs.Numbered.{Every, every_append}
 
 -- ## Each block
 
--- The block is laid out as that of a sub, or as that of a process with its accepts. It sees its own scope.
+-- The block is laid out as that of a sub, or as that of a process with its accepts, and has the cells of its variables. It sees its own scope.
 pub record IsLaidBy (s : State) (b : Block) : Type 0 where
   pub sees_own : sees b.env.view b.scope ≡ true
+  pub cells : b.cells ≡ layout_cells s.forms b.layout
   pub layout : (b.layout ≡ sub_layout_at s.blocks b.scope)
       ⊎ (b.layout ≡ process_layout (scope_at s.blocks.scopes b.scope) (take b.accepts (drop b.next s.blocks.scopes)))
 
@@ -57,7 +58,7 @@ mutual
       let around = level i (passed (scope_at s.blocks.scopes i) n x) ∷ outer in
       let count = passed_groups (scope_at s.blocks.scopes next) 0 gs in
       every_append (IsLaidBy s) (parts_blocks s in_process next count around (next + 1) ps) _ (parts_laid s in_process next count around (next + 1) ps)
-      (record { sees_own = ap (λ (r : Bool). r || sees around next) (same_number next); layout = inl refl }, tt)
+      (record { sees_own = ap (λ (r : Bool). r || sees around next) (same_number next); cells = refl; layout = inl refl }, tt)
 
   module_laid : (s : State) (i n : ℕ) (outer : List Level) (next : ℕ) (m : ModuleTree) → Every (IsLaidBy s) (module_blocks s i n outer next m)
   module_laid s i n outer next (the_module x exports ps b last p) = parts_laid s false next 0 (level i n ∷ outer) (next + 1) ps
@@ -68,7 +69,7 @@ mutual
       let around = level i (passed (scope_at s.blocks.scopes i) n x) ∷ outer in
       let count = passed_entries own (passed_groups own 0 gs) es in
       every_append (IsLaidBy s) (parts_blocks s true next count around (next + 1) ps) _ (parts_laid s true next count around (next + 1) ps)
-      (record { sees_own = ap (λ (r : Bool). r || sees around next) (same_number next); layout = inr refl }, tt)
+      (record { sees_own = ap (λ (r : Bool). r || sees around next) (same_number next); cells = refl; layout = inr refl }, tt)
 
 -- ## Each variable
 

@@ -11,3 +11,5 @@ pub mod Images
 pub mod Laid
 pub mod Program
 pub mod Blocks
+pub mod Mains
+pub mod Calls

@@ -1,5 +1,5 @@
 -- What is told once, of the program, of a block that is called or created.
-use Rattle.std.specs.Prelude.{ℕ, ◌<◌, ◌≡◌, Bool, true, false, List, [], ◌∷◌, length, Some}
+use Rattle.std.specs.Prelude.{ℕ, ◌<◌, ◌≡◌, ◌||◌, Bool, true, false, List, [], ◌∷◌, length, Some, is_some}
 use Rattle.std.specs.List.{slice_get}
 use Rattle.pfc_code.specs.declared.images.Block.{Block as CodeBlock}
 use Rattle.pfc_tree.specs.trees.Parts.{ProgramTree}
@@ -13,11 +13,12 @@ use Rattle.pfc_types.specs.declared.scope.Meaning.{Meaning}
 use Rattle.pfc_types.specs.declared.scope.Meaning.TheVariants.{Variable}
 use Rattle.pfc_semantics.specs.Layouts.{sub_with}
 use Rattle.pfc_semantics.specs.Programs.{Block, block_at, block_number, layout_cells, program_of}
-use Rattle.pfc_translation.specs.Sites.{is_mains}
+use Rattle.pfc_translation.specs.Sites.{is_mains, is_accept, links_from}
 use Rattle.pfc_translation.specs.Images.{image_of}
+use Rattle.pfc_image_laws.specs.Levels.{sees}
 use Rattle.pfc_standing_code.specs.Words.{AreKnown}
 use Rattle.pfc_call_laws.specs.Blocks.{Takes, own_variables}
-use Rattle.pfc_call_laws.specs.Around.{HasScopes}
+use Rattle.pfc_call_laws.specs.Around.{scopes_around, HasScopes, IsNested}
 use Rattle.pfc_call_laws.specs.Calls.{HasNoObjects}
 
 abbrev pub is_guarded_sort : SubSort → Bool
@@ -52,3 +53,25 @@ pub record HasResultAt (t : ProgramTree) (head : SubHead) : Type 0 where
   pub of_type : TypeId
   pub simple : is_simple of_type ≡ true
   pub laid : slice_get (block_at (program_of t) head.scope).layout (length head.formals) ≡ Some (Variable of_type false)
+
+-- ## A call
+
+-- A sub that is called as is asked, from this block: it is declared in a scope that is in view there or in one of main's, so that it is nested in the block as
+-- its static link says; and its block has a guard where the sub is guarded.
+pub record IsCalledFrom (t : ProgramTree) (b : Block) (scope : ℕ) (formals : List Formal) (asked : ℕ → SubSort → Type 0) : Type 0 where
+  pub head : SubHead
+  pub own_scope : scope ≡ head.scope
+  pub own_formals : formals ≡ head.formals
+  pub sub : IsSubBlock t head
+  pub as_asked : asked (block_at (program_of t) scope).outer head.sort
+  pub guarded : is_some (block_at (program_of t) scope).guard ≡ is_guarded_sort head.sort
+  pub seen : (is_mains (program_of t).state.blocks (block_at (program_of t) scope).outer || sees b.env.view (block_at (program_of t) scope).outer) ≡ true
+  pub nested : IsNested (program_of t) b (block_at (program_of t) scope)
+      (links_from (program_of t).state.blocks b (block_at (program_of t) scope).outer)
+
+-- main's own body or an initialising one: it sees main's scopes alone, has no accepts, and the cells of its own layout
+pub record IsMainsBody (t : ProgramTree) (b : Block) : Type 0 where
+  pub mains : (i : ℕ) → sees b.env.view i ≡ true → is_mains (program_of t).state.blocks i ≡ true
+  pub alone : scopes_around (program_of t) b ≡ []
+  pub no_accept : (i : ℕ) → is_accept b i ≡ false
+  pub cells : b.cells ≡ layout_cells (program_of t).state.forms b.layout

@@ -74,7 +74,7 @@ module _ (s : State) (mains : ℕ → Bool) (is_block : ℕ → Block) where
       let count = passed_entries own (passed_groups own 0 gs) es in
       let around = level 0 (passed (scope_at s.blocks.scopes 0) n x) ∷ [] in
       let two = every_parted IsFound (parts_blocks s true next count around (next + 1) ps) _ found in
-      (ap (λ (b : Block). b.outer) two.1.0, parts_agree of_other true next count around (next + 1) ps (λ e. e) lawful.2 two.0)
+      (ap (λ (b : Block). b.outer) two.1.0, ap (λ (b : Block). is_some b.guard) two.1.0, parts_agree of_other true next count around (next + 1) ps (λ e. e) lawful.2 two.0)
 
   -- of a program, whose modules have main's scopes
   pub program_agrees : (n next : ℕ) (qs : PartTrees) → AreLawfulParts of_program (forget_parts qs) → mains 0 ≡ true

@@ -43,8 +43,8 @@ use Rattle.pfc_call_laws.specs.Calls.{HasNoObjects}
 use Rattle.pfc_typed_programs.specs.Bodies.{of_block}
 use Rattle.pfc_typed_programs.proofs.Blocks.{each_of, headed, known, HasScope, sub_has_block, sub_apart, sub_laid, sub_called, process_has_block, process_apart, process_no_sub, process_called, process_own}
 use Rattle.pfc_typed_programs.proofs.Bodies.{body_state}
-use Rattle.pfc_nesting_laws.proofs.Programs.{has_scopes, own_not_mains, no_accept, reached}
-use Rattle.pfc_callee_laws.specs.Callees.{IsActivated, IsSubBlock, HasResultAt}
+use Rattle.pfc_nesting_laws.proofs.Programs.{has_scopes, own_not_mains, no_accept, reached, main_alone, main_has_none, nested_in_mains}
+use Rattle.pfc_callee_laws.specs.Callees.{IsActivated, IsSubBlock, IsProcessBlock, HasResultAt}
 use Rattle.pfc_callee_laws.proofs.Fine.{IsOwn}
 use Rattle.pfc_callee_laws.proofs.Known.{are_known, own_is_known}
 use Rattle.pfc_callee_laws.proofs.Values.{simple_part_plain}
@@ -235,6 +235,7 @@ module _ (t : ProgramTree) (lawful : IsLawful (forget_program t)) (clean : broke
           activated = activated head.scope head.formals h (sub_apart t lawful clean n below) sub_takes sub_plain;
           headed = own_sub t n below;
           own = sub_own;
+          guarded = (of_sub t lawful n below).guard;
         }
 
     pub has_result : is_function_sort head.sort ≡ true → HasResultAt t head
@@ -373,5 +374,16 @@ module _ (t : ProgramTree) (lawful : IsLawful (forget_program t)) (clean : broke
             laid_true (IsPlainName (finished t).forms) own_names j m (names_plain t lawful its.scope (process_apart t lawful clean n below)) e is
         by (inr e) is = accepts_true (IsPlainName (finished t).forms) process_laid.accepts e.0 m process_laid.plain e.2 is
 
-    pub process_block : IsActivated t its.scope its.formals
-    process_block = activated its.scope its.formals there (process_apart t lawful clean n below) process_takes process_plain
+    none_some : (o : Option Guard) → is_some o ≡ false → o ≡ None
+    none_some None e = refl
+    none_some (Some w) e = absurd (cc)
+
+    pub process_block : IsProcessBlock t its
+    process_block =
+        record {
+          activated = activated its.scope its.formals there (process_apart t lawful clean n below) process_takes process_plain;
+          outer = (of_process t lawful n below).outer;
+          unguarded = none_some p.guard (of_process t lawful n below).guard;
+          nested = nested_in_mains t lawful g.main (main_alone t lawful) (main_has_none t lawful) (block_number g its.scope) p there.there
+              (subst (λ (i : ℕ). is_mains bs i ≡ true) (sym (of_process t lawful n below).outer) refl);
+        }

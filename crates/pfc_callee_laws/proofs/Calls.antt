@@ -116,6 +116,12 @@ module _ (t : ProgramTree) (lawful : IsLawful (forget_program t)) (clean : broke
         nested = subst (λ (i : ℕ). IsNested g b (block_at g i) (links_from bs b (block_at g i).outer)) same called.nested;
       }
 
+  pub called_at : (s : Site) (scope : ℕ) (formals : List Formal) (asked : ℕ → SubSort → Type 0) → s.program ≡ program_of t → IsBody t s.block
+      → IsOfSub s scope formals asked → IsCalledFrom t s.block scope formals asked
+  called_at s scope formals asked same body is =
+      called_from s.block s.env s.line scope formals asked body
+      (subst (λ (z : Program). IsOfSub (record s { program = z }) scope formals asked) same is)
+
   -- a sub that stands in a scope of main's is nested in each of main's bodies
   pub nested_in_main_code : (i k : ℕ) (b callee : Block) → slice_get (g.main ∷ g.modules) i ≡ Some b → slice_get g.blocks k ≡ Some callee
       → is_mains bs callee.outer ≡ true → IsNested g b callee (links_from bs b callee.outer)

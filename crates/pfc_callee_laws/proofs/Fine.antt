@@ -116,11 +116,12 @@ module _ (mains : ℕ → Bool) (block : ℕ → Block) where
     pub own : AreOwn scopes (length head.formals) head.scope
     pub guard : is_some (block head.scope).guard ≡ is_guarded_sort head.sort
 
-  -- a process is declared in the program
+  -- a process is declared in the program, and has no guard
   pub record IsFineProcess (scopes : List Names) (head : ProcessHead) : Type 0 where
     pub below : head.scope < length scopes
     pub own : AreOwn scopes (length head.formals) head.scope
     pub outer : (block head.scope).outer ≡ 0
+    pub guard : is_some (block head.scope).guard ≡ false
 
   pub record AreFine (forms : Forms) (scopes : List Names) (subs : List SubHead) (processes : List ProcessHead) : Type 0 where
     pub six : 6 ≤ length forms
@@ -193,6 +194,7 @@ module _ (mains : ℕ → Bool) (block : ℕ → Block) where
         below = (let more = length-append scopes ([] ∷ []) in let low = h.below in omega (arith, low, more));
         own = scope_pushed scopes head.scope (λ (names : Names). All (λ x. IsOwn x.1) (drop (length head.formals) names)) h.own (none_own (length head.formals));
         outer = h.outer;
+        guard = h.guard;
       }
 
   pub open_fine : (s : State) → Fine s → Fine (open_scope s)
@@ -271,6 +273,7 @@ module _ (mains : ℕ → Bool) (block : ℕ → Block) where
             below = (let low = f.below in omega (arith, low, size));
             own = own_then s.blocks.scopes i (length head.formals) head.scope x m below u f.own;
             outer = f.outer;
+            guard = f.guard;
           }
 
   pub declare_fine : (s : State) (i : ℕ) (x : Text × Place) (m : Meaning) → i < length s.blocks.scopes → IsFine s.forms s.blocks.subs i m → MayStand s i m

@@ -173,8 +173,9 @@ module _ (mains : ℕ → Bool) (is_block : ℕ → Block) where
       is_own true = tt
 
   process_headed_fine : (s : State) (i : ℕ) (outer : List Level) (many : Bool) (x : Text × Place) (gs : List GroupTree) → i < length s.blocks.scopes
-      → mains i ≡ true → (is_block (length s.blocks.scopes)).outer ≡ 0 → F s → F (process_headed s i outer many x gs)
-  process_headed_fine s i outer many x gs below main stands f =
+      → mains i ≡ true → (is_block (length s.blocks.scopes)).outer ≡ 0 → is_some (is_block (length s.blocks.scopes)).guard ≡ false → F s
+      → F (process_headed s i outer many x gs)
+  process_headed_fine s i outer many x gs below main stands unguarded f =
       let own = length s.blocks.scopes in
       let h = heading (open_scope s) own (here s.blocks.scopes i outer) gs in
       let head : ProcessHead = record { formals = h.formals; entries = length s.blocks.entries; scope = own } in
@@ -182,7 +183,8 @@ module _ (mains : ℕ → Bool) (is_block : ℕ → Block) where
       let there = begun.there in
       process_named_fine mains is_block (add_process h.state head) i many h.whole x (length s.blocks.processes) (omega (arith, below, there)) main
       (process_added mains is_block h.state.forms h.state.blocks.scopes h.state.blocks.subs h.state.blocks.processes head
-      (record { below = begun.there; own = parameters_alone mains is_block own h h.state.blocks.scopes refl begun; outer = stands }) begun.fine)
+      (record { below = begun.there; own = parameters_alone mains is_block own h h.state.blocks.scopes refl begun; outer = stands; guard = unguarded })
+      begun.fine)
 
   export_one : (s : State) (m : Option Meaning) (p : Place) → F s → F (export_state s m p)
   export_one s (Some (Sub n)) p f = by (may_export (sub_at s.blocks n))
@@ -282,9 +284,10 @@ module _ (mains : ℕ → Bool) (is_block : ℕ → Block) where
         note_fine mains is_block done (cells_rule (process_cells done own (length declared.blocks.scopes)) p)
         (body_fine declared (here declared.blocks.scopes own around) b
         (parts_fine elsewhere entered own around (next + 1) ps (omega (arith, first, second, at)) (omega (arith, at)) (inr refl)
-        (subst (λ (n : ℕ). PartsAgree mains is_block n (next + 1) ps) (sym at) a.1)
+        (subst (λ (n : ℕ). PartsAgree mains is_block n (next + 1) ps) (sym at) a.2)
         (entries_fine mains is_block headed own around 0 es (omega (arith, first))
-        (process_headed_fine s i outer many (x, p) gs (omega (arith, at, inside)) main (subst (λ (n : ℕ). (is_block n).outer ≡ 0) (sym at) a.0) f))))
+        (process_headed_fine s i outer many (x, p) gs (omega (arith, at, inside)) main (subst (λ (n : ℕ). (is_block n).outer ≡ 0) (sym at) a.0)
+        (subst (λ (n : ℕ). is_some (is_block n).guard ≡ false) (sym at) a.1) f))))
 
   -- ## The program
 

@@ -1,11 +1,12 @@
 -- Blocks that stand as the parts of a program say.
-use Rattle.std.specs.Prelude.{ℕ, ◌+◌, ◌≡◌, Bool, true, is_some}
+use Rattle.std.specs.Prelude.{ℕ, ◌+◌, ◌≡◌, Bool, true, false, is_some}
 use Rattle.pfc_tree.specs.trees.Parts.{PartTree, PartTrees, SubTree, ModuleTree, ProcessTree, consts, types, vars, sub_part, monitor, resource, process_part, no_parts, more_parts, sub, the_module, process}
 use Rattle.pfc_types.specs.rules.Bodies.{is_guarded, part_scopes}
 use Rattle.pfc_semantics.specs.Programs.{Block}
 
 -- The scopes of main are told, and the block of each scope. In these parts of the scope i, whose next scope has this number, each sub and each process has a
--- block that stands where it is declared, which has a guard where the text has one; and monitors and what declares processes are main's.
+-- block that stands where it is declared, which has a guard where the text has one, a process's in the program; and monitors and what declares processes
+-- are main's.
 module _ (mains : ℕ → Bool) (block : ℕ → Block) where
   abbrev mutual
     pub PartAgrees : ℕ → ℕ → PartTree → Type 0
@@ -29,4 +30,5 @@ module _ (mains : ℕ → Bool) (block : ℕ → Block) where
     ModuleAgrees next (the_module x exports ps b last p) = PartsAgree next (next + 1) ps
 
     pub ProcessAgrees : ℕ → ProcessTree → Type 0
-    ProcessAgrees next (process many x gs es ps b p) = ((block next).outer ≡ 0) × PartsAgree next (next + 1) ps
+    ProcessAgrees next (process many x gs es ps b p) =
+        ((block next).outer ≡ 0) × (is_some (block next).guard ≡ false) × PartsAgree next (next + 1) ps

@@ -1,5 +1,5 @@
 -- What is told once, of the program, of a block that is called or created.
-use Rattle.std.specs.Prelude.{ℕ, ◌<◌, ◌≡◌, ◌||◌, Bool, true, false, List, [], ◌∷◌, length, Some, is_some}
+use Rattle.std.specs.Prelude.{ℕ, ◌<◌, ◌≡◌, ◌||◌, Bool, true, false, List, [], ◌∷◌, length, Some, None, is_some}
 use Rattle.std.specs.List.{slice_get}
 use Rattle.pfc_code.specs.declared.images.Block.{Block as CodeBlock}
 use Rattle.pfc_tree.specs.trees.Parts.{ProgramTree}
@@ -7,6 +7,7 @@ use Rattle.pfc_types.specs.Types.{is_simple}
 use Rattle.pfc_types.specs.declared.types.TypeId.{TypeId}
 use Rattle.pfc_types.specs.declared.heads.Formal.{Formal}
 use Rattle.pfc_types.specs.declared.heads.SubHead.{SubHead}
+use Rattle.pfc_types.specs.declared.heads.ProcessHead.{ProcessHead}
 use Rattle.pfc_types.specs.declared.heads.SubSort.{SubSort}
 use Rattle.pfc_types.specs.declared.heads.SubSort.TheVariants.{Guarded}
 use Rattle.pfc_types.specs.declared.scope.Meaning.{Meaning}
@@ -47,6 +48,14 @@ pub record IsSubBlock (t : ProgramTree) (head : SubHead) : Type 0 where
   pub headed : sub_with (program_of t).state.blocks.subs head.scope ≡ Some head
   pub own : (j : ℕ) (m : Meaning) → slice_get (block_at (program_of t) head.scope).layout j ≡ Some m
       → j < own_variables (program_of t) (block_at (program_of t) head.scope)
+  pub guarded : is_some (block_at (program_of t) head.scope).guard ≡ is_guarded_sort head.sort
+
+-- The block of a process has no guard. It stands in the program, so it is nested in main's own body, next to it.
+pub record IsProcessBlock (t : ProgramTree) (head : ProcessHead) : Type 0 where
+  pub activated : IsActivated t head.scope head.formals
+  pub outer : (block_at (program_of t) head.scope).outer ≡ 0
+  pub unguarded : (block_at (program_of t) head.scope).guard ≡ None
+  pub nested : IsNested (program_of t) (program_of t).main (block_at (program_of t) head.scope) 0
 
 -- the result of a function is a variable of a simple type, which stands behind the parameters
 pub record HasResultAt (t : ProgramTree) (head : SubHead) : Type 0 where

@@ -8,3 +8,4 @@ pub mod Begun
 pub mod Newborn
 pub mod Others
 pub mod Created
+pub mod Numbers

@@ -9,3 +9,4 @@ pub mod Newborn
 pub mod Others
 pub mod Created
 pub mod Numbers
+pub mod Creating

@@ -2,7 +2,7 @@
 use Rattle.std.specs.Prelude.{ℕ, ◌≢◌, ◌<◌, ◌≡◌, ◌^◌, false, List, drop, All}
 use Rattle.pfc_code.specs.declared.instructions.Instr.TheVariants.{RET}
 use Rattle.pfc_tree.specs.trees.Parts.{ProgramTree}
-use Rattle.pfc_semantics.specs.Configurations.{Activation, of_monitor}
+use Rattle.pfc_semantics.specs.Configurations.{Mark, of_monitor, Activation}
 use Rattle.pfc_semantics.specs.Objects.{of_kind}
 use Rattle.pfc_semantics.specs.Programs.{program_of}
 use Rattle.pfc_semantics.specs.Remainders.{Action, finishes}
@@ -20,3 +20,8 @@ EndsInMonitor level n = ⊥
 -- procedures from outside waits for what it holds itself, and nobody else hands that over.
 abbrev pub AreOutside : ℕ → List Activation → Type 0
 AreOutside n activations = All (λ (a : Activation). a.mark ≢ of_monitor n) (drop 1 activations)
+
+-- the same where the activation at hand has entered a monitor, and nothing where it has not
+abbrev pub IsInOnce : Mark → List Activation → Type 0
+IsInOnce (of_monitor n) activations = AreOutside n activations
+IsInOnce mark activations = Unit {0}

@@ -5,4 +5,4 @@
 
 mod laws;
 
-pub use laws::{entries_are_kept, monitors_are_left, requeues_are_kept};
+pub use laws::{entries_are_kept, monitors_are_left, procedures_are_left, requeues_are_kept};

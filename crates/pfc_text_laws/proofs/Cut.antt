@@ -113,8 +113,7 @@ cut_fits place text cutting all (taken piece rest kind left begins behind is) ts
         → FitSymbols (symbols ts)
     by (tokens us last) behind is =
         subst (λ (xs : List Token). FitSymbols (symbols xs))
-        (tokens_same (record { kind = kind; place = place } ∷ us) ts last end (sym is ∙ same))
-        (
+        (tokens_same (record { kind = kind; place = place } ∷ us) ts last end (sym is ∙ same)) (
           piece_fits text piece rest (reading.Token kind) all begins,
           cut_fits (after place piece) rest (tokens us last) (rest_bytes text piece rest (reading.Token kind) all begins) behind us last refl,
         )

@@ -20,11 +20,11 @@ use Rattle.pfc_semantics.specs.Processes.{process_block, created, creates}
 use Rattle.pfc_semantics.specs.Remainders.{Context, Argument, Remainder, calls, to_process}
 use Rattle.pfc_semantics.specs.Rewriting.{going}
 use Rattle.pfc_semantics.specs.Calls.{cells_above, most_cells, unless_full}
-use Rattle.pfc_semantics.specs.Configurations.{Config, Effect, activity_of, goes_on, number_for, all_passed, declared_block}
+use Rattle.pfc_semantics.specs.Configurations.{Config, Effect, goes_on, all_passed, declared_block}
 use Rattle.pfc_translation.specs.Sites.{Site}
 use Rattle.pfc_translation.specs.Images.{image_of}
 use Rattle.pfc_stacks.specs.Refs.{number_of}
-use Rattle.pfc_stacks.specs.Stacks.{stack_of, operand, operands_of}
+use Rattle.pfc_stacks.specs.Stacks.{stack_of, operands_of}
 use Rattle.pfc_stacks.specs.Activations.{has_place, size_of, params_of}
 use Rattle.pfc_machines.specs.declared.machine.Machine.{Machine}
 use Rattle.pfc_machines.specs.Actions.{at_rest, Effect as MachineEffect}
@@ -32,7 +32,7 @@ use Rattle.pfc_machines.specs.Descriptors.{descriptor_of}
 use Rattle.pfc_machine_acts.specs.Performing.{silent, with_block}
 use Rattle.pfc_machine_acts.specs.Conditions.{CanCreate}
 use Rattle.pfc_own_actions.specs.Creating.{creation, created_by, IsProcess, creates as machine_creates}
-use Rattle.pfc_standing_code.specs.Settings.{Setting, of_own, site_of, IsBeside, IsAt}
+use Rattle.pfc_standing_code.specs.Settings.{of_own, site_of, IsBeside, IsAt}
 use Rattle.pfc_standing_code.specs.Effects.{Arm}
 use Rattle.pfc_standing_code.specs.TypedStatements.{IsProcessType}
 use Rattle.pfc_standing_code.specs.Words.{AreHeld, AreKnown, IsWord, IsObject, IsChecked}
@@ -46,7 +46,7 @@ use Rattle.pfc_representation.specs.Levels.{Facts, program_in, LivingLevel, Does
 use Rattle.pfc_representation.specs.Rooms.{own_address}
 use Rattle.pfc_representation.specs.Callers.{IsWithin}
 use Rattle.pfc_representation.specs.Machines.{goes_on as both_go_on}
-use Rattle.pfc_representation.specs.Acting.{IsActing, HasArrived}
+use Rattle.pfc_representation.specs.Acting.{IsActing}
 use Rattle.pfc_representation.specs.Actions.{ComeToSame, IsKept, AreKept}
 use Rattle.pfc_kept_own_actions.proofs.Alone.{refuse, can_go}
 use Rattle.pfc_kept_own_actions.proofs.Arrived.{has_setting, stack_there, code_there, code_line, acts_now, next_within}
@@ -56,7 +56,6 @@ use Rattle.pfc_kept_lives.specs.Creatable.{IsCreatable, AreCreatable, SinglesAre
 use Rattle.pfc_kept_lives.specs.Groups.{MayCreate, CreatesProcess}
 use Rattle.pfc_kept_lives.proofs.Makers.{IsMaker, is_maker}
 use Rattle.pfc_kept_lives.proofs.Numbers.{IsProcessNumber, process_number}
-use Rattle.pfc_kept_lives.proofs.Begun.{IsCreation}
 use Rattle.pfc_kept_lives.proofs.Created.{represents_created}
 
 -- ## What is created, and with what

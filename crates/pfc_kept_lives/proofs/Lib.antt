@@ -10,3 +10,4 @@ pub mod Others
 pub mod Created
 pub mod Numbers
 pub mod Creating
+pub mod Singles

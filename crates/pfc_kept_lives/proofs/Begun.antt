@@ -60,7 +60,7 @@ use Rattle.pfc_representation.specs.Acting.{IsActing}
 use Rattle.pfc_kept_own_actions.proofs.Arrived.{has_setting}
 use Rattle.pfc_kept_calls.proofs.Called.{g, w, outer, hold, hand, is_free}
 use Rattle.pfc_kept_calls.proofs.Calling.{first_values}
-use Rattle.pfc_kept_lives.specs.Creatable.{IsCreatable}
+use Rattle.pfc_kept_lives.proofs.Callees.{IsProcessBlock}
 use Rattle.pfc_kept_lives.proofs.Makers.{IsMaker}
 
 -- ## References
@@ -96,7 +96,7 @@ module _ (facts : Facts) (m : Machine) (c : Config) (p : ℕ) (level : LivingLev
     pub block : Block
     pub beside : IsBeside level.setting level.setting.block block
     pub known : AreKnown (program_in facts) block level.setting.accepts x.env
-    pub can : IsCreatable facts.tree callee k formals
+    pub can : IsProcessBlock facts.tree callee k formals
     pub held : AreHeld level.setting.view (site_of (outer facts m c p level acting) block x) formals given (stack_of m.stacks p).operands below
     pub process : callee ≡ process_block (program_in facts) n
     pub some : 1 ≤ n

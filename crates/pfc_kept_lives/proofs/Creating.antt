@@ -22,6 +22,7 @@ use Rattle.pfc_semantics.specs.Rewriting.{going}
 use Rattle.pfc_semantics.specs.Calls.{cells_above, most_cells, unless_full}
 use Rattle.pfc_semantics.specs.Configurations.{Config, Effect, goes_on, all_passed, declared_block}
 use Rattle.pfc_translation.specs.Sites.{Site}
+use Rattle.pfc_translation.specs.Objects.{objects_of}
 use Rattle.pfc_translation.specs.Images.{image_of}
 use Rattle.pfc_stacks.specs.Refs.{number_of}
 use Rattle.pfc_stacks.specs.Stacks.{stack_of, operands_of}
@@ -40,6 +41,7 @@ use Rattle.pfc_standing_code.specs.Performs.{Performs}
 use Rattle.pfc_standing_code.proofs.Checked.{checked_for}
 use Rattle.pfc_standing_images.specs.Images.{IsOfImage}
 use Rattle.pfc_standing_images.proofs.Wholes.{block_stands}
+use Rattle.pfc_object_laws.specs.Objects.{number_at}
 use Rattle.pfc_call_laws.proofs.Layouts.{layout_joined}
 use Rattle.pfc_call_laws.proofs.Passing.{left}
 use Rattle.pfc_representation.specs.Levels.{Facts, program_in, LivingLevel, DoesOn}
@@ -52,7 +54,9 @@ use Rattle.pfc_kept_own_actions.proofs.Alone.{refuse, can_go}
 use Rattle.pfc_kept_own_actions.proofs.Arrived.{has_setting, stack_there, code_there, code_line, acts_now, next_within}
 use Rattle.pfc_kept_calls.proofs.Called.{w, outer, hold, hand}
 use Rattle.pfc_kept_calls.proofs.Calling.{first_values}
-use Rattle.pfc_kept_lives.specs.Creatable.{IsCreatable, AreCreatable, SinglesAreNumbered}
+use Rattle.pfc_kept_lives.specs.Creatable.{AreCreatable}
+use Rattle.pfc_kept_lives.proofs.Callees.{IsProcessBlock, is_process_block}
+use Rattle.pfc_kept_lives.proofs.Singles.{SinglesAreNumbered, singles_numbered}
 use Rattle.pfc_kept_lives.specs.Groups.{MayCreate, CreatesProcess}
 use Rattle.pfc_kept_lives.proofs.Makers.{IsMaker, is_maker}
 use Rattle.pfc_kept_lives.proofs.Numbers.{IsProcessNumber, process_number}
@@ -63,7 +67,7 @@ use Rattle.pfc_kept_lives.proofs.Created.{represents_created}
 module _ (facts : Facts) (m : Machine) (c : Config) (p : ℕ) (level : LivingLevel) (acting : IsActing facts m c p level) (own : level.setting.trial ≡ of_own)
     (b : Block) (beside : IsBeside level.setting level.setting.block b) (x : Context) (known : AreKnown (program_in facts) b level.setting.accepts x.env)
     (v : Spot) (i : ℤ) (given : List Argument) (below : List ℤ) (declaration : ℕ) (k : ℕ) (callee : Block) (formals : List Formal)
-    (can : IsCreatable facts.tree callee k formals) (is_callee : callee ≡ declared_block (program_in facts) declaration)
+    (can : IsProcessBlock facts.tree callee k formals) (is_callee : callee ≡ declared_block (program_in facts) declaration)
     (held : AreHeld level.setting.view (site_of (outer facts m c p level acting) b x) formals given (stack_of m.stacks p).operands (i ∷ below))
     (maker : IsMaker facts m c p level acting own) (its : IsProcessNumber facts m c p level acting own b beside x known v i declaration) where
   abbrev q : Program
@@ -236,11 +240,16 @@ module _ (facts : Facts) (m : Machine) (c : Config) (p choice : ℕ) (level : Li
   all_can = may.creatable facts.tree same acting.alike.program
 
   singles : SinglesAreNumbered facts.tree facts.number
-  singles = subst (λ (f : ℤ → Option ℤ). SinglesAreNumbered facts.tree f) (has_setting facts m c p level acting).number
-      (may.singles facts.tree same acting.alike.program)
+  singles =
+      subst (λ (f : ℤ → Option ℤ). SinglesAreNumbered facts.tree f)
+      (sym (may.objects ∙ ap (λ (z : Program). number_at (objects_of z)) same) ∙ (has_setting facts m c p level acting).number)
+      (singles_numbered facts.tree acting.alike.program.lawful)
 
-  can : IsCreatable facts.tree (block_at g0 head.scope) number head.formals
-  can = all_can.each n (subst (λ (z : Program). n < length z.state.blocks.processes) same among)
+  among_all : n < length g0.state.blocks.processes
+  among_all = subst (λ (z : Program). n < length z.state.blocks.processes) same among
+
+  can : IsProcessBlock facts.tree (block_at g0 head.scope) number head.formals
+  can = is_process_block facts.tree acting.alike.program.lawful acting.alike.program.unbroken n among_all (all_can.each n among_all)
 
   known : AreKnown g0 b level.setting.accepts x.env
   known = subst (λ (z : Program). AreKnown z b level.setting.accepts x.env) same checked.known

@@ -1,13 +1,14 @@
+pub mod Callees
+pub mod Singles
 pub mod Bound
 pub mod Finished
 pub mod Only
 pub mod Ended
 pub mod Ending
 pub mod Makers
+pub mod Numbers
 pub mod Begun
 pub mod Newborn
 pub mod Others
 pub mod Created
-pub mod Numbers
 pub mod Creating
-pub mod Singles

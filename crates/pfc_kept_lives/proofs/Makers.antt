@@ -45,6 +45,7 @@ use Rattle.pfc_representation.specs.Acting.{IsActing}
 use Rattle.pfc_kept_own_actions.proofs.Arrived.{has_setting, code_there}
 use Rattle.pfc_kept_calls.proofs.Called.{g, a, w, outer, seen_here, hand, shows}
 use Rattle.pfc_kept_lives.specs.Creatable.{AreCreatable}
+use Rattle.pfc_kept_lives.proofs.Callees.{process_is_not_main}
 use Rattle.pfc_kept_lives.proofs.Only.{IsOnly, only_of}
 
 -- ## Another display
@@ -180,7 +181,8 @@ module _ (facts : Facts) (m : Machine) (c : Config) (p : ℕ) (level : LivingLev
       its.communications (activity_of q c p).activations (acting.entries p) ends acting.actor.stands.callers
 
   is_main : p ≡ 0
-  is_main = first_is_main q p (length (image_of facts.tree).processes) can.apart
+  is_main = first_is_main q p (length (image_of facts.tree).processes)
+      (process_is_not_main facts.tree acting.alike.program.lawful acting.alike.program.unbroken)
       (subst (λ k. p < k) acting.alike.words.processes acting.actor.process) (sym only.first.block ∙ block_is_main)
 
   number_zero : only.top.number ≡ 0

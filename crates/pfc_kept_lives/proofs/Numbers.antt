@@ -38,7 +38,7 @@ use Rattle.pfc_representation.specs.Levels.{Facts, program_in, LivingLevel}
 use Rattle.pfc_representation.specs.Acting.{IsActing}
 use Rattle.pfc_kept_calls.proofs.Called.{w, outer, hand}
 use Rattle.pfc_kept_calls.proofs.Ended.{number_back}
-use Rattle.pfc_kept_lives.specs.Creatable.{SinglesAreNumbered}
+use Rattle.pfc_kept_lives.proofs.Singles.{SinglesAreNumbered}
 
 form_is : (o : Option TypeForm) (n : ℕ) → process_form o ≡ Some n → o ≡ Some (OfProcess n)
 form_is (Some (OfProcess k)) n h = (let same : k ≡ n = (let both : Some k ≡ Some n = h in cc) in ap (λ i. Some (OfProcess i)) same)

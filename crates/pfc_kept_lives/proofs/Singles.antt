@@ -25,7 +25,13 @@ use Rattle.pfc_object_laws.proofs.Numbers.{AreFirst}
 use Rattle.pfc_object_laws.proofs.Mains.{forms, is_built, counted, all_kinds, numbered, layout_is, found, carried_count}
 use Rattle.pfc_main_names.proofs.Mains.{are_of_main}
 use Rattle.pfc_represented_start.proofs.Processes.{get_there, count_is}
-use Rattle.pfc_kept_lives.specs.Creatable.{SinglesAreNumbered}
+
+-- In the cell of each single process, which is a variable of main's, lies the number of a process of this declaration.
+abbrev pub SinglesAreNumbered : ProgramTree → (ℤ → Option ℤ) → Type 0
+SinglesAreNumbered t number =
+    (k n : ℕ) → slice_get (program_of t).main.layout k ≡ Some (Process n)
+    → (i : ℕ) × (number (pos (own_cells + cells_before (program_of t).state.forms (program_of t).main.layout k)) ≡ Some (pos i)) × (1 ≤ i)
+    × (i < length (image_of t).processes) × (declaration_of (program_of t) i ≡ n)
 
 module _ (t : ProgramTree) (lawful : IsLawful (forget_program t)) where
   mains : AreOfMain (finished t)

@@ -23,13 +23,15 @@ use Rattle.pfc_call_laws.specs.Calls.{HasNoObjects}
 use Rattle.pfc_object_laws.specs.Mains.{AreOfMain}
 use Rattle.pfc_main_names.proofs.Mains.{are_of_main}
 use Rattle.pfc_typed_programs.specs.Bodies.{IsCallee}
-use Rattle.pfc_typed_programs.proofs.Blocks.{process_called, process_apart, process_no_sub}
+use Rattle.pfc_typed_programs.proofs.Blocks.{process_called, process_among, process_apart, process_no_sub}
 use Rattle.pfc_typed_programs.proofs.Called.{called_stands}
 use Rattle.pfc_representation.specs.Levels.{number_in}
 use Rattle.pfc_represented_start.specs.Starts.{main_setting}
 use Rattle.pfc_represented_start.proofs.Setting.{main_scope, main_of_image, the_main_block}
 use Rattle.pfc_represented_start.proofs.Processes.{each, get_there, there_below, declared, count_is, labels, labelled_there}
+use Rattle.pfc_nesting_laws.proofs.Programs.{has_scopes}
 use Rattle.pfc_kept_lives.specs.Creatable.{IsCreatable}
+use Rattle.pfc_kept_lives.proofs.Declared.{IsDeclared, IsThere, declared_there, known_in}
 
 -- ## One block
 
@@ -61,9 +63,11 @@ not_nowhere scope (y ∷ ys) b there its none =
     let first : position (λ (c : Block). c.scope == scope) (y ∷ ys) ≡ Some 0 =
     ap (λ (r : Bool). cond (nat_lt (cond (not r) (1 + place) 0) (suc (length ys))) (Some (cond (not r) (1 + place) 0)) None) found
     ∙ ap (λ (r : Bool). cond r (Some 0) None) (less (length ys)) in
-    let no : Some 0 ≡ None = sym first ∙ none in
-    cc
+    first_not_none (position (λ (c : Block). c.scope == scope) (y ∷ ys)) first none
   where
+    first_not_none : (o : Option ℕ) → o ≡ Some 0 → o ≡ None → ⊥
+    first_not_none o h k = (let no : Some 0 ≡ None = sym h ∙ k in cc)
+
     same : (i : ℕ) → i ≡ scope → (i == scope) ≡ true
     same i h = grind (arith, h)
 
@@ -102,6 +106,15 @@ module _ (t : ProgramTree) (lawful : IsLawful (forget_program t)) (unbroken : br
     none_of_main zero there = not_main (sym (some_same g.main callee there))
     none_of_main (suc k) there = no_module k there
 
+    its_text : IsThere scope g.blocks
+    its_text = declared_there (finished t) 0 1 t.parts scope (process_among t lawful unbroken n among)
+
+    declared_so : IsDeclared callee
+    declared_so =
+        let found = its_text in
+        subst (λ (b : Block). IsDeclared b)
+        (sym (ap (λ i. block_at g i) (sym found.scope) ∙ (has_scopes t lawful found.k found.block found.there).by_scope)) found.is
+
     abbrev place : Option ℕ
     place = position (λ (c : Block). c.scope == scope) g.blocks
 
@@ -126,12 +139,12 @@ module _ (t : ProgramTree) (lawful : IsLawful (forget_program t)) (unbroken : br
           is = at.1.there;
           number = numbered;
           takes = can.takes at.0 (ap (λ k. slice_get (image_of t).blocks k) (sym numbered) ∙ at.1.there);
-          outer = can.outer;
+          outer = ap (λ i. is_mains g.state.blocks i) declared_so.outer;
           objects = can.objects;
-          unguarded = can.unguarded;
+          unguarded = declared_so.unguarded;
           no_sub = ap (λ i. sub_with g.state.blocks.subs i) called.own ∙ process_no_sub t lawful unbroken n among;
           apart = none_of_main;
-          known = can.known;
+          known = known_in g callee declared_so not_mains;
         }
 
   -- ## All processes

@@ -1,3 +1,4 @@
+pub mod Declared
 pub mod Callees
 pub mod Singles
 pub mod Bound

@@ -1,5 +1,5 @@
 -- What is told once, of a program, of its processes: of the blocks of their declarations, and of who creates them.
-use Rattle.std.specs.Prelude.{ℕ, ◌+◌, ◌≡◌, ◌≤◌, ◌<◌, true, List, [], length, drop, Some, None}
+use Rattle.std.specs.Prelude.{ℕ, ◌+◌, ◌≡◌, ◌≤◌, ◌<◌, List, length, drop, Some}
 use Rattle.std.specs.List.{slice_get}
 use Rattle.pfc_code.specs.declared.images.Block.{Block as CodeBlock}
 use Rattle.pfc_code.specs.declared.instructions.Instr.TheVariants.{NEW}
@@ -7,22 +7,16 @@ use Rattle.pfc_tree.specs.trees.Parts.{ProgramTree}
 use Rattle.pfc_types.specs.Blocks.{process_at}
 use Rattle.pfc_types.specs.declared.heads.Formal.{Formal}
 use Rattle.pfc_semantics.specs.Programs.{Block, block_at, program_of}
-use Rattle.pfc_translation.specs.Sites.{is_mains}
 use Rattle.pfc_translation.specs.Images.{image_of}
 use Rattle.pfc_machines.specs.Rooms.{end_of}
-use Rattle.pfc_standing_code.specs.Words.{AreKnown}
 use Rattle.pfc_call_laws.specs.Blocks.{Takes}
 use Rattle.pfc_call_laws.specs.Calls.{HasNoObjects}
 use Rattle.pfc_representation.specs.Levels.{number_in}
 
--- The block of a process: it is declared in one of main's scopes and has no guard; its parameters stand first in its layout, none of its variables is an
--- object, and what is in view in its body is known there.
+-- The block of a process: its parameters stand first in its layout, and none of its variables is an object.
 pub record IsCreatable (t : ProgramTree) (callee : Block) (formals : List Formal) : Type 0 where
   pub takes : (code : CodeBlock) → slice_get (image_of t).blocks (number_in (program_of t) callee) ≡ Some code → Takes (program_of t) callee formals code
-  pub outer : is_mains (program_of t).state.blocks callee.outer ≡ true
   pub objects : HasNoObjects (program_of t) callee
-  pub unguarded : callee.guard ≡ None
-  pub known : AreKnown (program_of t) callee [] callee.env
 
 -- The block of each declaration is such a one. Processes are created in main's code alone: what activates one stands in a `cobegin`, and that in the main
 -- body.

@@ -16,3 +16,6 @@ pub mod Alike
 pub mod Owner
 pub mod Known
 pub mod Parameters
+pub mod Giving
+pub mod Given
+pub mod Shown

@@ -1,6 +1,6 @@
 -- What is told of the accepts of a program, and of a run.
 use Rattle.std.specs.Prelude.{ℕ, ◌≡◌, ◌≢◌, ◌<◌, ◌==◌, ◌||◌, ◌&&◌, not, pos, Bool, true, List, [], ◌∷◌, length, get_or, Some, None}
-use Rattle.std.specs.List.{slice_get, list_all}
+use Rattle.std.specs.List.{slice_get, list_any, list_all}
 use Rattle.pfc_tree.specs.trees.Parts.{ProgramTree}
 use Rattle.pfc_types.specs.Blocks.{process_at}
 use Rattle.pfc_types.specs.Scopes.{Level}
@@ -62,9 +62,15 @@ pub record IsNewAccept (g : Program) (b : Block) (x : Context) (a : Accepting) (
   pub outside : Among (is_apart g b a.scope) x.env
   pub behind : InRemainder (is_apart g b a.scope) k
 
+-- the accepts that are open are accepts of the block, and others than this
+abbrev pub AreApart : Block → ℕ → List ℕ → Type 0
+AreApart b i accepts = (j : ℕ) → list_any (λ n. n == j) accepts ≡ true → (is_accept b j ≡ true) × (j ≢ i)
+
 -- an accept as a statement
 abbrev pub Accepts : LivingLevel → Action → Type 0
-Accepts level (meets x o k) = (a : Accepting) × (o.offer ≡ to_accept a) × IsNewAccept level.setting.program level.setting.block x a k
+Accepts level (meets x o k) =
+    (a : Accepting) × (o.offer ≡ to_accept a) × IsNewAccept level.setting.program level.setting.block x a k
+    × AreApart level.setting.block a.scope level.setting.accepts
 Accepts level n = ⊥
 
 -- ## Of a run

@@ -284,3 +284,139 @@ module _ (facts : Facts) (m : Machine) (c : Config) (homes : Homes) (entries : E
 
       lives_so : (n : ℕ) → keeps' n ≡ true → Lives entries n
       lives_so n may = kept_lives table' entries q lenders mine n main refl (by n (or_cases (n == act.number) (is.keeps n) may))
+
+  -- ## With the accept that begins
+
+  abbrev open_before : List ℕ
+  open_before = level.setting.accepts
+
+  new_or_known : (j : ℕ) → is_known g.state.blocks b (i ∷ open_before) j ≡ true → (is_known g.state.blocks b open_before j ≡ true) ⊎ (i ≡ j)
+  new_or_known j known =
+      by (or_cases (is_mains g.state.blocks j) (around || ((i == j) || among)) known)
+    where
+      around : Bool
+      around = list_any (λ n. n == j) (linked g.state.blocks b.env.view)
+
+      among : Bool
+      among = list_any (λ n. n == j) open_before
+
+      by_open : ((i == j) ≡ true) ⊎ (among ≡ true) → (is_known g.state.blocks b open_before j ≡ true) ⊎ (i ≡ j)
+      by_open (inl same_scope) = inr (same_of i j same_scope)
+      by_open (inr is) = inl (or_right (is_mains g.state.blocks j) (around || among) (or_right around among is))
+
+      by_around : (around ≡ true) ⊎ (((i == j) || among) ≡ true) → (is_known g.state.blocks b open_before j ≡ true) ⊎ (i ≡ j)
+      by_around (inl is) = inl (or_right (is_mains g.state.blocks j) (around || among) (or_left around among is))
+      by_around (inr is) = by_open (or_cases (i == j) among is)
+
+      by : (is_mains g.state.blocks j ≡ true) ⊎ ((around || ((i == j) || among)) ≡ true) → (is_known g.state.blocks b open_before j ≡ true) ⊎ (i ≡ j)
+      by (inl mains) = inl (or_left (is_mains g.state.blocks j) (around || among) mains)
+      by (inr other) = by_around (or_cases around ((i == j) || among) other)
+
+  with_new : (lenders : List ℕ) → SeenBefore lenders open_before → SeenThen (r ∷ lenders) (i ∷ open_before)
+  with_new lenders is =
+      record {
+        keeps = keeps';
+        chain = act.number ∷ drop 1 is.chain;
+        sees = λ y beside.
+            subst (λ (z : Block). Sees g homes entries new_store keeps' display z (i ∷ open_before) w (act.number ∷ drop 1 is.chain) view_then)
+            (sym (same_block_is y beside))
+            (sees_anew g alike.program.types.counted homes entries c.store new_store is.keeps keeps' display b open_before w is.chain level.setting.view
+            act.number home cells from to (i ∷ open_before) sees_b
+            (are_other is.keeps keeps' open_before (i ∷ open_before) is.chain sees_b
+            (λ n may. or_right (n == act.number) (is.keeps n || is_passed args n) (or_left (is.keeps n) (is_passed args n) may))
+            (or_left (act.number == act.number) (is.keeps act.number || is_passed args act.number) (is_same act.number act.number refl)) lives_so
+            (λ v t known links own_variable low high laid. let one = given_at (place_of here v) t low high laid in (
+              one.0,
+              one.1,
+              or_right (one.0.activation == act.number) (is.keeps one.0.activation || is_passed args one.0.activation)
+                  (or_right (is.keeps one.0.activation) (is_passed args one.0.activation) one.2),
+            )))
+            more);
+        keeps_these = λ n may. by n (or_cases (n == act.number) (is.keeps n || is_passed args n) may);
+      }
+    where
+      keeps' : ℕ → Bool
+      keeps' n = n == act.number || (is.keeps n || is_passed args n)
+
+      sees_b : Sees g homes entries c.store is.keeps display b open_before w is.chain level.setting.view
+      sees_b = is.sees b checked.beside
+
+      more : (j : ℕ) → is_known g.state.blocks b (i ∷ open_before) j ≡ true
+          → (is_known g.state.blocks b open_before j ≡ true)
+          ⊎ IsNewScope g alike.program.types.counted homes entries c.store new_store is.keeps keeps' display b open_before w is.chain level.setting.view
+          act.number home cells from to (i ∷ open_before) j
+      more j known = by_scope (new_or_known j known)
+        where
+          at_i : IsNewScope g alike.program.types.counted homes entries c.store new_store is.keeps keeps' display b open_before w is.chain level.setting.view
+              act.number home cells from to (i ∷ open_before) i
+          at_i =
+              record {
+                frame = giving.frame_is facts m c homes entries alike q level stands own there processes b x checked acc accepts typed runs of_block ∙ ap (λ n. record { scope = i; activation = act.number; first = n }) (sym (giving.before_is facts m c homes entries alike q level stands own there processes b x checked acc accepts typed runs of_block));
+                links = giving.links_new facts m c homes entries alike q level stands own there processes b x checked acc accepts typed runs of_block;
+                laid = giving.laid_new facts m c homes entries alike q level stands own there processes b x checked acc accepts typed runs of_block;
+                low = λ v same_scope few.
+                    low from v.variable (laid_before here v.scope) (ap (λ n. laid_before here n) same_scope ∙ giving.before_is facts m c homes entries alike q level stands own there processes b x checked acc accepts typed runs of_block);
+                high = λ v same_scope few.
+                    high from v.variable (laid_before here v.scope) (length parameters) (ap (λ n. laid_before here n) same_scope ∙ giving.before_is facts m c homes entries alike q level stands own there processes b x checked acc accepts typed runs of_block)
+                    (subst (λ n. v.variable < n) (giving.variables_new facts m c homes entries alike q level stands own there processes b x checked acc accepts typed runs of_block) few);
+              }
+            where
+              low : (f k l : ℕ) → l ≡ f → f ≤ l + k
+              low f k l is = grind (arith, is)
+
+              high : (f k l p : ℕ) → l ≡ f → k < p → l + k < f + p
+              high f k l p is less = grind (arith, is, less)
+
+          by_scope : (is_known g.state.blocks b open_before j ≡ true) ⊎ (i ≡ j)
+              → (is_known g.state.blocks b open_before j ≡ true)
+              ⊎ IsNewScope g alike.program.types.counted homes entries c.store new_store is.keeps keeps' display b open_before w is.chain level.setting.view
+              act.number home cells from to (i ∷ open_before) j
+          by_scope (inl before) = inl before
+          by_scope (inr same_scope) =
+              inr
+              (subst
+              (λ n. IsNewScope g alike.program.types.counted homes entries c.store new_store is.keeps keeps' display b open_before w is.chain level.setting.view
+              act.number home cells from to (i ∷ open_before) n) same_scope at_i)
+
+      by_kept : (n : ℕ) → (is.keeps n ≡ true) ⊎ (is_passed args n ≡ true) → MayKeep table' entries q (r ∷ lenders) mine n
+      by_kept n (inl may) = more_lenders table' entries q r lenders mine n (kept_still q lenders n (is.keeps_these n may))
+      by_kept n (inr passed) =
+          lent q (r ∷ lenders) mine n 0 r lenders_r refl met (kept_still r lenders_r n (may_lend c.table entries r lenders_r args n kept passed))
+
+      by : (n : ℕ) → ((n == act.number) ≡ true) ⊎ ((is.keeps n || is_passed args n) ≡ true) → MayKeep table' entries q (r ∷ lenders) mine n
+      by n (inl same_number) =
+          subst (λ j. MayKeep table' entries q (r ∷ lenders) mine j) (sym (same_of n act.number same_number))
+          (of_own_stack q (r ∷ lenders) mine act.number own_among)
+      by n (inr may) = by_kept n (or_cases (is.keeps n) (is_passed args n) may)
+
+      lives_so : (n : ℕ) → keeps' n ≡ true → Lives entries n
+      lives_so n may =
+          kept_lives table' entries q (r ∷ lenders) mine n main refl (by n (or_cases (n == act.number) (is.keeps n || is_passed args n) may))
+
+  -- ## With all of them
+
+  apart_later : (j : ℕ) (open_ones : List ℕ) → AreApart b i (j ∷ open_ones) → AreApart b i open_ones
+  apart_later j open_ones open_apart n among = open_apart n (or_right (j == n) (list_any (λ y. y == n) open_ones) among)
+
+  through_outer : (others open_ones meetings : List ℕ) → AreApart b i open_ones
+      → SeesThrough facts homes entries c.store c.table q mine w display level.setting level.setting.block level.setting.view others open_ones meetings
+      → SeesThrough facts homes entries new_store table' q mine w display level.setting level.setting.block view_then others open_ones meetings
+  through_outer others [] [] open_apart is = with_outer others [] open_apart is
+  through_outer others (j ∷ open_ones) (p ∷ meetings) open_apart is = (
+    with_outer (p ∷ meetings ++ others) (j ∷ open_ones) open_apart is.0,
+    through_outer others open_ones meetings (apart_later j open_ones open_apart) is.1,
+  )
+  through_outer others [] (p ∷ meetings) open_apart is = absurd is
+  through_outer others (j ∷ open_ones) [] open_apart is = absurd is
+
+  pub seen_then : (others : List ℕ)
+      → SeesThrough facts homes entries c.store c.table q mine w display level.setting level.setting.block level.setting.view others open_before
+      level.setting.meetings
+      → SeesThrough facts homes entries new_store table' q mine w display level.setting level.setting.block view_then others (i ∷ open_before)
+      (r ∷ level.setting.meetings)
+  seen_then others is = (
+    with_new (level.setting.meetings ++ others)
+        (first_with facts homes entries c.store c.table q mine w display level.setting level.setting.block level.setting.view others open_before
+        level.setting.meetings is),
+    through_outer others open_before level.setting.meetings apart is,
+  )

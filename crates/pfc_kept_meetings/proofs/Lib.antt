@@ -19,3 +19,7 @@ pub mod Parameters
 pub mod Giving
 pub mod Given
 pub mod Shown
+pub mod Begins
+pub mod Untouched
+pub mod Caller
+pub mod Meets

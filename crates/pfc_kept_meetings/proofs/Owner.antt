@@ -28,7 +28,7 @@ use Rattle.pfc_cells.specs.Memory.{Entry, Entries}
 use Rattle.pfc_machines.specs.declared.machine.Machine.{Machine}
 use Rattle.pfc_machines.specs.Communications.{Communicating}
 use Rattle.pfc_machines.specs.Descriptors.{descriptor_of}
-use Rattle.pfc_standing_code.specs.Settings.{Trial, of_own, IsBeside, same_block, both_mains, site_of}
+use Rattle.pfc_standing_code.specs.Settings.{Trial, of_own, IsMains, IsBeside, same_block, both_mains, site_of}
 use Rattle.pfc_standing_code.specs.Performs.{own_block}
 use Rattle.pfc_standing_code.specs.TypedStatements.{AcceptsEntry}
 use Rattle.pfc_standing_code.specs.Typed.{variables_of}
@@ -156,6 +156,13 @@ module _ (facts : Facts) (m : Machine) (c : Config) (homes : Homes) (entries : E
   beside_same _ (both_mains y one two) =
       absurd
       (no_body one.0 b (ap (λ (z : Program). slice_get (z.main ∷ z.modules) one.0) (sym program_is) ∙ one.1 ∙ ap (λ (z : Block). Some z) setting_block) refl)
+
+  pub no_main : IsMains level.setting b → ⊥
+  no_main mains = no_body mains.0 b (ap (λ (z : Program). slice_get (z.main ∷ z.modules) mains.0) (sym program_is) ∙ mains.1) refl
+
+  pub beside_b : (y : Block) → IsBeside level.setting b y → y ≡ b
+  beside_b _ same_block = refl
+  beside_b _ (both_mains y one two) = absurd (no_main one)
 
   pub block_is : block_of level ≡ b
   block_is = ap (λ (t : Trial). own_block t level.setting.block) own ∙ setting_block

@@ -8,13 +8,13 @@ use Rattle.pfc_types.specs.declared.scope.Meaning.TheVariants.{Variable}
 use Rattle.pfc_world.specs.Tables.{Table, at}
 use Rattle.pfc_semantics.specs.Values.{Value, Location, ordinal, compound, points}
 use Rattle.pfc_semantics.specs.Displays.{Spot, Frame, Display, frame_of}
-use Rattle.pfc_semantics.specs.Layouts.{Layout, laid_names, sub_with}
+use Rattle.pfc_semantics.specs.Layouts.{Layout, is_laid, laid_names, sub_with}
 use Rattle.pfc_semantics.specs.Programs.{Block, Program}
 use Rattle.pfc_semantics.specs.Remainders.{Context, Accepting}
 use Rattle.pfc_semantics.specs.Rendezvous.{taken_from}
 use Rattle.pfc_semantics.specs.Store.{Store, values_in}
 use Rattle.pfc_semantics.specs.Configurations.{Activation, Config, activity_of}
-use Rattle.pfc_translation.specs.Sites.{Site, is_mains, linked, is_accept, before_accept, laid_before, layout_with, links_to, place_of}
+use Rattle.pfc_translation.specs.Sites.{Site, is_mains, linked, is_accept, before_accept, laid_before, layout_with, links_to, place_of, cell_of}
 use Rattle.pfc_stacks.specs.Refs.{word_of}
 use Rattle.pfc_stacks.specs.Stacks.{Stacks, stack_of, cells_of, last_activation, written}
 use Rattle.pfc_cells.specs.Homes.{Home, Homes}
@@ -44,6 +44,8 @@ use Rattle.pfc_representation.proofs.Kept.{may_keep}
 use Rattle.pfc_kept_messages.proofs.Others.{lender_waits}
 use Rattle.pfc_kept_meetings.specs.Owners.{HasTypedEntries}
 use Rattle.pfc_kept_meetings.specs.Accepts.{HasProcesses, KeepsAccepts, AreApart}
+use Rattle.pfc_kept_code.specs.Kept.{SeesAlike}
+use Rattle.pfc_kept_meetings.proofs.Alike.{seen_alike}
 use Rattle.pfc_kept_meetings.proofs.Anew as anew
 use Rattle.pfc_kept_meetings.proofs.Anew.{AreOther, IsNewScope, sees_anew}
 use Rattle.pfc_kept_meetings.proofs.Arguments.{first_with, seen_plainly}
@@ -145,7 +147,7 @@ module _ (facts : Facts) (m : Machine) (c : Config) (homes : Homes) (entries : E
       fits : (l f r p z o n v u : ℕ) → l ≡ f + r → r ≡ p + z → f ≡ o → n ≡ p → u ≡ l → u ≡ v → o + n ≤ v
       fits l f r p z o n v u one two three four five six = grind (arith, one, two, three, four, five, six)
 
-  places : (k : ℕ) → (from ≤ k → k < to → ⊥) → get_or new_values k (ordinal (pos 0)) ≡ get_or values k (ordinal (pos 0))
+  pub places : (k : ℕ) → (from ≤ k → k < to → ⊥) → get_or new_values k (ordinal (pos 0)) ≡ get_or values k (ordinal (pos 0))
   places k out =
       ap (λ (vs : List Value). get_or vs k (ordinal (pos 0))) new_is
       ∙ taken_other from args values k (λ low high. out low (subst (λ n. k < from + n) count high))
@@ -163,7 +165,7 @@ module _ (facts : Facts) (m : Machine) (c : Config) (homes : Homes) (entries : E
       near : (k f p : ℕ) → f ≤ k → k < f + p → k - f < p
       near k f p low high = omega (arith, low, high)
 
-  given_at : (k : ℕ) (t : TypeId) → from ≤ k → k < to → slice_get b.layout k ≡ Some (Variable t true)
+  pub given_at : (k : ℕ) (t : TypeId) → from ≤ k → k < to → slice_get b.layout k ≡ Some (Variable t true)
       → (l : Location) × (get_or new_values k (ordinal (pos 0)) ≡ points l) × (is_passed args l.activation ≡ true)
   given_at k t low high laid =
       let one = given (k - from) t
@@ -253,37 +255,49 @@ module _ (facts : Facts) (m : Machine) (c : Config) (homes : Homes) (entries : E
   own_among : IsAmong act.number mine
   own_among = subst (λ n. IsAmong n mine) (owner.first facts m c homes entries alike q level stands own there processes b x checked acc.entry i accepts).stands.number (is_among (giving.e facts m c homes entries alike q level stands own there processes b x checked acc accepts typed runs of_block) mine (owner.living facts m c homes entries alike q level stands own there processes b x checked acc.entry i accepts))
 
-  with_outer : (lenders open_ones : List ℕ) → AreApart b i open_ones → SeenBefore lenders open_ones → SeenThen lenders open_ones
-  with_outer lenders open_ones open_apart is =
-      record {
-        keeps = keeps';
-        chain = act.number ∷ drop 1 is.chain;
-        sees = λ y beside.
-            subst (λ (z : Block). Sees g homes entries new_store keeps' display z open_ones w (act.number ∷ drop 1 is.chain) view_then)
-            (sym (same_block_is y beside))
-            (sees_anew g alike.program.types.counted homes entries c.store new_store is.keeps keeps' display b open_ones w is.chain level.setting.view act.number
-            home cells from to open_ones sees_b
-            (are_other is.keeps keeps' open_ones open_ones is.chain sees_b
-            (λ n may. or_right (n == act.number) (is.keeps n) may)
-            (or_left (act.number == act.number) (is.keeps act.number) (is_same act.number act.number refl)) lives_so
-            (λ v t known links own_variable low high laid. absurd (out_of facts m c homes entries alike q level stands own there processes b x checked acc accepts typed runs of_block open_ones open_apart v known links own_variable low high)))
-            (λ j known. inl known));
-        keeps_these = λ n may. by n (or_cases (n == act.number) (is.keeps n) may);
-      }
-    where
-      keeps' : ℕ → Bool
-      keeps' n = n == act.number || is.keeps n
+  module _ (lenders open_ones : List ℕ) (open_apart : AreApart b i open_ones) (is : SeenBefore lenders open_ones) where
+    abbrev outer_keeps : ℕ → Bool
+    outer_keeps n = n == act.number || is.keeps n
 
-      sees_b : Sees g homes entries c.store is.keeps display b open_ones w is.chain level.setting.view
-      sees_b = is.sees b checked.beside
+    abbrev outer_sees : Sees g homes entries c.store is.keeps display b open_ones w is.chain level.setting.view
+    outer_sees = is.sees b checked.beside
 
-      by : (n : ℕ) → ((n == act.number) ≡ true) ⊎ (is.keeps n ≡ true) → MayKeep table' entries q lenders mine n
-      by n (inl same_number) =
-          subst (λ j. MayKeep table' entries q lenders mine j) (sym (same_of n act.number same_number)) (of_own_stack q lenders mine act.number own_among)
-      by n (inr may) = kept_still q lenders n (is.keeps_these n may)
+    outer_may : (n : ℕ) → ((n == act.number) ≡ true) ⊎ (is.keeps n ≡ true) → MayKeep table' entries q lenders mine n
+    outer_may n (inl same_number) =
+        subst (λ j. MayKeep table' entries q lenders mine j) (sym (same_of n act.number same_number)) (of_own_stack q lenders mine act.number own_among)
+    outer_may n (inr may) = kept_still q lenders n (is.keeps_these n may)
 
-      lives_so : (n : ℕ) → keeps' n ≡ true → Lives entries n
-      lives_so n may = kept_lives table' entries q lenders mine n main refl (by n (or_cases (n == act.number) (is.keeps n) may))
+    outer_lives : (n : ℕ) → outer_keeps n ≡ true → Lives entries n
+    outer_lives n may = kept_lives table' entries q lenders mine n main refl (outer_may n (or_cases (n == act.number) (is.keeps n) may))
+
+    outer_are : AreOther g alike.program.types.counted homes entries c.store new_store is.keeps outer_keeps display b open_ones w is.chain level.setting.view
+        act.number home cells from to open_ones
+    outer_are =
+        are_other is.keeps outer_keeps open_ones open_ones is.chain outer_sees (λ n may. or_right (n == act.number) (is.keeps n) may)
+        (or_left (act.number == act.number) (is.keeps act.number) (is_same act.number act.number refl)) outer_lives
+        (λ v t known links own_variable low high laid. absurd (out_of facts m c homes entries alike q level stands own there processes b x checked acc accepts typed runs of_block open_ones open_apart v known links own_variable low high))
+
+    with_outer : SeenThen lenders open_ones
+    with_outer =
+        record {
+          keeps = outer_keeps;
+          chain = act.number ∷ drop 1 is.chain;
+          sees = λ y beside.
+              subst (λ (z : Block). Sees g homes entries new_store outer_keeps display z open_ones w (act.number ∷ drop 1 is.chain) view_then)
+              (sym (same_block_is y beside))
+              (sees_anew g alike.program.types.counted homes entries c.store new_store is.keeps outer_keeps display b open_ones w is.chain level.setting.view
+              act.number home cells from to open_ones outer_sees outer_are (λ j known. inl known));
+          keeps_these = λ n may. outer_may n (or_cases (n == act.number) (is.keeps n) may);
+        }
+
+    -- a name that is known is seen as it was
+    outer_alike : (v : Spot) (meaning : Meaning) → is_known g.state.blocks b open_ones v.scope ≡ true → v.variable < variables_of here v.scope
+        → slice_get (layout_with here v.scope) (place_of here v) ≡ Some meaning → is_laid meaning ≡ true
+        → SeesAlike level.setting.view view_then (links_to here v.scope) (cell_of here v)
+    outer_alike v meaning known own_variable laid_there variable_laid =
+        seen_alike g alike.program.types.counted homes entries c.store new_store is.keeps outer_keeps display b open_ones w is.chain level.setting.view act.number
+        home cells from to open_ones outer_sees outer_are v meaning known own_variable laid_there variable_laid known
+        (λ links low high. out_of facts m c homes entries alike q level stands own there processes b x checked acc accepts typed runs of_block open_ones open_apart v known links own_variable low high)
 
   -- ## With the accept that begins
 
@@ -408,6 +422,18 @@ module _ (facts : Facts) (m : Machine) (c : Config) (homes : Homes) (entries : E
   )
   through_outer others [] (p ∷ meetings) open_apart is = absurd is
   through_outer others (j ∷ open_ones) [] open_apart is = absurd is
+
+  pub alike_so : (others : List ℕ)
+      → SeesThrough facts homes entries c.store c.table q mine w display level.setting level.setting.block level.setting.view others open_before
+      level.setting.meetings
+      → (v : Spot) (meaning : Meaning) → is_known g.state.blocks b open_before v.scope ≡ true → v.variable < variables_of here v.scope
+      → slice_get (layout_with here v.scope) (place_of here v) ≡ Some meaning → is_laid meaning ≡ true
+      → SeesAlike level.setting.view view_then (links_to here v.scope) (cell_of here v)
+  alike_so others is v meaning known own_variable laid_there variable_laid =
+      outer_alike (level.setting.meetings ++ others) open_before apart
+      (first_with facts homes entries c.store c.table q mine w display level.setting level.setting.block level.setting.view others open_before
+      level.setting.meetings is)
+      v meaning known own_variable laid_there variable_laid
 
   pub seen_then : (others : List ℕ)
       → SeesThrough facts homes entries c.store c.table q mine w display level.setting level.setting.block level.setting.view others open_before

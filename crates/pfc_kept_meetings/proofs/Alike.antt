@@ -30,7 +30,7 @@ module _ (g : Program) (sound : AreCounted g.state.forms) (homes : Homes) (entri
 
   module _ (v : Spot) (meaning : Meaning) (known : is_known g.state.blocks b accepts v.scope ≡ true) (own : v.variable < variables_of here v.scope)
       (there : slice_get (layout_with here v.scope) (place_of here v) ≡ Some meaning) (variable_laid : is_laid meaning ≡ true)
-      (shown : is_known g.state.blocks b accepts' v.scope ≡ true) (out : from ≤ place_of here v → place_of here v < to → ⊥) where
+      (shown : is_known g.state.blocks b accepts' v.scope ≡ true) (out : links_to here v.scope ≡ 0 → from ≤ place_of here v → place_of here v < to → ⊥) where
     abbrev d : ℕ
     d = cell_of here v
 
@@ -54,7 +54,7 @@ module _ (g : Program) (sound : AreCounted g.state.forms) (homes : Homes) (entri
         let at : d ≡ cells_before g.state.forms b.layout k =
         cell g sound homes entries store store' keeps keeps' display b accepts w chain view a home cells from to accepts' sees are v meaning old there variable_laid
         shown own links in
-        let is = range_has_not g.state.forms b.layout from to k meaning laid_so (are.sized k meaning laid_so variable_laid) out in
+        let is = range_has_not g.state.forms b.layout from to k meaning laid_so (are.sized k meaning laid_so variable_laid) (out links) in
         let act = is_own g sound homes entries store store' keeps keeps' display b accepts w chain view a home cells from to accepts' sees are v meaning old there
         variable_laid shown own links in
         let start : view.first 0 ≡ first_number home =

@@ -134,7 +134,7 @@ kept_anew table table' entries p lenders (compound vs ∷ values) met kept = kep
 
 -- ## Of the process that acts
 
-first_with : (facts : Facts) (homes : Homes) (entries : Entries) (store : Store) (table : Table) (p : ℕ) (mine : List Entry) (w : ℤ) (display : Display)
+pub first_with : (facts : Facts) (homes : Homes) (entries : Entries) (store : Store) (table : Table) (p : ℕ) (mine : List Entry) (w : ℤ) (display : Display)
     (g : Setting) (b : Block) (view : View) (others accepts meetings : List ℕ)
     → SeesThrough facts homes entries store table p mine w display g b view others accepts meetings
     → SeesWith facts homes entries store table p (meetings ++ others) mine w display g b accepts view

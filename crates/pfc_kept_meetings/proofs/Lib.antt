@@ -16,3 +16,10 @@ pub mod Alike
 pub mod Owner
 pub mod Known
 pub mod Parameters
+pub mod Giving
+pub mod Given
+pub mod Shown
+pub mod Begins
+pub mod Untouched
+pub mod Caller
+pub mod Meets

@@ -6,3 +6,9 @@ pub mod Both
 pub mod Unmatched
 pub mod Deciding
 pub mod Meets
+pub mod Taken
+pub mod Passes
+pub mod Chosen
+pub mod Sent
+pub mod Received
+pub mod Messages

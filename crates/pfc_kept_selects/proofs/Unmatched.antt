@@ -133,7 +133,7 @@ module _ (facts : Facts) (m : Machine) (c : Config) (p : ℕ) (level : LivingLev
         due = λ t is. absurd (let no : None ≡ Some t = ap due_of (sym acting.actor.ready) ∙ is in cc);
       }
 
-  abbrev latest_gone : Communicating
+  abbrev pub latest_gone : Communicating
   latest_gone = without n d.communications
 
   pub its_branches : HasBranches facts acting.homes acting.entries c.store c.table p level latest_gone
@@ -148,7 +148,7 @@ module _ (facts : Facts) (m : Machine) (c : Config) (p : ℕ) (level : LivingLev
         least : (i : ℕ) → 0 ≤ i
         least i = grind arith
 
-    gone_alone : DecidesAlone facts m c p level acting own [] latest_gone d.offered c.table to doing empty_hand x.line
+    pub gone_alone : DecidesAlone facts m c p level acting own [] latest_gone d.offered c.table to doing empty_hand x.line
     gone_alone =
         record {
           instead = unmade facts acting.homes acting.entries c.store (ticked c.table) p level d.activations n d.communications count_is;

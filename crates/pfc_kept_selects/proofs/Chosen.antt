@@ -1,14 +1,12 @@
 -- The alternative that a decision takes, which communicates with its partner: what becomes of the process that decides.
-use Rattle.std.proofs.Common.{◌≡◌, ℕ, ◌<◌, ℤ, List, [], length, slice_get, Some, refl, sym, ap, ◌∙◌, subst}
-use Rattle.pfc_code.specs.declared.instructions.Instr.{Instr}
-use Rattle.pfc_state.specs.Stands.{Stand}
+use Rattle.std.proofs.Common.{◌≡◌, ℕ, ◌<◌, ℤ, List, [], length, slice_get, Some, ap, ◌∙◌, subst}
 use Rattle.pfc_state.specs.declared.waits.Arm.{Arm as WaitArm}
 use Rattle.pfc_world.specs.Partners.{partner}
 use Rattle.pfc_world.specs.Selects.{communicated_with}
-use Rattle.pfc_world.specs.Tables.{Table, at}
+use Rattle.pfc_world.specs.Tables.{Table}
 use Rattle.pfc_world.specs.Transitions.{rested}
 use Rattle.pfc_semantics.specs.Programs.{Block, Program}
-use Rattle.pfc_semantics.specs.Remainders.{Context, Offer, Open, Selecting, Remainder, decides}
+use Rattle.pfc_semantics.specs.Remainders.{Context, Selecting, Remainder, decides}
 use Rattle.pfc_semantics.specs.Rewriting.{Doing, going}
 use Rattle.pfc_semantics.specs.Channels as text
 use Rattle.pfc_semantics.specs.Channels.{behind_open}
@@ -26,7 +24,7 @@ use Rattle.pfc_select_actions.specs.Selects.{open_count, open_ones, open_arms, m
 use Rattle.pfc_standing_code.specs.Settings.{of_own}
 use Rattle.pfc_standing_code.specs.Words.{IsChecked}
 use Rattle.pfc_standing_code.specs.Following.{ArrivedBy}
-use Rattle.pfc_following_source.specs.Behind.{GoesOnAt, branch_of, BehindOpen}
+use Rattle.pfc_following_source.specs.Behind.{GoesOnAt, branch_of}
 use Rattle.pfc_representation.specs.Levels.{Facts, program_in, LivingLevel}
 use Rattle.pfc_representation.specs.Rooms.{IsInBlock, LeadsWithin}
 use Rattle.pfc_representation.specs.Acting.{IsActing, HasArrived}

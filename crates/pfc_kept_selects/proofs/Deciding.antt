@@ -1,9 +1,9 @@
 -- The instruction of a select may be performed, and is its decision.
-use Rattle.std.proofs.Common.{◌≡◌, ℕ, ◌+◌, ◌^◌, ◌<◌, ◌≤◌, ℤ, Bool, true, false, if◌then◌else◌, List, [], ◌∷◌, length, refl, sym, ap, ◌∙◌, subst, arith}
+use Rattle.std.proofs.Common.{◌≡◌, ℕ, ◌^◌, ◌<◌, ◌≤◌, ℤ, Bool, true, false, if◌then◌else◌, List, [], length, refl, sym, ap, ◌∙◌, subst, arith}
 use Rattle.pfc_code.specs.declared.instructions.Instr.TheVariants.{SEL}
 use Rattle.pfc_world.specs.Tables.{Table}
 use Rattle.pfc_semantics.specs.Programs.{Block, Program}
-use Rattle.pfc_semantics.specs.Remainders.{Context, Open, Selecting, Remainder, decides}
+use Rattle.pfc_semantics.specs.Remainders.{Context, Selecting, Remainder, decides}
 use Rattle.pfc_semantics.specs.Configurations.{Config}
 use Rattle.pfc_semantics.specs.Selects as text
 use Rattle.pfc_semantics.specs.Selects.{decides_at}
@@ -14,7 +14,7 @@ use Rattle.pfc_select_actions.specs.Conditions.{CanOffer, CanTakeAt}
 use Rattle.pfc_select_actions.specs.Selects as machine
 use Rattle.pfc_select_actions.specs.Selects.{open_count, open_arms, matched_places}
 use Rattle.pfc_machine_acts.specs.Performing.{silent}
-use Rattle.pfc_standing_code.specs.Settings.{of_own, IsAt}
+use Rattle.pfc_standing_code.specs.Settings.{of_own}
 use Rattle.pfc_standing_code.specs.Words.{IsChecked}
 use Rattle.pfc_standing_code.specs.Following.{ArrivedBy}
 use Rattle.pfc_following_source.specs.Behind.{BehindElse, BehindAll}

@@ -12,3 +12,4 @@ pub mod Chosen
 pub mod Sent
 pub mod Received
 pub mod Messages
+pub mod Divided

@@ -4,13 +4,11 @@ use Rattle.std.proofs.lemmas.List.{length-set}
 use Rattle.pfc_state.specs.Stands.{Is_ready}
 use Rattle.pfc_world.specs.Tables.{Table, at}
 use Rattle.pfc_world.specs.Transitions.{rested, placed, ticked}
-use Rattle.pfc_semantics.specs.Programs.{Program}
 use Rattle.pfc_semantics.specs.Rewriting.{Doing}
 use Rattle.pfc_semantics.specs.Store.{Store}
 use Rattle.pfc_semantics.specs.Configurations.{empty_hand, Activity, Config, activity_of, at_work}
 use Rattle.pfc_stacks.specs.declared.refs.Ref.{Ref}
 use Rattle.pfc_stacks.specs.Stacks.{Stack, Stacks, stack_of, operands_of, written}
-use Rattle.pfc_stacks.specs.Effects.{moved}
 use Rattle.pfc_machines.specs.declared.machine.Machine.{Machine}
 use Rattle.pfc_machines.specs.Communications.{Communicating}
 use Rattle.pfc_machines.specs.Descriptors.{descriptor_of, withdrawn}

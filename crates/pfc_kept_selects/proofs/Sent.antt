@@ -1,5 +1,5 @@
 -- A decision takes an alternative that sends: its message goes to a receiver.
-use Rattle.std.proofs.Common.{◌≡◌, ℕ, zero, suc, ◌+◌, ◌<◌, ◌≤◌, ◌==◌, ℤ, pos, Bool, true, false, List, [], ◌∷◌, ◌++◌, length, reverse, set, Option, Some, None, IfSome, Ok}
+use Rattle.std.proofs.Common.{◌≡◌, ℕ, zero, suc, ◌<◌, ◌≤◌, ◌==◌, ℤ, true, false, List, [], ◌∷◌, length, reverse, set, Option, Some, IfSome, Ok}
 use Rattle.std.proofs.Common.{refl, sym, ap, ◌∙◌, subst, arith}
 use Rattle.std.specs.Prelude.{is_some}
 use Rattle.std.proofs.lemmas.List.{get_or-set_other, same_from_push}
@@ -16,14 +16,14 @@ use Rattle.pfc_types.specs.declared.types.TypeId.{TypeId}
 use Rattle.pfc_semantics.specs.Values.{Value}
 use Rattle.pfc_semantics.specs.Displays.{Spot}
 use Rattle.pfc_semantics.specs.Programs.{Block, Program}
-use Rattle.pfc_semantics.specs.Remainders.{Context, Offer, Open, Selecting, Remainder, to_send, to_receive, to_accept, to_wait, to_end, decides}
+use Rattle.pfc_semantics.specs.Remainders.{Context, Offer, Selecting, Remainder, to_send, to_receive, to_accept, to_wait, to_end, decides}
 use Rattle.pfc_semantics.specs.Rewriting.{Doing, going}
 use Rattle.pfc_semantics.specs.Channels as text
 use Rattle.pfc_semantics.specs.Channels.{behind_open, Side}
-use Rattle.pfc_semantics.specs.Configurations.{empty_hand, Activity, Config, Effect, nobody, activity_of, at_work, goes_on, with_table, location_for, number_for}
+use Rattle.pfc_semantics.specs.Configurations.{empty_hand, Activity, Config, nobody, activity_of, at_work, goes_on, with_table, location_for, number_for}
 use Rattle.pfc_semantics.specs.Selects as text_selects
 use Rattle.pfc_stacks.specs.Refs.{ref_of, number_of}
-use Rattle.pfc_stacks.specs.Stacks.{Stack, Stacks, stack_of, operands_of, written}
+use Rattle.pfc_stacks.specs.Stacks.{stack_of, operands_of, written}
 use Rattle.pfc_stacks.specs.Conditions.{AreLive}
 use Rattle.pfc_cells.specs.Homes.{Homes}
 use Rattle.pfc_cells.specs.Memory.{Entries}
@@ -36,16 +36,15 @@ use Rattle.pfc_machines.specs.declared.alternatives.Offer.TheVariants.{Send}
 use Rattle.pfc_machines.specs.Communications.{Communicating}
 use Rattle.pfc_machines.specs.Descriptors.{descriptor_of, withdrawn}
 use Rattle.pfc_machines.specs.Offers.{message_of, without, words_in}
-use Rattle.pfc_machines.specs.Partners.{open_to, goes_behind}
+use Rattle.pfc_machines.specs.Partners.{goes_behind}
 use Rattle.pfc_message_actions.specs.Messages.{target_of, CanHandOver}
-use Rattle.pfc_select_actions.specs.Conditions.{CanSendTo, CanCommunicate}
+use Rattle.pfc_select_actions.specs.Conditions.{CanCommunicate}
 use Rattle.pfc_select_actions.specs.Selects as machine
 use Rattle.pfc_select_actions.specs.Selects.{open_count}
 use Rattle.pfc_machine_acts.specs.Performing.{silent}
-use Rattle.pfc_standing_code.specs.Effects.{Arm}
 use Rattle.pfc_standing_code.specs.Settings.{of_own, site_of}
 use Rattle.pfc_standing_code.specs.Words.{IsChecked}
-use Rattle.pfc_standing_code.specs.Performs.{IsSent, IsReceived, IsOpen, Performs}
+use Rattle.pfc_standing_code.specs.Performs.{IsReceived, IsOpen, Performs}
 use Rattle.pfc_standing_code.specs.Following.{ArrivedBy}
 use Rattle.pfc_following_source.specs.Behind.{branch_of, GoesOnAt, BehindOpen}
 use Rattle.pfc_representation.specs.Levels.{Facts, program_in, LivingLevel, DoesOn}

@@ -1,5 +1,5 @@
 -- The matched alternative that is taken: the same one on both sides, with the same partner.
-use Rattle.std.proofs.Common.{◌≡◌, ℕ, zero, suc, ◌+◌, ◌<◌, Bool, true, false, if◌then◌else◌, List, [], ◌∷◌, length, slice_get, Option, Some, None, Ok, refl, sym, ap, ◌∙◌, subst, arith}
+use Rattle.std.proofs.Common.{◌≡◌, ℕ, zero, suc, ◌+◌, ◌<◌, if◌then◌else◌, List, [], ◌∷◌, length, slice_get, Option, Some, None, Ok, refl, ap, ◌∙◌, subst, arith}
 use Rattle.std.specs.Prelude.{is_some}
 use Rattle.pfc_state.specs.Stands.{Stand}
 use Rattle.pfc_state.specs.declared.waits.Arm.{Arm as WaitArm}

@@ -1,22 +1,21 @@
 -- No alternative is matched: the `else` part, a `timeout 0`, a wait, or the fault where all are closed.
-use Rattle.std.proofs.Common.{◌≡◌, ◌≢◌, ℕ, zero, suc, ◌+◌, ◌-◌, ◌*◌, ◌^◌, ◌<◌, ◌≤◌, ◌==◌, ℤ, pos, Bool, true, false, if◌then◌else◌, List, [], ◌∷◌, length, set, take}
+use Rattle.std.proofs.Common.{◌≡◌, ℕ, zero, suc, ◌+◌, ◌-◌, ◌*◌, ◌^◌, ◌<◌, ◌≤◌, ◌==◌, ℤ, Bool, true, false, if◌then◌else◌, List, [], ◌∷◌, length, set, take}
 use Rattle.std.proofs.Common.{slice_get, get_or, Option, Some, None, Result, Ok, Err, refl, sym, ap, ◌∙◌, subst, arith, ◌⊎◌, inl, inr}
 use Rattle.std.specs.Prelude.{nat_le, is_some}
 use Rattle.std.proofs.lemmas.List.{get_or-set_same, length-set}
 use Rattle.pfc_base.specs.declared.faults.RunFault.{RunFault}
 use Rattle.pfc_base.specs.declared.faults.RunFault.TheVariants.{Late, Closed}
 use Rattle.pfc_code.specs.declared.instructions.Instr.{Instr}
-use Rattle.pfc_code.specs.declared.instructions.Instr.TheVariants.{ARMT, SEL}
+use Rattle.pfc_code.specs.declared.instructions.Instr.TheVariants.{SEL}
 use Rattle.pfc_code.specs.declared.images.Block.{Block as CodeBlock}
-use Rattle.pfc_state.specs.Stands.{Stand, Is_ready, Waits, is_unfinished, ticket_of, due_of}
-use Rattle.pfc_state.specs.Waits.{due_of_wait}
+use Rattle.pfc_state.specs.Stands.{Stand, Waits, is_unfinished, ticket_of, due_of}
 use Rattle.pfc_state.specs.declared.waits.Arm.{Arm as WaitArm}
 use Rattle.pfc_state.specs.declared.waits.Why.TheVariants.{Select}
 use Rattle.pfc_world.specs.Selects.{select_waited}
 use Rattle.pfc_world.specs.Tables.{Table, at}
-use Rattle.pfc_world.specs.Transitions.{blocked, rested, ticked}
+use Rattle.pfc_world.specs.Transitions.{rested, ticked}
 use Rattle.pfc_semantics.specs.Programs.{Block, Program}
-use Rattle.pfc_semantics.specs.Remainders.{Context, Offer, Open, Otherwise, Selecting, Remainder, to_wait, decides}
+use Rattle.pfc_semantics.specs.Remainders.{Context, Offer, Open, Otherwise, Selecting, Remainder}
 use Rattle.pfc_semantics.specs.Rewriting.{Doing, going}
 use Rattle.pfc_semantics.specs.Statements.{behind as stmts_behind}
 use Rattle.pfc_semantics.specs.Channels as text
@@ -24,7 +23,7 @@ use Rattle.pfc_semantics.specs.Channels.{behind_open}
 use Rattle.pfc_semantics.specs.Selects.{may_terminate_at, latest, Timeout, open_timeout, waits_until, waits_or_closed, times_out, goes_otherwise}
 use Rattle.pfc_semantics.specs.Configurations.{Hand, empty_hand, offering, Activity, Config, nobody, activity_of, at_work, goes_on}
 use Rattle.pfc_translation.specs.Images.{image_of}
-use Rattle.pfc_image_laws.specs.Operands.{is_end, address_ahead}
+use Rattle.pfc_image_laws.specs.Operands.{is_end}
 use Rattle.pfc_stacks.specs.Refs.{word_of}
 use Rattle.pfc_stacks.specs.Stacks.{Stack, stack_of, operands_of, last_activation}
 use Rattle.pfc_machines.specs.declared.machine.Machine.{Machine}
@@ -32,16 +31,14 @@ use Rattle.pfc_machines.specs.declared.descriptors.Descriptor.{Descriptor}
 use Rattle.pfc_machines.specs.declared.alternatives.KeptAlternative.{KeptAlternative}
 use Rattle.pfc_machines.specs.declared.alternatives.Offer.{Offer as MachineOffer}
 use Rattle.pfc_machines.specs.declared.alternatives.Sought.TheVariants.{Delay, End}
-use Rattle.pfc_machines.specs.Actions.{at_rest, Effect as MachineEffect}
+use Rattle.pfc_machines.specs.Actions.{at_rest}
 use Rattle.pfc_machines.specs.Communications.{Communicating}
 use Rattle.pfc_machines.specs.Descriptors.{descriptor_of}
 use Rattle.pfc_machines.specs.Offers.{arms_of, without, first_sought}
-use Rattle.pfc_machines.specs.Rooms.{stretch}
 use Rattle.pfc_own_actions.specs.Doing.{due_after}
 use Rattle.pfc_select_actions.specs.Selects as machine
 use Rattle.pfc_select_actions.specs.Selects.{open_count, open_ones, open_arms, decided, waits_at, seconds_of}
 use Rattle.pfc_machine_acts.specs.Performing.{silent}
-use Rattle.pfc_standing_code.specs.Effects.{Arm}
 use Rattle.pfc_standing_code.specs.Settings.{Trial, of_own, site_of, IsAt}
 use Rattle.pfc_standing_code.specs.Words.{IsChecked}
 use Rattle.pfc_standing_code.specs.Performs.{AreOpen, DecidesAt}
@@ -49,17 +46,17 @@ use Rattle.pfc_following_source.specs.Behind.{GoesOnAt, branch_of, BehindOpen, B
 use Rattle.pfc_representation.specs.Levels.{Facts, program_in, LivingLevel, block_of, IsBlockAt, DoesOn}
 use Rattle.pfc_representation.specs.Rooms.{process_count, end_in, room_behind, own_address, HasRoomFor, IsInBlock, LeadsWithin}
 use Rattle.pfc_representation.specs.Callers.{IsWithin}
-use Rattle.pfc_representation.specs.Hands.{shows_nothing, goes_by_itself, waits_selecting, IsOffered, Offers}
+use Rattle.pfc_representation.specs.Hands.{shows_nothing, waits_selecting, IsOffered, Offers}
 use Rattle.pfc_representation.specs.Holding.{is_quiet, waits_at_coend}
 use Rattle.pfc_representation.specs.Machines.{machine_table}
-use Rattle.pfc_representation.specs.Acting.{IsActing, HasArrived}
+use Rattle.pfc_representation.specs.Acting.{IsActing}
 use Rattle.pfc_representation.specs.Actions.{ComeToSame}
 use Rattle.pfc_kept_own_actions.proofs.Alone.{refuse}
 use Rattle.pfc_kept_own_actions.proofs.Arrived.{code_there, next_within}
 use Rattle.pfc_kept_own_actions.proofs.Blocks.{StaysIn}
 use Rattle.pfc_kept_own_actions.proofs.Within.{later_less, code_stays}
 use Rattle.pfc_kept_object_actions.proofs.Change.{row_here, row_there}
-use Rattle.pfc_kept_object_actions.proofs.Popped.{world, rests}
+use Rattle.pfc_kept_object_actions.proofs.Popped.{rests}
 use Rattle.pfc_kept_messages.proofs.Rearmed.{AreInstead}
 use Rattle.pfc_kept_messages.proofs.Whole.{IsNewStand, comes_then}
 use Rattle.pfc_kept_selects.specs.Groups.{LeadsAhead, LeadAhead}

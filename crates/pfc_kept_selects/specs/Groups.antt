@@ -3,7 +3,7 @@ use Rattle.std.specs.Prelude.{ℕ, ◌<◌, List, [], ◌∷◌, slice_get, Opti
 use Rattle.pfc_code.specs.declared.instructions.Instr.{Instr}
 use Rattle.pfc_code.specs.declared.instructions.Instr.TheVariants.{ARMS, ARMR, ARMA, ARMT}
 use Rattle.pfc_semantics.specs.Programs.{Program}
-use Rattle.pfc_semantics.specs.Remainders.{Offer, Open, Selecting, to_send, to_receive}
+use Rattle.pfc_semantics.specs.Remainders.{Offer, Open, Selecting, to_send, to_receive, to_accept}
 use Rattle.pfc_semantics.specs.Configurations.{Config}
 use Rattle.pfc_semantics.specs.Selects.{matched_places, place_taken, open_at}
 use Rattle.pfc_standing_code.specs.Effects.{Arm}
@@ -34,3 +34,15 @@ IsMessage (Some o) = IsMessageOffer o.offer
 -- some alternatives are matched, and that which is taken does
 abbrev pub TakesMessage : Program → Config → ℕ → Selecting → ℕ → Type 0
 TakesMessage g c p sel choice = IsMessage (open_at sel.offered (slice_get (matched_places g c p sel) (place_taken sel.pri choice)))
+
+-- It accepts an entry.
+abbrev pub IsEntryOffer : Offer → Type 0
+IsEntryOffer (to_accept a) = Unit {0}
+IsEntryOffer offer = ⊥
+
+abbrev pub IsEntry : Option Open → Type 0
+IsEntry None = ⊥
+IsEntry (Some o) = IsEntryOffer o.offer
+
+abbrev pub TakesEntry : Program → Config → ℕ → Selecting → ℕ → Type 0
+TakesEntry g c p sel choice = IsEntry (open_at sel.offered (slice_get (matched_places g c p sel) (place_taken sel.pri choice)))

@@ -26,7 +26,7 @@ use Rattle.pfc_kept_own_actions.proofs.Alone.{can_go}
 use Rattle.pfc_kept_own_actions.proofs.Arrived.{has_setting, stack_there, code_there, code_line, acts_now}
 use Rattle.pfc_kept_selects.specs.Groups.{LeadAhead}
 use Rattle.pfc_kept_selects.proofs.Both as both
-use Rattle.pfc_kept_selects.proofs.Unmatched.{Decides, decides_so}
+use Rattle.pfc_kept_selects.proofs.Otherwise.{Decides, decides_so}
 
 module _ (facts : Facts) (m : Machine) (c : Config) (p choice : ℕ) (level : LivingLevel) (x : Context) (sel : Selecting) (k : Remainder)
     (acting : IsActing facts m c p level) (arrived : HasArrived facts m c p level (decides x sel k)) (own : level.setting.trial ≡ of_own) (b : Block)

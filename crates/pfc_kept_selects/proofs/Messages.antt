@@ -23,7 +23,7 @@ use Rattle.pfc_representation.specs.Levels.{Facts, program_in, LivingLevel}
 use Rattle.pfc_representation.specs.Acting.{IsActing, HasArrived}
 use Rattle.pfc_representation.specs.Actions.{ComeToSame, IsKept}
 use Rattle.pfc_kept_selects.specs.Groups.{IsMessageOffer, IsMessage, TakesMessage}
-use Rattle.pfc_kept_selects.proofs.Unmatched.{Decides}
+use Rattle.pfc_kept_selects.proofs.Otherwise.{Decides}
 use Rattle.pfc_kept_selects.proofs.Deciding.{leads, its, matched_same, may_offer, decides_kept}
 use Rattle.pfc_kept_selects.proofs.Taken.{IsTaken, machine_decides, text_decides}
 use Rattle.pfc_kept_selects.proofs.Chosen as the

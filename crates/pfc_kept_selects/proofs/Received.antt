@@ -1,5 +1,5 @@
 -- A decision takes an alternative that receives: its message comes from a sender.
-use Rattle.std.proofs.Common.{◌≡◌, ℕ, zero, suc, ◌<◌, ◌≤◌, ◌==◌, ℤ, pos, true, false, List, [], ◌∷◌, length, reverse, set, Option, Some, IfSome, Ok}
+use Rattle.std.proofs.Common.{◌≡◌, ℕ, ◌<◌, ◌≤◌, ◌==◌, ℤ, true, false, List, [], length, reverse, set, Option, Some, IfSome, Ok}
 use Rattle.std.proofs.Common.{refl, sym, ap, ◌∙◌, subst, arith}
 use Rattle.std.specs.Prelude.{is_some}
 use Rattle.std.proofs.lemmas.List.{get_or-set_same, same_from_push}
@@ -12,7 +12,6 @@ use Rattle.pfc_world.specs.Partners.{partner, sender, ticket_open_to}
 use Rattle.pfc_world.specs.Selects.{communicated_with}
 use Rattle.pfc_world.specs.Tables.{Table, at}
 use Rattle.pfc_world.specs.Transitions.{rested, placed, ticked}
-use Rattle.pfc_types.specs.declared.types.TypeId.{TypeId}
 use Rattle.pfc_semantics.specs.Values.{Value}
 use Rattle.pfc_semantics.specs.Displays.{Spot}
 use Rattle.pfc_semantics.specs.Programs.{Block, Program}
@@ -22,11 +21,9 @@ use Rattle.pfc_semantics.specs.Channels as text
 use Rattle.pfc_semantics.specs.Channels.{behind_open, Side}
 use Rattle.pfc_semantics.specs.Configurations.{empty_hand, Activity, Config, nobody, activity_of, at_work, goes_on, with_table, location_for, number_for}
 use Rattle.pfc_semantics.specs.Selects as text_selects
-use Rattle.pfc_stacks.specs.Refs.{ref_of, number_of}
+use Rattle.pfc_stacks.specs.Refs.{ref_of}
 use Rattle.pfc_stacks.specs.Stacks.{stack_of, operands_of, written}
 use Rattle.pfc_stacks.specs.Conditions.{AreLive}
-use Rattle.pfc_cells.specs.Homes.{Homes}
-use Rattle.pfc_cells.specs.Memory.{Entries}
 use Rattle.pfc_machines.specs.declared.machine.Machine.{Machine}
 use Rattle.pfc_machines.specs.declared.descriptors.Descriptor.{Descriptor}
 use Rattle.pfc_machines.specs.declared.alternatives.Alternative.{Alternative}
@@ -49,10 +46,9 @@ use Rattle.pfc_standing_code.specs.Following.{ArrivedBy}
 use Rattle.pfc_following_source.specs.Behind.{branch_of, GoesOnAt, BehindOpen}
 use Rattle.pfc_representation.specs.Levels.{Facts, program_in, LivingLevel, DoesOn}
 use Rattle.pfc_representation.specs.Rooms.{IsInBlock, LeadsWithin, LeadWithin}
-use Rattle.pfc_representation.specs.Alternatives.{IsReceiving, IsMadeBy}
+use Rattle.pfc_representation.specs.Alternatives.{IsMadeBy}
 use Rattle.pfc_representation.specs.Holding.{holders_in}
-use Rattle.pfc_representation.specs.Processes.{IsAtLevel, RepresentsProcess}
-use Rattle.pfc_representation.specs.Machines.{AreAlike}
+use Rattle.pfc_representation.specs.Processes.{RepresentsProcess}
 use Rattle.pfc_representation.specs.Acting.{IsActing, HasArrived}
 use Rattle.pfc_representation.specs.Actions.{ComeToSame}
 use Rattle.pfc_kept_object_actions.proofs.Finding.{first_has}
@@ -61,41 +57,13 @@ use Rattle.pfc_kept_messages.proofs.Partner.{is_open_stand, IsShowing, behind_ke
 use Rattle.pfc_kept_messages.proofs.Meeting.{is_process, row_is, met_stays, q_there}
 use Rattle.pfc_kept_messages.proofs.Finding.{waits, process, shows, makes, offers_all, is_offering, FoundThere, found_there, in_machine}
 use Rattle.pfc_kept_messages.proofs.Finding as finding
-use Rattle.pfc_kept_messages.proofs.Passing.{Sends, sends, IsTarget, to_variable, to_nobody, Receives, receives, Delivers, delivers}
+use Rattle.pfc_kept_messages.proofs.Passing.{Sends, sends, Receives, receives, Delivers, delivers}
 use Rattle.pfc_kept_selects.proofs.Same.{branch_is}
+use Rattle.pfc_kept_selects.proofs.Targets.{receiving_offer}
 use Rattle.pfc_kept_selects.proofs.Alone.{DecidesAlone}
 use Rattle.pfc_kept_selects.proofs.Chosen as the
 use Rattle.pfc_kept_selects.proofs.Chosen.{IsChosen, chosen, which}
 use Rattle.pfc_kept_selects.proofs.Passes.{both_go}
-
--- what the alternative of a receive is
-module _ (facts : Facts) (m : Machine) (c : Config) (homes : Homes) (entries : Entries) (alike : AreAlike facts homes entries m c) (r : ℕ) (e : Descriptor)
-    (level : LivingLevel)
-    (stands : IsAtLevel facts homes entries c.store m.stacks c.table (holders_in facts c) r (activity_of (program_in facts) c r) e level)
-    (own : level.setting.trial ≡ of_own)
-    (b : Block) (x : Context) (checked : IsChecked level.setting b x.env) where
-  receiving_offer : (depth z : ℕ) (operands : List ℤ) (to : ℕ) (a : Alternative) (n : ℤ) (u : TypeId) (target : Option Spot) (word : ℤ) (k : ℕ)
-      → IsReceiving depth z operands to a
-      → IsTarget facts m c homes entries alike r e level stands own b x checked z n operands u target word → number_of n ≡ k
-      → a.offer ≡ Receive k z word
-  receiving_offer depth zero operands to a n u _ _ k is (to_variable target word carried lies size held) number = absurd (no_cells _ size carried.0)
-    where
-      no_cells : (j : ℕ) → 0 ≡ j → 0 < j → ⊥
-      no_cells j same less = grind (arith, same, less)
-  receiving_offer depth (suc z) operands to a n u _ _ k is (to_variable target word carried lies size held) number =
-      let both : is.1 ∷ is.0 ∷ [] ≡ word ∷ n ∷ [] = sym is.2 ∙ held in
-      let same : is.1 ≡ word = cc in
-      let one : is.0 ≡ n = cc in
-      ap (λ (y : Alternative). y.offer) is.3 ∙ ap (λ (j : ℤ). Receive (number_of j) (suc z) is.1) one
-      ∙ ap (λ (j : ℕ). Receive j (suc z) is.1) number ∙ ap (λ (j : ℤ). Receive k (suc z) j) same
-  receiving_offer depth zero operands to a n u _ _ k is (to_nobody signal size held) number =
-      let both : is.0 ∷ [] ≡ n ∷ [] = sym is.1 ∙ held in
-      let one : is.0 ≡ n = cc in
-      ap (λ (y : Alternative). y.offer) is.2 ∙ ap (λ (j : ℤ). Receive (number_of j) 0 (pos 0)) one ∙ ap (λ (j : ℕ). Receive j 0 (pos 0)) number
-  receiving_offer depth (suc z) operands to a n u _ _ k is (to_nobody signal size held) number = absurd (some_cells size)
-    where
-      some_cells : suc z ≡ 0 → ⊥
-      some_cells same = grind (arith, same)
 
 module _ (facts : Facts) (m : Machine) (c : Config) (p choice : ℕ) (level : LivingLevel) (x : Context) (sel : Selecting) (k : Remainder)
     (acting : IsActing facts m c p level) (arrived : HasArrived facts m c p level (decides x sel k)) (own : level.setting.trial ≡ of_own) (b : Block)

@@ -30,7 +30,6 @@ use Rattle.pfc_kept_messages.proofs.Meeting.{apart, is_process, row_is, met_stay
 use Rattle.pfc_kept_messages.proofs.Whole.{IsNewStand, IsBehind}
 use Rattle.pfc_kept_selects.proofs.Alone.{DecidesAlone, process_here}
 
-
 either : (q p : ℕ) → (q ≡ p) ⊎ (q ≢ p)
 either q p = grind arith
 

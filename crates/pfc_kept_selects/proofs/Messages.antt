@@ -7,6 +7,7 @@ use Rattle.pfc_semantics.specs.Configurations.{Config, Effect}
 use Rattle.pfc_semantics.specs.Channels.{arms_of_all}
 use Rattle.pfc_semantics.specs.Selects as text
 use Rattle.pfc_semantics.specs.Selects.{decides_at}
+use Rattle.pfc_translation.specs.Images.{image_of}
 use Rattle.pfc_stacks.specs.Stacks.{stack_of, operands_of}
 use Rattle.pfc_machines.specs.declared.machine.Machine.{Machine}
 use Rattle.pfc_machines.specs.declared.alternatives.KeptAlternative.{KeptAlternative}
@@ -90,12 +91,14 @@ module _ (facts : Facts) (m : Machine) (c : Config) (p choice : ℕ) (level : Li
       × CanCommunicate at_it.kept.alternative.offer at_it.kept p its_one.whom m
 
   by_offer : (offer : Offer) → at_it.o.offer ≡ offer → IsMessageOffer offer → Passes
-  by_offer (to_send channel v) is kind =
-      (sent_same facts m c p choice level x sel k acting arrived own b checked by i less channel v is,
-      sent_can facts m c p choice level x sel k acting arrived own b checked by i less channel v is)
-  by_offer (to_receive channel target) is kind =
-      (received_same facts m c p choice level x sel k acting arrived own b checked by i less channel target is,
-      received_can facts m c p choice level x sel k acting arrived own b checked by i less channel target is)
+  by_offer (to_send channel v) is kind = (
+    sent_same facts m c p choice level x sel k acting arrived own b checked by i less channel v is,
+    sent_can facts m c p choice level x sel k acting arrived own b checked by i less channel v is,
+  )
+  by_offer (to_receive channel target) is kind = (
+    received_same facts m c p choice level x sel k acting arrived own b checked by i less channel target is,
+    received_can facts m c p choice level x sel k acting arrived own b checked by i less channel target is,
+  )
   by_offer (to_accept a) is kind = absurd kind
   by_offer (to_wait n) is kind = absurd kind
   by_offer to_end is kind = absurd kind
@@ -111,7 +114,7 @@ module _ (facts : Facts) (m : Machine) (c : Config) (p choice : ℕ) (level : Li
   less_there =
       subst (λ (ns : List ℕ). i < length ns) (sym (matched_same facts m c p choice level x sel k acting arrived own b checked by)) less
 
-  module _ (few : level.setting.arms < 2 ^ 32) where
+  module _ (few : (image_of facts.tree).arms < 2 ^ 32) where
     can_take : CanTakeAt i p m
     can_take =
         record {
@@ -154,7 +157,7 @@ module _ (facts : Facts) (m : Machine) (c : Config) (p choice : ℕ) (level : Li
 
 -- where the alternative that is taken has a message
 pub messages_are_kept : (facts : Facts) (m : Machine) (c : Config) (p choice : ℕ) (level : LivingLevel) (x : Context) (sel : Selecting) (k : Remainder)
-    → level.setting.arms < 2 ^ 32 → TakesMessage (program_in facts) c p sel choice
+    → (image_of facts.tree).arms < 2 ^ 32 → TakesMessage (program_in facts) c p sel choice
     → IsActing facts m c p level → HasArrived facts m c p level (decides x sel k) → IsKept facts m c p choice (decides x sel k)
 messages_are_kept facts m c p choice level x sel k few message acting arrived =
     let (b, checked, by) = arrived.arrived in message_kept facts m c p choice level x sel k acting arrived by.0 b checked by message few

@@ -228,8 +228,10 @@ module _ (c : Config) (p : ℕ) (program : Program) (g : Setting) (b : Block) (x
       → (timeout_at o o.offer ≡ None) × (is_sought Delay k.alternative.offer ≡ false) → TimesOut os arms ks
       → TimesOut (o ∷ os) (arm ∷ arms) (k ∷ ks)
   later_timeout o os arm arms k ks none (inl both) =
-      inl (ap (λ (y : Option Timeout). or_timeout y (open_timeout os)) none.0 ∙ both.0,
-      ap (λ (y : Bool). cond y (Some k) (first_sought Delay ks)) none.1 ∙ both.1)
+      inl (
+        ap (λ (y : Option Timeout). or_timeout y (open_timeout os)) none.0 ∙ both.0,
+        ap (λ (y : Bool). cond y (Some k) (first_sought Delay ks)) none.1 ∙ both.1,
+      )
   later_timeout o os arm arms k ks none (inr at) =
       inr (record {
         o = at.o;

@@ -3,7 +3,8 @@ pub mod Expressions
 pub mod Alternatives
 pub mod Statements
 pub mod Rewriting
--- pub mod Steps
--- pub mod Communications
--- pub mod Effects
--- pub mod Runs
+pub mod Found
+pub mod Steps
+pub mod Communications
+pub mod Effects
+pub mod Runs

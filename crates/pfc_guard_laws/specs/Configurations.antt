@@ -3,7 +3,7 @@ use Rattle.std.specs.Prelude.{ℕ, ◌≡◌, List, [], ◌∷◌, Option, Some,
 use Rattle.std.specs.List.{AllByRecursion}
 use Rattle.pfc_semantics.specs.Programs.{Guard, Block, Program}
 use Rattle.pfc_semantics.specs.Remainders.{Scan}
-use Rattle.pfc_semantics.specs.Configurations.{Mark, plain, of_resource, Caller, of_nobody, of_remainder, of_value, Activation, Hand, empty_hand, offering, asking, barred_at, Activity, Config, declared_block}
+use Rattle.pfc_semantics.specs.Configurations.{Mark, plain, of_resource, Caller, of_nobody, of_remainder, of_value, Activation, Hand, empty_hand, offering, asking, barred_at, Activity, Config, declared_block, activity_of}
 use Rattle.pfc_translation.specs.Calls.{resource_of}
 use Rattle.pfc_translation.specs.Images.{site_in}
 use Rattle.pfc_guard_laws.specs.Written.{SuitsExpr, SuitStmts}
@@ -57,12 +57,12 @@ module _ (g : Program) (scanned : List Activation → Scan → Type 0) where
   SuitsHand own (asking values) = Unit {0}
   SuitsHand own (barred_at b) = SuitsBar g b
 
-  pub record SuitsActivity (a : Activity) : Type 0 where
-    pub own : List Activation
+  -- a process whose remainder belongs to the innermost of `own`
+  pub record SuitsActivity (own : List Activation) (a : Activity) : Type 0 where
     pub stands : StandsOn own a.activations
     pub doing : SuitsDoing g (mark_in own) (scanned own) a.doing
     pub activations : SuitActivations a.activations
     pub hand : SuitsHand own a.hand
 
-  abbrev pub SuitsConfig : Config → Type 0
-  SuitsConfig c = AllByRecursion SuitsActivity c.activities
+  abbrev pub SuitsConfig : (ℕ → List Activation) → Config → Type 0
+  SuitsConfig owns c = (q : ℕ) → SuitsActivity (owns q) (activity_of g c q)

@@ -179,3 +179,11 @@ module _ (g : Program) (mark : Mark) (scanned : Scan → Type 0) where
   abbrev pub SuitsDoing : Doing → Type 0
   SuitsDoing (going env k) = SuitsRemainder env k
   SuitsDoing (holding x v u) = SuitsAwaiting x.env u
+
+-- ## Guards of an action
+
+-- what the rules of runs say of the guards of an action, but for who has left a resource
+abbrev pub GuardsByRules : Program → Action → Type 0
+GuardsByRules g (scans x s k) = x.line ≡ s.line
+GuardsByRules g (bars x b k) = (x.env ≡ b.context.env) × IsOfItsBlock g b
+GuardsByRules g n = Unit {0}

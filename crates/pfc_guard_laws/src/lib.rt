@@ -3,3 +3,7 @@
 //! It promises that wherever a run of a program comes whose text calls what the rules ask, each guard that is tried, or at which a process is barred, is of the
 //! resource in which its procedure stands. It knows no machine.
 #![tactic(auto)]
+
+mod laws;
+
+pub use laws::guards_are_of_their_resources;

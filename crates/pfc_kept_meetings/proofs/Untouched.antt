@@ -77,6 +77,8 @@ main_lives facts homes entries store stacks table h a d unfinished is = by a.act
   where
     by : (xs : List Activation) → ActivationsAre xs facts homes entries store stacks table h 0 a d → Lives entries 0
     by [] rests = absurd (let no : true ≡ false = sym unfinished ∙ rests.finished in (let none : ⊥ = cc in none))
-    by (x ∷ xs) under =
-        (0, main_among facts homes entries store table (stack_of stacks 0).room under.level (word_of (last_activation stacks 0)) d.communications a.activations
-        (entries 0) under.stands.callers)
+    by (x ∷ xs) under = (
+      0,
+      main_among facts homes entries store table (stack_of stacks 0).room under.level (word_of (last_activation stacks 0)) d.communications a.activations
+          (entries 0) under.stands.callers,
+    )

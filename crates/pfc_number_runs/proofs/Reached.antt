@@ -12,7 +12,7 @@ use Rattle.pfc_semantics.specs.Steps.{next_of}
 use Rattle.pfc_semantics.specs.Time.{settled_config}
 use Rattle.pfc_representation.specs.Acting.{TakesNumber}
 use Rattle.pfc_run_agreement.specs.Agreement.{picking_behind, choices_of}
-use Rattle.pfc_simulation.specs.Reached.{IsReached, at_first, one_further, TakeNumbers}
+use Rattle.pfc_simulation.specs.Reached.{IsReached, at_first, one_further}
 use Rattle.pfc_number_laws.specs.Written.{FitsTree}
 use Rattle.pfc_number_laws.specs.Configurations.{AreBytes}
 use Rattle.pfc_number_laws.specs.Runs.{ComesTo, TakesSmall, acts}
@@ -33,8 +33,8 @@ takes_so n small = tt
 
 pub checked_take :
     (t : ProgramTree) (input : List ℕ) (seed : ℕ) → IsLawful (forget_program t) → broken t ≡ [] → FitsTree t → AreBytes input
-    → TakeNumbers (program_of t) (start (program_of t) input seed)
-checked_take t input seed lawful whole small bytes c p reached ready =
+    → (c : Config) (p : ℕ) → IsReached (program_of t) (start (program_of t) input seed) c → TakesNumber (next_of (program_of t) (settled_config c) p)
+checked_take t input seed lawful whole small bytes c p reached =
     let g = program_of t in
     let first = start g input seed in
     let program = program_fits t small (few t lawful whole) in

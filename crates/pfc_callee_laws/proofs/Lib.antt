@@ -1,0 +1,15 @@
+pub mod Heads
+pub mod Fine
+pub mod Declared
+pub mod Parts
+pub mod Agreed
+pub mod Outers
+pub mod Values
+pub mod Once
+pub mod Known
+pub mod Images
+pub mod Laid
+pub mod Program
+pub mod Blocks
+pub mod Mains
+pub mod Calls

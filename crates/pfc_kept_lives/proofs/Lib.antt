@@ -1,0 +1,15 @@
+pub mod Declared
+pub mod Callees
+pub mod Singles
+pub mod Bound
+pub mod Finished
+pub mod Only
+pub mod Ended
+pub mod Ending
+pub mod Makers
+pub mod Numbers
+pub mod Begun
+pub mod Newborn
+pub mod Others
+pub mod Created
+pub mod Creating

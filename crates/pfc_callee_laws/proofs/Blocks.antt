@@ -59,7 +59,7 @@ block_scope : (scope outer : ℕ) (env : Env) (next : ℕ) (b : BodyTree) (layou
     → (block_of scope outer env next b layout accepts guard).scope ≡ scope
 block_scope scope outer env next (body ss first last) layout accepts guard = refl
 
-main_scope : (t : ProgramTree) → (program_of t).main.scope ≡ 0
+pub main_scope : (t : ProgramTree) → (program_of t).main.scope ≡ 0
 main_scope t = block_scope 0 _ _ _ t.body _ _ _
 
 module _ (t : ProgramTree) (lawful : IsLawful (forget_program t)) (clean : broken t ≡ []) where

@@ -1,24 +1,30 @@
 -- Who is picked may act, where all actions are kept.
-use Rattle.std.proofs.Common.{ℕ, zero, suc, ◌%◌, ◌<◌, max, sym, subst, arith}
+use Rattle.std.proofs.Common.{◌≡◌, ℕ, zero, suc, ◌%◌, ◌<◌, max, ℤ, List, Option, sym, ap, ◌∙◌, subst, arith}
 use Rattle.std.proofs.Math.Nat.{mod-lt}
 use Rattle.pfc_sched.specs.Picks.{Picking, by_words, by_turn, by_list}
 use Rattle.pfc_sched.specs.Words.{word}
 use Rattle.pfc_semantics.specs.Remainders.{Action}
+use Rattle.pfc_tree.specs.trees.Parts.{ProgramTree}
 use Rattle.pfc_semantics.specs.Configurations.{Config}
+use Rattle.pfc_semantics.specs.Programs.{Program, program_of}
 use Rattle.pfc_semantics.specs.Selects.{choices}
 use Rattle.pfc_semantics.specs.Steps.{effect, line_of, next_of}
 use Rattle.pfc_code.specs.Images.{PlainImage}
+use Rattle.pfc_code.specs.declared.images.Object.{Object}
 use Rattle.pfc_translation.specs.Images.{image_of}
+use Rattle.pfc_translation.specs.Objects.{objects_of}
+use Rattle.pfc_object_laws.specs.Objects.{number_at}
 use Rattle.pfc_machines.specs.declared.machine.Machine.{Machine}
 use Rattle.pfc_machine_acts.specs.Acting.{choice_among, comes_to}
 use Rattle.pfc_machine_acts.specs.Conditions.{CanDo}
 use Rattle.pfc_machine_acts.specs.Performing.{acts_by}
 use Rattle.pfc_machine_acts.specs.Quietly.{quietly}
-use Rattle.pfc_representation.specs.Levels.{Facts, program_in}
+use Rattle.pfc_representation.specs.Levels.{Facts, program_in, LivingLevel, HasSetting}
 use Rattle.pfc_representation.specs.Machines.{Represents}
-use Rattle.pfc_representation.specs.Actions.{IsChoice, ComeToSame, IsKept, AreKept}
-use Rattle.pfc_arrivals.specs.Arrivals.{IsAboutToAct, ComesToAction, ActsAsItsSource}
+use Rattle.pfc_representation.specs.Actions.{IsChoice, ComeToSame, IsKept}
+use Rattle.pfc_arrivals.specs.Arrivals.{IsAboutToAct, ComesToAction, ActsAsItsSource, AreNumbered, IsNumbered, AreAllKept}
 use Rattle.pfc_arrivals.proofs.Arriving.{comes_to_action}
+use Rattle.pfc_arrivals.proofs.Standing.{has_setting}
 
 at_most : (k n : ℕ) → k < suc n → k < max 1 (suc n)
 at_most k n less = grind (arith, less)
@@ -29,8 +35,14 @@ choice_is (by_words g) (suc n) = at_most (word g % suc n) n (mod-lt (word g) (gr
 choice_is (by_turn last) (suc n) = at_most 0 n (grind arith)
 choice_is (by_list picks item) (suc n) = at_most 0 n (grind arith)
 
-module _ (facts : Facts) (m : Machine) (c : Config) (p : ℕ) (picking : Picking) (kept : AreKept (λ level n. Unit {0})) (is : Represents facts m c)
-    (about : IsAboutToAct facts m c p) where
+-- the numbers at a level are those of all
+pub numbered_at : (facts : Facts) (level : LivingLevel) → AreNumbered facts → HasSetting facts level → IsNumbered level
+numbered_at facts level numbered has = λ t same.
+    has.number ∙ numbered
+    ∙ ap (λ (g : Program). number_at (objects_of g)) (sym has.image.program ∙ same)
+
+module _ (facts : Facts) (m : Machine) (c : Config) (p : ℕ) (picking : Picking) (kept : AreAllKept)
+    (numbered : AreNumbered facts) (is : Represents facts m c) (about : IsAboutToAct facts m c p) where
   abbrev n : Action
   n = next_of (program_in facts) c p
 
@@ -61,7 +73,11 @@ module _ (facts : Facts) (m : Machine) (c : Config) (p : ℕ) (picking : Picking
     }
 
     alike : ActsAsItsSource facts m c p picking
-    alike = by_kept (kept facts come.before c p choice come.level n tt come.acting come.arrived (choice_is picking (choices (program_in facts) c p n)))
+    alike =
+        by_kept
+        (kept facts come.before c p choice come.level n
+        (numbered_at facts come.level numbered (has_setting facts come.before c p come.level come.acting)) about.rules come.acting come.arrived
+        (choice_is picking (choices (program_in facts) c p n)))
 
   pub acts_alike : ActsAsItsSource facts m c p picking
   acts_alike = alike (comes_to_action facts m c p is about)

@@ -10,8 +10,7 @@ ghost use Rattle.pfc_machine_acts.specs.Acting.{IsActed, choice_among};
 ghost use Rattle.pfc_machine_acts.specs.Performing.{choices_for};
 ghost use Rattle.pfc_representation.specs.Levels.{Facts};
 ghost use Rattle.pfc_representation.specs.Machines.{Represents};
-ghost use Rattle.pfc_representation.specs.Actions.{AreKept};
-ghost use Rattle.pfc_arrivals.specs.Arrivals.{IsAboutToAct, ComesToAction, ActsAsItsSource, HasAgreed};
+ghost use Rattle.pfc_arrivals.specs.Arrivals.{IsAboutToAct, ComesToAction, ActsAsItsSource, HasAgreed, AreNumbered, AreAllKept};
 
 /// Where the machine represents a configuration, the code of a process that is ready goes by quiet instructions to the action that comes next in its source
 /// text.
@@ -19,10 +18,12 @@ pub fn code_comes_to_actions()
     ensures { (facts : Facts) (m : Machine) (c : Config) (p : ℕ) → Represents facts m c → IsAboutToAct facts m c p → ComesToAction facts m c p }
 {}
 
-/// Where all actions are kept, such a process may act, and does on the machine what it does in the source text.
+/// Where all actions are kept in a program whose objects have the numbers of its image, such a process may act, and does on the machine what it does in the
+/// source text.
 pub fn who_is_picked_may_act()
     ensures { (facts : Facts) (m : Machine) (c : Config) (p : ℕ) (picking : Picking)
-        → AreKept (λ level n. Unit {0}) → Represents facts m c → IsAboutToAct facts m c p → ActsAsItsSource facts m c p picking }
+        → AreAllKept → AreNumbered facts → Represents facts m c → IsAboutToAct facts m c p
+        → ActsAsItsSource facts m c p picking }
 {}
 
 /// Behind the action of such a process the machine agrees with the configuration behind its step in the source text, and both have printed the same.

@@ -1,17 +1,16 @@
 -- Where the code of each block of an image begins, and the room that an activation of it takes.
-use Rattle.std.proofs.Common.{◌≡◌, ℕ, zero, suc, ◌+◌, ◌<◌, ◌≤◌, List, [], ◌∷◌, ◌++◌, length, drop, slice_get, get_or, Option, Some, None, length-append}
+use Rattle.std.proofs.Common.{◌≡◌, ℕ, zero, suc, ◌+◌, ◌<◌, ◌≤◌, List, [], ◌∷◌, length, drop, slice_get, get_or, Some, None, length-append}
 use Rattle.std.proofs.Common.{refl, sym, ap, ◌∙◌, subst, arith}
 use Rattle.std.proofs.lemmas.Option.{slice_get_within}
 use Rattle.pfc_code.specs.declared.instructions.Instr.{Instr}
 use Rattle.pfc_code.specs.declared.images.Block.{Block}
 use Rattle.pfc_code.specs.Images.{PlainImage}
 use Rattle.pfc_translation.specs.Images.{image_of}
-use Rattle.pfc_image_laws.specs.Layouts.{IsOwn, LaidOut, a_block, a_scan, of_main}
+use Rattle.pfc_image_laws.specs.Layouts.{LaidOut, a_block, a_scan, of_main}
 use Rattle.pfc_image_laws.proofs.Layouts.{image_laid}
-use Rattle.pfc_machines.specs.declared.rooms.Room.{Room}
 use Rattle.pfc_machines.specs.Rooms.{no_room, room_of_all, stretch, end_of, rooms_of}
 use Rattle.pfc_representation.specs.Levels.{Facts}
-use Rattle.pfc_representation.specs.Rooms.{process_count, image_rooms, room_in, end_in, room_behind}
+use Rattle.pfc_representation.specs.Rooms.{process_count, room_in, end_in, room_behind}
 
 first_at : {image : PlainImage} {at number : ℕ} {blocks : List Block} {scans : List ℕ} {code : List Instr} (b : Block) (later : List Block)
     → LaidOut image at number blocks scans code → blocks ≡ b ∷ later

@@ -1,206 +1,100 @@
 -- A call of a procedure or a function from inside its module.
-use Rattle.std.proofs.Common.{◌≡◌, ℕ, suc, ◌+◌, ◌-◌, ◌*◌, ◌^◌, ◌<◌, ◌≤◌, ℤ, pos, Bool, true, false, if◌then◌else◌, List, [], ◌∷◌, ◌++◌, length, take, drop}
-use Rattle.std.proofs.Common.{slice_get, get_or, Option, Some, None, Result, Ok, Err, replicate, length-append, length-drop, refl, sym, ap, ap₂, ◌∙◌, subst}
-use Rattle.std.proofs.Common.{arith, ◌⊎◌, inl, inr}
-use Rattle.std.specs.Prelude.{nat_le, min}
-use Rattle.std.proofs.lemmas.List.{append-nil, length-take, length-reverse, length-replicate}
-use Rattle.std.proofs.lemmas.Option.{slice_get_within, get_or_from_slice_get}
+use Rattle.std.proofs.Common.{◌≡◌, ℕ, ◌+◌, ◌≤◌, ℤ, Bool, true, false, if◌then◌else◌, List, length}
+use Rattle.std.proofs.Common.{slice_get, get_or, Option, Some, Ok, Err, refl, sym, ap, ◌∙◌, subst}
+use Rattle.std.proofs.Common.{arith}
+use Rattle.std.proofs.lemmas.List.{append-nil}
+use Rattle.std.proofs.lemmas.Option.{get_or_from_slice_get}
 use Rattle.pfc_base.specs.declared.faults.RunFault.TheVariants.{Stack as Full}
-use Rattle.pfc_tree.specs.trees.Parts.{ProgramTree}
-use Rattle.pfc_types.specs.Blocks.{Blocks, sub_at}
 use Rattle.pfc_types.specs.declared.heads.Formal.{Formal}
 use Rattle.pfc_types.specs.declared.heads.SubHead.{SubHead}
 use Rattle.pfc_types.specs.declared.heads.SubSort.{SubSort}
 use Rattle.pfc_types.specs.declared.heads.SubSort.TheVariants.{Procedure, Guarded, Function}
 use Rattle.pfc_code.specs.declared.images.Block.{Block as CodeBlock}
-use Rattle.pfc_code.specs.Images.{PlainImage}
 use Rattle.pfc_code.specs.declared.instructions.Instr.{Instr}
 use Rattle.pfc_code.specs.declared.instructions.Instr.TheVariants.{CALL, RET, RETF}
-use Rattle.pfc_semantics.specs.Values.{Value}
-use Rattle.pfc_semantics.specs.Layouts.{Layout, sub_with}
-use Rattle.pfc_semantics.specs.Programs.{Block, Program, block_at, block_number, layout_cells, program_of}
-use Rattle.pfc_semantics.specs.Remainders.{Context, Argument, Remainder, Action, calls, to_procedure, to_function}
-use Rattle.pfc_semantics.specs.Rewriting.{going}
-use Rattle.pfc_semantics.specs.Configurations.{Caller, of_remainder, of_value, plain, Config, Effect, activity_of, all_passed, body_of}
-use Rattle.pfc_semantics.specs.Calls.{cells_below, cells_above, most_cells, unless_full, activated, new_values, called}
+use Rattle.pfc_semantics.specs.Layouts.{sub_with}
+use Rattle.pfc_semantics.specs.Programs.{Block, Program, block_at, block_number, layout_cells}
+use Rattle.pfc_semantics.specs.Remainders.{Context, Argument, Action, calls, to_procedure, to_function}
+use Rattle.pfc_semantics.specs.Configurations.{Caller, of_remainder, of_value, plain, Config, Effect, body_of}
+use Rattle.pfc_semantics.specs.Calls.{activated, called}
 use Rattle.pfc_semantics.specs.Selects.{choices}
 use Rattle.pfc_semantics.specs.Steps.{effect, line_of}
 use Rattle.pfc_translation.specs.Sites.{links_from, links_to}
 use Rattle.pfc_translation.specs.Operands.{results, result_of}
 use Rattle.pfc_translation.specs.Images.{image_of, end_of}
 use Rattle.pfc_stacks.specs.declared.marks.Mark.TheVariants.{Plain}
-use Rattle.pfc_stacks.specs.Stacks.{Stack, stack_of, operands_of, in_view, own_cells}
-use Rattle.pfc_stacks.specs.Activations.{has_place, size_of, block_cells, arguments, params_of}
-use Rattle.pfc_cells.specs.Homes.{Homes}
-use Rattle.pfc_cells.specs.Memory.{Entry, AreCells, ProcessIs}
-use Rattle.pfc_cells.proofs.Blocks.{block_length}
+use Rattle.pfc_stacks.specs.Stacks.{stack_of, operands_of, in_view}
+use Rattle.pfc_stacks.specs.Activations.{has_place}
 use Rattle.pfc_machines.specs.declared.machine.Machine.{Machine}
-use Rattle.pfc_machines.specs.Actions.{at_rest, PrintedEffect}
 use Rattle.pfc_machines.specs.Descriptors.{descriptor_of}
-use Rattle.pfc_call_actions.specs.Calls.{CanCall, calls as machine_calls, activated as machine_activated, unless_full as machine_unless_full}
-use Rattle.pfc_machine_acts.specs.Acting.{acted}
-use Rattle.pfc_machine_acts.specs.Performing.{silent, with_block, calls_by}
+use Rattle.pfc_call_actions.specs.Calls.{calls as machine_calls, activated as machine_activated, unless_full as machine_unless_full}
+use Rattle.pfc_machine_acts.specs.Performing.{silent, with_block}
 use Rattle.pfc_standing_code.specs.Settings.{Trial, of_own, site_of, IsBeside, same_block, IsAt}
 use Rattle.pfc_standing_code.specs.Shapes.{a_number}
 use Rattle.pfc_standing_code.specs.Effects.{Arm}
 use Rattle.pfc_standing_code.specs.Words.{AreHeld, AreKnown, IsChecked}
 use Rattle.pfc_standing_code.specs.Typed.{ByName, InExpressions, IsOfSub}
-use Rattle.pfc_standing_images.specs.Images.{IsOfImage}
-use Rattle.pfc_standing_images.proofs.Wholes.{block_stands}
 use Rattle.pfc_standing_code.specs.Performs.{own_block, Performs}
 use Rattle.pfc_standing_code.proofs.Checked.{checked_for}
-use Rattle.pfc_standing_code.specs.Awaits.{CallsAt}
-use Rattle.pfc_call_laws.specs.Blocks.{HasFirstValues, Takes}
-use Rattle.pfc_call_laws.proofs.Passing.{filled, left}
-use Rattle.pfc_type_laws.proofs.WalkBlocks.{types_built}
-use Rattle.pfc_type_laws.proofs.SoundTables.{built_counted}
-use Rattle.pfc_types.specs.rules.Whole.{types_of}
-use Rattle.pfc_call_laws.proofs.FirstValues.{are_first}
-use Rattle.pfc_call_laws.proofs.Layouts.{layout_joined}
-use Rattle.pfc_representation.specs.Levels.{Facts, program_in, LivingLevel, block_of, DoesOn}
+use Rattle.pfc_representation.specs.Levels.{Facts, program_in, LivingLevel, block_of}
 use Rattle.pfc_representation.specs.Rooms.{own_address}
 use Rattle.pfc_representation.specs.Callers.{ending_of, GoesBack, IsWithin}
-use Rattle.pfc_representation.specs.Machines.{Agrees, goes_on}
-use Rattle.pfc_representation.specs.Acting.{IsActing, HasArrived}
+use Rattle.pfc_representation.specs.Machines.{goes_on}
+use Rattle.pfc_representation.specs.Acting.{IsActing}
 use Rattle.pfc_representation.specs.Actions.{ComeToSame, IsKept, AreKept}
 use Rattle.pfc_kept_own_actions.proofs.Arrived.{has_setting, code_there, code_line, acts_now, next_within}
 use Rattle.pfc_kept_calls.specs.Callees.{IsCallable}
 use Rattle.pfc_kept_calls.specs.Groups.{MayCall, CallsProcedure, CallsFunction}
-use Rattle.pfc_kept_calls.proofs.Tops.{cells_of_all}
 use Rattle.pfc_kept_calls.proofs.Faults.{faulted}
-use Rattle.pfc_kept_calls.proofs.Called.{g, a, d, s, w, outer, hold, top, hand, full_cells, IsCall, represents_called}
+use Rattle.pfc_kept_calls.proofs.Caller.{outer}
+use Rattle.pfc_kept_calls.proofs.Called.{represents_called}
+use Rattle.pfc_kept_calls.proofs.Sizes.{first_values, short_below, same_limit, can_call}
 
--- ## Sizes
+-- ## Both sides
 
-module _ (facts : Facts) (m : Machine) (c : Config) (p : ℕ) (level : LivingLevel) (acting : IsActing facts m c p level) where
-  -- the activations of a process are few
-  pub few_activations : (descriptor_of m.descriptors p).activations + 1 < 2 ^ 32
-  few_activations =
-      let is = top facts m c p level acting in
-      let all = cells_of_all (program_in facts) acting.homes c.store p (is.entry ∷ is.below) (stack_of m.stacks p).cells
-      (subst (λ (es : List Entry). ProcessIs (program_in facts) acting.homes c.store p es (stack_of m.stacks p).cells) is.entries
-      (acting.alike.holds.memory p)) in
-      let few : length (stack_of m.stacks p).cells < 2 ^ 32 = acting.alike.holds.few.cells p in
-      let count = acting.actor.stands.count in
-      let many : length (activity_of (program_in facts) c p).activations ≡ length (is.entry ∷ is.below) = is.count ∙ ap
-      (λ (es : List Entry). length es) is.entries in
-      bound (descriptor_of m.descriptors p).activations (length (activity_of (program_in facts) c p).activations) (length (is.entry ∷ is.below)) (length
-      (stack_of m.stacks p).cells) count many all few
-    where
-      bound : (x y n cells : ℕ) → x ≡ y → y ≡ n → 8 * n ≤ cells → cells < 2 ^ 32 → x + 1 < 2 ^ 32
-      bound x y n cells h k l few = omega (arith, h, k, l, few)
+module _ (facts : Facts) (m : Machine) (c : Config) (p : ℕ) (level : LivingLevel) (acting : IsActing facts m c p level)
+    (own : level.setting.trial ≡ of_own) (b callee : Block) (k l : ℕ) (formals : List Formal) (x : Context) (given : List Argument) (below : List ℤ)
+    (beside : IsBeside level.setting level.setting.block b) (known : AreKnown (program_in facts) b level.setting.accepts x.env)
+    (can : IsCallable facts.tree b callee k l formals)
+    (held : AreHeld level.setting.view (site_of (outer facts m c p level acting) b x) formals given (stack_of m.stacks p).operands below)
+    (counted : (block_of level).cells ≡ layout_cells (program_in facts).state.forms (block_of level).layout) (caller : Caller) (last : Instr)
+    (ends : last ≡ end_of (sub_with (program_in facts).state.blocks.subs callee.scope)) (ending : last ≡ ending_of caller)
+    (back : GoesBack facts level ((stack_of m.stacks p).at + 1) below plain caller)
+    (within : IsWithin facts level ((stack_of m.stacks p).at + 1) (descriptor_of m.descriptors p).communications) (line : ℕ) where
+  abbrev code : CodeBlock
+  code = can.code
 
-  abbrev image : PlainImage
-  image = image_of facts.tree
+  by_place : (u : Bool) → has_place p (length (stack_of m.stacks p).cells) code ≡ u
+      → ComeToSame facts m c p line (silent (machine_unless_full u (machine_activated k code (in_view m.stacks p l) Plain p m)))
+      (if u then Ok (activated (program_in facts) c p callee plain caller given (body_of callee)) else Err Full)
+  by_place true place = (
+    goes_on (represents_called facts m c p level acting b callee k l formals x given below caller last (first_values facts m c p level acting)
+        (record {
+          own = own;
+          beside = beside;
+          known = known;
+          can = can;
+          held = held;
+          place = place;
+          ends = ends;
+          ending = ending;
+          back = back;
+          within = within;
+          counted = counted;
+        }) line),
+    sym (append-nil c.output),
+  )
+  by_place false place = (refl, faulted facts m c p level acting line Full)
 
-  outer_image : IsOfImage facts.tree (outer facts m c p level acting)
-  outer_image =
-      let has = (has_setting facts m c p level acting).image in
-      record { program = refl; code = has.code; lines = has.lines; texts = has.texts; arms = has.arms }
-
-  pub first_values : HasFirstValues (program_in facts)
-  first_values = are_first (program_in facts) (types_built facts.tree) (built_counted (types_of facts.tree) (types_built facts.tree)) refl
-
-  module _ (own : level.setting.trial ≡ of_own) (b callee : Block) (k l : ℕ) (formals : List Formal) (x : Context) (given : List Argument) (below : List ℤ)
-      (beside : IsBeside level.setting level.setting.block b) (known : AreKnown (program_in facts) b level.setting.accepts x.env)
-      (can : IsCallable facts.tree b callee k l formals)
-      (held : AreHeld level.setting.view (site_of (outer facts m c p level acting) b x) formals given (stack_of m.stacks p).operands below)
-      (counted : (block_of level).cells ≡ layout_cells (program_in facts).state.forms (block_of level).layout) where
-    abbrev code : CodeBlock
-    code = can.code
-
-    abbrev ops : List ℤ
-    ops = (stack_of m.stacks p).operands
-
-    cells_hold : AreCells (program_in facts) acting.homes callee.layout (new_values (program_in facts) callee (all_passed (program_in facts) c p given))
-        (block_cells (arguments code ops) (code.cells - code.params))
-    cells_hold = filled (outer facts m c p level acting) acting.homes acting.entries c m.stacks b (w facts m c p level acting)
-        (hand facts m c p level acting own b beside) p x (hold facts m c p level acting) refl known
-        first_values callee code formals can.takes given ops below held
-
-    pub held_below : drop code.params ops ≡ below
-    held_below = left (outer facts m c p level acting) acting.homes acting.entries c m.stacks b (w facts m c p level acting)
-        (hand facts m c p level acting own b beside) p x (hold facts m c p level acting) refl known
-        first_values callee code formals can.takes given ops below held
-
-    params_within : code.params ≤ code.cells
-    params_within =
-        let whole : code.cells ≡ layout_cells (program_in facts).state.forms can.takes.parameters + layout_cells
-        (program_in facts).state.forms can.takes.others =
-        can.takes.cells ∙ ap (λ (xs : Layout). layout_cells (program_in facts).state.forms xs) can.takes.layout ∙ layout_joined
-        (program_in facts) can.takes.parameters can.takes.others in
-        let some = can.takes.params in
-        omega (arith, whole, some)
-
-    pub arguments_there : code.params ≤ length ops
-    arguments_there =
-        let all : length (block_cells (arguments code ops) (code.cells - code.params)) ≡ code.cells =
-        block_length (program_in facts) acting.alike.program.types.counted acting.homes callee.layout (new_values (program_in facts) callee (all_passed
-        (program_in facts) c p given))
-        (block_cells (arguments code ops) (code.cells - code.params)) cells_hold ∙ sym can.takes.cells in
-        let parts : length (block_cells (arguments code ops) (code.cells - code.params)) ≡ min code.params (length ops) + (code.cells - code.params) =
-        length-append (arguments code ops) (replicate (code.cells - code.params) (pos 0))
-        ∙ ap₂ (λ i j. i + j) (length-reverse (take code.params ops) ∙ length-take code.params ops) (length-replicate (code.cells - code.params) (pos 0)) in
-        let within = params_within in
-        omega (arith, all, parts, within)
-
-    pub short_below : length below ≤ length ops
-    short_below = subst (λ (xs : List ℤ). length xs ≤ length ops) held_below (let e = length-drop code.params ops in omega (arith, e))
-
-    -- both sides have the same limit
-    same_limit : nat_le (cells_above (activity_of (program_in facts) c p).activations callee) (most_cells p) ≡ has_place p (length
-        (stack_of m.stacks p).cells) code
-    same_limit =
-        ap (λ n. nat_le n (most_cells p))
-        (summed (cells_below (activity_of (program_in facts) c p).activations) (length (stack_of m.stacks p).cells) (sym
-        (full_cells facts m c p level acting counted)) callee.cells
-        (sym (block_stands facts.tree (outer facts m c p level acting) outer_image k callee code can.there can.is).cells) params_within)
-      where
-        summed : (i j : ℕ) → i ≡ j → (n : ℕ) → n ≡ code.cells → code.params ≤ code.cells → i + (n + 8) ≡ j + size_of code
-        summed i j h n is within = omega (arith, h, is, within)
-
-    module _ (caller : Caller) (last : Instr) (ends : last ≡ end_of (sub_with (program_in facts).state.blocks.subs callee.scope))
-        (ending : last ≡ ending_of caller)
-        (back : GoesBack facts level ((stack_of m.stacks p).at + 1) below plain caller) (within : IsWithin facts level ((stack_of m.stacks p).at + 1)
-        (descriptor_of m.descriptors p).communications) (line : ℕ) where
-      by_place : (u : Bool) → has_place p (length (stack_of m.stacks p).cells) code ≡ u
-          → ComeToSame facts m c p line (silent (machine_unless_full u (machine_activated k code (in_view m.stacks p l) Plain p m)))
-          (if u then Ok (activated (program_in facts) c p callee plain caller given (body_of callee)) else Err Full)
-      by_place true place = (
-        goes_on (represents_called facts m c p level acting b callee k l formals x given below caller last first_values
-            (record {
-              own = own;
-              beside = beside;
-              known = known;
-              can = can;
-              held = held;
-              place = place;
-              ends = ends;
-              ending = ending;
-              back = back;
-              within = within;
-              counted = counted;
-            }) line),
-        sym (append-nil c.output),
-      )
-      by_place false place = (refl, faulted facts m c p level acting line Full)
-
-      pub come_to_same : ComeToSame facts m c p line (silent (with_block (slice_get image.blocks k) m (λ (c : CodeBlock). machine_calls k c l p m)))
-          (called (program_in facts) c p callee caller given)
-      come_to_same =
-          subst (λ (o : Option CodeBlock). ComeToSame facts m c p line (silent (with_block o m (λ (c : CodeBlock). machine_calls k c l p m))) (called
-          (program_in facts) c p callee caller given)) (sym can.is)
-          (subst (λ (v : Bool). ComeToSame facts m c p line (silent (machine_unless_full (has_place p (length (stack_of m.stacks p).cells) code)
-          (machine_activated k code (in_view m.stacks p l) Plain p m)))
-          (if v then Ok (activated (program_in facts) c p callee plain caller given (body_of callee)) else Err Full)) (sym same_limit)
-          (by_place (has_place p (length (stack_of m.stacks p).cells) code) refl))
-
-    pub can_call : CanCall image.blocks k p m
-    can_call = record {
-      block = slice_get_within image.blocks k code can.is;
-      arguments = subst (λ (o : Option CodeBlock). params_of o ≤ length ops) (sym can.is) arguments_there;
-      few = few_activations;
-    }
+  pub come_to_same : ComeToSame facts m c p line (silent (with_block (slice_get (image_of facts.tree).blocks k) m (λ (c : CodeBlock). machine_calls k c l p m)))
+      (called (program_in facts) c p callee caller given)
+  come_to_same =
+      subst (λ (o : Option CodeBlock). ComeToSame facts m c p line (silent (with_block o m (λ (c : CodeBlock). machine_calls k c l p m))) (called
+      (program_in facts) c p callee caller given)) (sym can.is)
+      (subst (λ (v : Bool). ComeToSame facts m c p line (silent (machine_unless_full (has_place p (length (stack_of m.stacks p).cells) code)
+      (machine_activated k code (in_view m.stacks p l) Plain p m)))
+      (if v then Ok (activated (program_in facts) c p callee plain caller given (body_of callee)) else Err Full)) (sym (same_limit facts m c p level acting own b callee k code formals x given below beside known can.takes can.there can.is held counted))
+      (by_place (has_place p (length (stack_of m.stacks p).cells) code) refl))
 
 -- ## How the body ends
 
@@ -284,7 +178,7 @@ module _ (facts : Facts) (m : Machine) (c : Config) (p choice : ℕ) (level : Li
       sym (ap result_of can.headed) ∙ ap (λ (z : Block). result_of (sub_with g0.state.blocks.subs z.scope)) (sym found) ∙ leaves
 
   pub is_short : length below ≤ length (operands_of m.stacks p)
-  is_short = short_below facts m c p level acting own b callee k l formals x given below checked.beside known can is_held counted
+  is_short = short_below facts m c p level acting own b callee k can.code formals x given below checked.beside known can.takes can.there can.is is_held counted
 
   pub kept_by : (caller : Caller) (last : Instr) (n : Action) → last ≡ end_of (Some can.head) → last ≡ ending_of caller → GoesBack facts level
       ((stack_of m.stacks p).at + 1) below plain caller
@@ -296,7 +190,7 @@ module _ (facts : Facts) (m : Machine) (c : Config) (p choice : ℕ) (level : Li
     no_move = tt;
     can_do = record {
       acting = acts_now facts m c p level acting (CALL k l) x.line is_there;
-      can = can_call facts m c p level acting own b callee k l formals x given below checked.beside known can is_held counted;
+      can = can_call facts m c p level acting own b callee k can.code formals x given below checked.beside known can.takes can.there can.is is_held counted;
     };
     line = code_line facts m c p level acting (stack_of m.stacks p).at (CALL k l) x.line is_there ∙ sym line;
     choices = sym none;

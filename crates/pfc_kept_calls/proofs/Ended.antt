@@ -1,22 +1,21 @@
 -- The innermost activation of a process ends: nobody keeps it, and what the others see stays.
 use Rattle.std.proofs.Common.{◌≡◌, ◌≢◌, ℕ, zero, suc, ◌+◌, ◌*◌, ◌%◌, ◌^◌, ◌<◌, ◌≤◌, ℤ, pos, Bool, true, false, List, [], ◌∷◌, ◌++◌, length, length-append}
-use Rattle.std.proofs.Common.{map, slice_get, get_or, Option, Some, None, refl, sym, ap, ap₂, ◌∙◌, subst, arith, ◌⊎◌, inl, inr}
+use Rattle.std.proofs.Common.{slice_get, get_or, Some, None, refl, sym, ap, ap₂, ◌∙◌, subst, arith, inl, inr}
 use Rattle.std.proofs.lemmas.List.{get_or-append-add, get_or_append_left}
-use Rattle.pfc_types.specs.declared.types.TypeId.{TypeId}
 use Rattle.pfc_types.specs.declared.scope.Meaning.{Meaning}
 use Rattle.pfc_types.specs.declared.scope.Meaning.TheVariants.{Variable, Process}
 use Rattle.pfc_world.specs.Tables.{Table, at}
-use Rattle.pfc_semantics.specs.Values.{Selector, Location, Value, path_of}
+use Rattle.pfc_semantics.specs.Values.{Selector, Value, path_of}
 use Rattle.pfc_semantics.specs.Layouts.{Layout, is_laid}
 use Rattle.pfc_semantics.specs.Programs.{Program, block_at}
 use Rattle.pfc_semantics.specs.Store.{Store, values_in, without}
-use Rattle.pfc_semantics.specs.Configurations.{Activation, of_nobody}
+use Rattle.pfc_semantics.specs.Configurations.{Activation}
 use Rattle.pfc_code.specs.declared.instructions.Instr.TheVariants.{END}
 use Rattle.pfc_stacks.specs.Refs.{number_of}
-use Rattle.pfc_stacks.specs.Stacks.{Stack, Stacks, stack_of, cells_of, own_cells, own_word}
-use Rattle.pfc_cells.specs.Homes.{Home, Homes, Lies, layout_at, laid_type, cells_before}
+use Rattle.pfc_stacks.specs.Stacks.{Stacks, stack_of, cells_of, own_cells, own_word}
+use Rattle.pfc_cells.specs.Homes.{Home, Homes, layout_at, laid_type, cells_before}
 use Rattle.pfc_cells.specs.Shapes.{IsPath}
-use Rattle.pfc_cells.specs.Memory.{Entry, Entries, IsAmong, AreCells, CellsAre, ProcessIs, MemoryIs}
+use Rattle.pfc_cells.specs.Memory.{Entry, Entries, IsAmong, AreCells, CellsAre, ProcessIs}
 use Rattle.pfc_cells.specs.Activations.{with_entries}
 use Rattle.pfc_cells.proofs.Kept.{has_home}
 use Rattle.pfc_machines.specs.declared.alternatives.Alternative.{Alternative}
@@ -29,10 +28,10 @@ use Rattle.pfc_views.specs.Keeping.{IsLike}
 use Rattle.pfc_views.proofs.Changes.{ended}
 use Rattle.pfc_views.proofs.Living.{own_of}
 use Rattle.pfc_call_laws.specs.Calls.{HasNoObjects, first_home}
-use Rattle.pfc_representation.specs.Levels.{Facts, program_in, LivingLevel, room_of, is_met_by, MayKeep, of_main, of_own as of_own_stack, lent as lent_by}
+use Rattle.pfc_representation.specs.Levels.{Facts, program_in, LivingLevel, room_of, MayKeep, of_main, of_own as of_own_stack, lent as lent_by}
 use Rattle.pfc_representation.specs.Rooms.{guards_room}
 use Rattle.pfc_representation.specs.Alternatives.{AreMade, none_made, one_made}
-use Rattle.pfc_representation.specs.Callers.{ending_of, Linkage, StandsFor, IsFirst, IsCalled, IsWithin, AreCallers}
+use Rattle.pfc_representation.specs.Callers.{ending_of, Linkage, StandsFor, IsCalled, IsWithin, AreCallers}
 use Rattle.pfc_representation.specs.Machines.{HoldsStore}
 use Rattle.pfc_representation.specs.Keeping.{IsLender, meets, meets_lender}
 use Rattle.pfc_kept_calls.proofs.Tops.{cells_of_all}

@@ -1,5 +1,5 @@
 -- A fault ends the run on both sides alike.
-use Rattle.std.proofs.Common.{◌≡◌, ◌≢◌, ℕ, ◌+◌, ◌<◌, List, length, set, get_or, Option, Some, None, Err, refl, sym, ap, ◌∙◌, subst, arith, ◌⊎◌, inl, inr}
+use Rattle.std.proofs.Common.{◌≡◌, ◌≢◌, ℕ, ◌<◌, length, Option, Err, refl, sym, ap, ◌∙◌, subst, arith, ◌⊎◌, inl, inr}
 use Rattle.std.proofs.lemmas.List.{get_or-set_same, get_or-set_other, length-set}
 use Rattle.pfc_base.specs.declared.faults.RunFault.{RunFault}
 use Rattle.pfc_world.specs.Tables.{Table}
@@ -12,7 +12,6 @@ use Rattle.pfc_machines.specs.Actions.{at_rest}
 use Rattle.pfc_machines.specs.Descriptors.{descriptor_by, descriptor_of}
 use Rattle.pfc_machine_acts.specs.Acting.{acted}
 use Rattle.pfc_representation.specs.Levels.{Facts, program_in, LivingLevel}
-use Rattle.pfc_representation.specs.Processes.{RepresentsProcess}
 use Rattle.pfc_representation.specs.Machines.{machine_table, SharesWords, Reports, Agrees, has_ended}
 use Rattle.pfc_representation.specs.Acting.{IsActing}
 

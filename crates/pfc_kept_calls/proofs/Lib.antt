@@ -2,7 +2,12 @@ pub mod Roomier
 pub mod Tops
 pub mod Beginnings
 pub mod Faults
+pub mod Lists
+pub mod Caller
+pub mod Inside
+pub mod Begun
 pub mod Called
+pub mod Sizes
 pub mod Calling
 pub mod Ended
 pub mod Turned

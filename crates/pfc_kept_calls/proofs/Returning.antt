@@ -1,22 +1,18 @@
 -- The end of a procedure or a function that was called from inside its module.
-use Rattle.std.proofs.Common.{◌≡◌, ℕ, suc, ◌+◌, ◌^◌, ◌<◌, ◌≤◌, ℤ, pos, Bool, false, List, [], ◌∷◌, length, set, slice_get, get_or, Option, Some, None, Ok}
+use Rattle.std.proofs.Common.{◌≡◌, ℕ, suc, ◌≤◌, ℤ, false, List, [], ◌∷◌, length, set, slice_get, Option, Some, Ok}
 use Rattle.std.proofs.Common.{refl, sym, ap, ap₂, ◌∙◌, subst, arith}
 use Rattle.std.proofs.lemmas.List.{append-nil}
-use Rattle.pfc_types.specs.declared.types.TypeId.{TypeId}
-use Rattle.pfc_types.specs.declared.scope.Meaning.{Meaning}
 use Rattle.pfc_types.specs.declared.scope.Meaning.TheVariants.{Variable}
-use Rattle.pfc_types.specs.declared.heads.SubHead.{SubHead}
-use Rattle.pfc_types.specs.rules.Expressions.{Env}
 use Rattle.pfc_code.specs.declared.images.Block.{Block as CodeBlock}
 use Rattle.pfc_code.specs.declared.instructions.Instr.{Instr}
 use Rattle.pfc_code.specs.declared.instructions.Instr.TheVariants.{RET, RETF, END}
 use Rattle.pfc_semantics.specs.Values.{Value, ordinal}
 use Rattle.pfc_semantics.specs.Layouts.{Layout, sub_with}
 use Rattle.pfc_semantics.specs.Programs.{Block, Program}
-use Rattle.pfc_semantics.specs.Remainders.{Context, Remainder, AwaitsValue, Action, finishes}
+use Rattle.pfc_semantics.specs.Remainders.{Context, AwaitsValue, Action, finishes}
 use Rattle.pfc_semantics.specs.Rewriting.{Doing, going, holding}
 use Rattle.pfc_semantics.specs.Store.{variable}
-use Rattle.pfc_semantics.specs.Configurations.{Mark, plain, of_monitor, of_resource, Caller, of_nobody, of_remainder, of_value, Activation, Config, Effect}
+use Rattle.pfc_semantics.specs.Configurations.{Mark, plain, of_monitor, of_resource, Caller, of_nobody, of_remainder, of_value, Activation, Config}
 use Rattle.pfc_semantics.specs.Configurations.{activity_of, done_at}
 use Rattle.pfc_semantics.specs.Calls.{left_by, formals_of, result_in}
 use Rattle.pfc_semantics.specs.Steps.{returns_to, ends_for, ends_body}
@@ -32,7 +28,7 @@ use Rattle.pfc_stacks.specs.Activations.{returned, mark_in, result_in as result_
 use Rattle.pfc_stacks.specs.Effects.{last_block}
 use Rattle.pfc_cells.specs.Homes.{cells_before, layout_at}
 use Rattle.pfc_machines.specs.declared.machine.Machine.{Machine}
-use Rattle.pfc_machines.specs.Actions.{at_rest, PrintedEffect}
+use Rattle.pfc_machines.specs.Actions.{at_rest}
 use Rattle.pfc_call_actions.specs.Returns.{ended, returned_by, returns_result, HoldsMarked}
 use Rattle.pfc_machine_acts.specs.Performing.{silent}
 use Rattle.pfc_standing_code.specs.Settings.{Trial, of_own, IsAt}
@@ -47,7 +43,7 @@ use Rattle.pfc_representation.specs.Actions.{ComeToSame, IsKept, AreKept}
 use Rattle.pfc_kept_own_actions.proofs.Arrived.{has_setting, code_there, code_line, acts_now}
 use Rattle.pfc_kept_calls.specs.Groups.{HasResult, EndsProcedure, EndsFunction}
 use Rattle.pfc_kept_calls.proofs.Beginnings.{number_within}
-use Rattle.pfc_kept_calls.proofs.Called.{outer, hold}
+use Rattle.pfc_kept_calls.proofs.Caller.{outer, hold}
 use Rattle.pfc_kept_calls.proofs.Ended.{number_back}
 use Rattle.pfc_kept_calls.proofs.Returned.{has, e, rest, home, home_at, base, own, mark_there, block_there, back_at, is_stack, room_fits, represents_returned}
 
@@ -78,7 +74,7 @@ module _ (facts : Facts) (m : Machine) (c : Config) (p choice : ℕ) (level : Li
         (has facts m c p level acting on).called.trial) does)
 
     -- behind the call, in no scan
-    represents_plainly : Represents facts
+    pub represents_plainly : Represents facts
         (acted line p (at_rest (record m {
           stacks = set m.stacks p (record (returned s) { operands = left });
           descriptors = set m.descriptors p

@@ -1,6 +1,5 @@
 -- The callers of a process stand as they stood where there is more room.
-use Rattle.std.proofs.Common.{◌≡◌, ℕ, ◌+◌, ◌≤◌, ℤ, List, [], ◌∷◌, length, refl, sym, ap, subst, arith}
-use Rattle.pfc_code.specs.declared.images.Block.{Block as CodeBlock}
+use Rattle.std.proofs.Common.{ℕ, ◌≤◌, ℤ, List, [], ◌∷◌, refl, sym, subst, arith}
 use Rattle.pfc_world.specs.Tables.{Table}
 use Rattle.pfc_semantics.specs.Store.{Store}
 use Rattle.pfc_semantics.specs.Configurations.{Activation}
@@ -12,8 +11,8 @@ use Rattle.pfc_representation.specs.Levels.{Facts, LivingLevel}
 use Rattle.pfc_code.specs.declared.instructions.Instr.{Instr}
 use Rattle.pfc_code.specs.declared.instructions.Instr.TheVariants.{ARMA}
 use Rattle.pfc_standing_code.specs.Effects.{Arm}
-use Rattle.pfc_representation.specs.Rooms.{process_count, HasRoomFor, HasRoom, GoesOnWithin, MayMeetBy, MayMeet}
-use Rattle.pfc_representation.specs.Callers.{IsFirst, IsCalled, IsWithin, AreCallers}
+use Rattle.pfc_representation.specs.Rooms.{process_count, HasRoomFor, HasRoom, MayMeetBy, MayMeet}
+use Rattle.pfc_representation.specs.Callers.{IsFirst, IsWithin, AreCallers}
 
 abbrev pub IsLarger : Room → Room → Type 0
 IsLarger a b = (a.alternatives ≤ b.alternatives) × (a.words ≤ b.words) × (a.meetings ≤ b.meetings)

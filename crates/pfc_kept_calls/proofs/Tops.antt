@@ -1,21 +1,18 @@
 -- The innermost activation of a process, and what the cells of all are.
-use Rattle.std.proofs.Common.{◌≡◌, ℕ, suc, ◌+◌, ◌*◌, ◌^◌, ◌<◌, ◌≤◌, ℤ, pos, List, [], ◌∷◌, ◌++◌, length, Option, Some, length-append, refl, sym, ap, ◌∙◌}
-use Rattle.std.proofs.Common.{subst, arith}
-use Rattle.pfc_types.specs.Types.{Forms}
+use Rattle.std.proofs.Common.{◌≡◌, ℕ, suc, ◌+◌, ◌*◌, ◌^◌, ◌≤◌, ℤ, pos, List, [], ◌∷◌, ◌++◌, length, Some, length-append, refl, sym, ap, ◌∙◌}
+use Rattle.std.proofs.Common.{arith}
 use Rattle.pfc_world.specs.Tables.{Table}
-use Rattle.pfc_semantics.specs.Layouts.{Layout}
 use Rattle.pfc_semantics.specs.Programs.{Program, layout_cells}
 use Rattle.pfc_semantics.specs.Store.{Store, values_in}
 use Rattle.pfc_semantics.specs.Configurations.{Activation}
-use Rattle.pfc_semantics.specs.Calls.{cells_below}
 use Rattle.pfc_stacks.specs.Refs.{word_of}
 use Rattle.pfc_cells.specs.Shapes.{AreCounted}
 use Rattle.pfc_cells.specs.Homes.{Home, Homes, layout_at}
-use Rattle.pfc_cells.specs.Memory.{Entry, Entries, StandsOver, CellsAre}
+use Rattle.pfc_cells.specs.Memory.{Entry, Entries, CellsAre}
 use Rattle.pfc_cells.proofs.Blocks.{block_length}
 use Rattle.pfc_machines.specs.Communications.{Communicating}
-use Rattle.pfc_representation.specs.Levels.{Facts, program_in, LivingLevel, block_of, HasSetting}
-use Rattle.pfc_representation.specs.Callers.{Linkage, StandsFor, IsFirst, IsCalled, AreCallers}
+use Rattle.pfc_representation.specs.Levels.{Facts, LivingLevel}
+use Rattle.pfc_representation.specs.Callers.{Linkage, StandsFor, AreCallers}
 
 -- the innermost
 pub record HasTop (facts : Facts) (homes : Homes) (store : Store) (p : ℕ) (level : LivingLevel) (w : ℤ) (xs : List Activation)

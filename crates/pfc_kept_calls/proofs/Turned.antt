@@ -1,5 +1,5 @@
 -- A level before the turn of a scan is seen and called as it is in none.
-use Rattle.std.proofs.Common.{◌≡◌, ℕ, ◌++◌, ℤ, List, [], ◌∷◌, length, refl}
+use Rattle.std.proofs.Common.{ℕ, ◌++◌, ℤ, List, [], ◌∷◌}
 use Rattle.pfc_world.specs.Tables.{Table}
 use Rattle.pfc_semantics.specs.Displays.{Display}
 use Rattle.pfc_semantics.specs.Programs.{Block}
@@ -9,9 +9,9 @@ use Rattle.pfc_semantics.specs.Configurations.{Activation}
 use Rattle.pfc_cells.specs.Homes.{Homes}
 use Rattle.pfc_cells.specs.Memory.{Entry, Entries}
 use Rattle.pfc_machines.specs.Communications.{Communicating}
-use Rattle.pfc_standing_code.specs.Settings.{View, Trial, Setting, of_own, of_turn, of_another, IsBeside, same_block, both_mains}
+use Rattle.pfc_standing_code.specs.Settings.{View, Trial, of_own, of_turn, of_another, IsBeside, same_block, both_mains}
 use Rattle.pfc_representation.specs.Levels.{Facts, LivingLevel, in_turn, SeesWith, SeesThrough, IsSeenBy}
-use Rattle.pfc_representation.specs.Callers.{Linkage, StandsFor, IsFirst, IsCalled, IsWithin, AreCallers}
+use Rattle.pfc_representation.specs.Callers.{Linkage, StandsFor, AreCallers}
 
 -- in no scan, or before a turn of one
 abbrev pub IsOwnTurn : Trial → Type 0

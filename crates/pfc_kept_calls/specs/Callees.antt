@@ -7,7 +7,7 @@ use Rattle.pfc_types.specs.declared.heads.Formal.{Formal}
 use Rattle.pfc_types.specs.declared.heads.SubHead.{SubHead}
 use Rattle.pfc_types.specs.declared.scope.Meaning.{Meaning}
 use Rattle.pfc_semantics.specs.Layouts.{sub_with}
-use Rattle.pfc_semantics.specs.Programs.{Block, program_of, layout_cells}
+use Rattle.pfc_semantics.specs.Programs.{Block, program_of}
 use Rattle.pfc_translation.specs.Images.{image_of}
 use Rattle.pfc_standing_code.specs.Words.{AreKnown}
 use Rattle.pfc_call_laws.specs.Blocks.{Takes, own_variables}

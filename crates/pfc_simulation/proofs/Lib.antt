@@ -1,6 +1,6 @@
 mod Communications
 mod Effects
 mod Resting
-mod Steps
 pub mod Looks
 pub mod Simulating
+pub mod Steps

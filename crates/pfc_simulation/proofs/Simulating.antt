@@ -25,10 +25,10 @@ use Rattle.pfc_machine_acts.specs.Quietly.{quietly}
 use Rattle.pfc_machine_acts.specs.Settling.{machine_settled}
 use Rattle.pfc_representation.specs.Levels.{Facts, program_in}
 use Rattle.pfc_representation.specs.Machines.{Represents, Reports, Agrees, goes_on}
-use Rattle.pfc_representation.specs.Actions.{ComeToSame, AreKept}
+use Rattle.pfc_representation.specs.Actions.{ComeToSame}
 use Rattle.pfc_settling_laws.proofs.Reported.{agreeing_reports, still_represented}
 use Rattle.pfc_settling_laws.proofs.Settled.{agrees_settled}
-use Rattle.pfc_arrivals.specs.Arrivals.{IsAboutToAct, ActsAsItsSource}
+use Rattle.pfc_arrivals.specs.Arrivals.{IsAboutToAct, ActsAsItsSource, AreNumbered, AreAllKept}
 use Rattle.pfc_arrivals.proofs.Picked.{acts_alike}
 use Rattle.pfc_sessions.specs.Courses.{IsCourse}
 use Rattle.pfc_sessions.specs.Runs.{IsPicked, step_of, run_from}
@@ -39,7 +39,7 @@ use Rattle.pfc_run_agreement.specs.Courses.{IsSourceCourse}
 use Rattle.pfc_run_agreement.proofs.Agreeing.{same_ending, settled_output, settled_fault, same_runs}
 use Rattle.pfc_run_agreement.proofs.Coursing.{same_course}
 use Rattle.pfc_run_agreement.proofs.Keeping.{kept_agrees}
-use Rattle.pfc_simulation.specs.Reached.{IsReached, at_first, one_further, TakeNumbers}
+use Rattle.pfc_simulation.specs.Reached.{IsReached, at_first, one_further, RunKeepsToRules}
 use Rattle.pfc_simulation.proofs.Communications.{Keeps}
 use Rattle.pfc_simulation.proofs.Effects.{effect_keeps}
 use Rattle.pfc_simulation.proofs.Resting.{Rests, effect_rests}
@@ -49,20 +49,20 @@ use Rattle.pfc_simulation.proofs.Steps.{step_is, same_choice, same_choosing}
 -- ## The relation
 
 -- The machine agrees with a configuration that a run comes to, whose last action was no fault.
-record Relates (facts : Facts) (first : Config) (m : Machine) (c : Config) : Type 0 where
-  agrees : Agrees facts m c
-  reached : IsReached (program_in facts) first c
-  sound : c.fault ≡ None
-  alone : c.table.acting ≡ None
+pub record Relates (facts : Facts) (first : Config) (m : Machine) (c : Config) : Type 0 where
+  pub agrees : Agrees facts m c
+  pub reached : IsReached (program_in facts) first c
+  pub sound : c.fault ≡ None
+  pub alone : c.table.acting ≡ None
 
 module _ (facts : Facts) (first : Config) (m : Machine) (c : Config) (so : Relates facts first m c) where
-  agrees_then : Agrees facts (machine_settled m) (settled_config c)
+  pub agrees_then : Agrees facts (machine_settled m) (settled_config c)
   agrees_then = agrees_settled facts m c so.agrees
 
   reports_then : Reports facts (machine_settled m) (settled_config c)
   reports_then = agreeing_reports facts (machine_settled m) (settled_config c) agrees_then
 
-  agrees_here : AgreesHere m c
+  pub agrees_here : AgreesHere m c
   agrees_here =
       let now : Reports facts m c = agreeing_reports facts m c so.agrees in
       record {
@@ -122,46 +122,46 @@ few_of n h = grind (arith, h)
 -- ## An action
 
 module _
-    (facts : Facts) (first : Config) (kept : AreKept (λ level n. Unit {0})) (numbers : TakeNumbers (program_in facts) first) (picking : Picking) (m : Machine)
+    (facts : Facts) (first : Config) (kept : AreAllKept) (numbered : AreNumbered facts) (numbers : RunKeepsToRules (program_in facts) first) (picking : Picking) (m : Machine)
     (c : Config) (p : ℕ) (so : Relates facts first m c) (pick : IsPicked picking (machine_settled m) p)
   where
-    abbrev image : PlainImage
+    abbrev pub image : PlainImage
     image = image_of facts.tree
 
-    abbrev g : Program
+    abbrev pub g : Program
     g = program_in facts
 
-    abbrev s : Machine
+    abbrev pub s : Machine
     s = machine_settled m
 
-    abbrev d : Config
+    abbrev pub d : Config
     d = settled_config c
 
     abbrev behind : Picking
     behind = after_pick picking s.world.rows
 
-    abbrev next : Action
+    abbrev pub next : Action
     next = next_of g d p
 
     reports : Reports facts s d
     reports = reports_then facts first m c so
 
-    rows : s.world.rows ≡ d.table.rows
+    pub rows : s.world.rows ≡ d.table.rows
     rows = ap (λ (w : Table). w.rows) reports.world
 
-    sound : d.fault ≡ None
+    pub sound : d.fault ≡ None
     sound = settled_fault c ∙ so.sound
 
-    goes : runs.ending_at d ≡ None
+    pub goes : runs.ending_at d ≡ None
     goes = same_ending s d sound rows ∙ pick.goes
 
-    represents : Represents facts s d
+    pub represents : Represents facts s d
     represents = still_represented facts s d (agrees_then facts first m c so) goes
 
-    picks : picked picking d.table.rows ≡ Process p
+    pub picks : picked picking d.table.rows ≡ Process p
     picks = ap (λ (xs : List Stand). picked picking xs) (sym rows) ∙ pick.picks
 
-    about : IsAboutToAct facts s d p
+    pub about : IsAboutToAct facts s d p
     about =
         let (within, ready) = picks_ready picking s.world.rows p pick.picks in
         let there : at d.table.rows p ≡ Is_ready = ap (λ (xs : List Stand). at xs p) (sym rows) ∙ ready_is (at s.world.rows p) ready in
@@ -170,11 +170,12 @@ module _
           ready = there;
           few = subst (λ (n : ℕ). n < 10 ^ 18) (ap (λ (w : Table). w.done) reports.world)
               (few_of s.world.done (first_of (nat_le (10 ^ 18) s.world.done) (nat_le (10 ^ 18) s.world.moment) pick.counts));
-          number = numbers c p so.reached there;
+          number = (let of_action = numbers c p so.reached there in of_action.0);
+          rules = (let of_action = numbers c p so.reached there in of_action.1);
         }
 
     acts : ActsAsItsSource facts s d p behind
-    acts = acts_alike facts s d p behind kept represents about
+    acts = acts_alike facts s d p behind kept numbered represents about
 
     -- as the machine acts
     module _ (does : ActsAsItsSource facts s d p behind) where
@@ -237,41 +238,45 @@ module _
         };
       }
 
-    acts_alike_so : ActsAlike image g picking m c p (Relates facts first)
+    pub acts_alike_so : ActsAlike image g picking m c p (Relates facts first)
     acts_alike_so = acts_so acts (comes_so acts)
+
+    -- also where the action is a fault
+    pub agrees_behind : Agrees facts (step_of image picking m p).machine (behind_action g picking c p)
+    agrees_behind = let is = comes_so acts in is.agrees
 
 -- ## Any number of actions
 
 pub goes_on_agreeing :
-    (facts : Facts) (left : ℕ) (picking : Picking) (m : Machine) (c : Config) → AreKept (λ level n. Unit {0}) → TakeNumbers (program_in facts) c
+    (facts : Facts) (left : ℕ) (picking : Picking) (m : Machine) (c : Config) → AreAllKept → AreNumbered facts → RunKeepsToRules (program_in facts) c
     → Represents facts m c → Agree (image_of facts.tree) (program_in facts) left picking m c
-goes_on_agreeing facts left picking m c kept numbers is =
+goes_on_agreeing facts left picking m c kept numbered numbers is =
     kept_agrees (image_of facts.tree) (program_in facts) (Relates facts c) (agrees_here facts c)
-    (λ pick n d p so picks. acts_alike_so facts c kept numbers pick n d p so picks) left picking m c
+    (λ pick n d p so picks. acts_alike_so facts c kept numbered numbers pick n d p so picks) left picking m c
     (record { agrees = goes_on is; reached = at_first; sound = is.alike.fault; alone = is.alike.between.acting })
 
 -- ## Whole runs
 
 module _
-    (facts : Facts) (input : List ℕ) (seed limit : ℕ) (picking : Picking) (m : Machine) (kept : AreKept (λ level n. Unit {0}))
-    (numbers : TakeNumbers (program_in facts) (start (program_in facts) input seed)) (is : Represents facts m (start (program_in facts) input seed))
+    (facts : Facts) (input : List ℕ) (seed limit : ℕ) (picking : Picking) (m : Machine) (kept : AreAllKept) (numbered : AreNumbered facts)
+    (numbers : RunKeepsToRules (program_in facts) (start (program_in facts) input seed)) (is : Represents facts m (start (program_in facts) input seed))
   where
     abbrev first : Config
     first = start (program_in facts) input seed
 
     all_along : Agree (image_of facts.tree) (program_in facts) limit picking m first
-    all_along = goes_on_agreeing facts limit picking m first kept numbers is
+    all_along = goes_on_agreeing facts limit picking m first kept numbered numbers is
 
     pub runs_alike : AreRunsAlike (run_from (image_of facts.tree) limit limit picking m) (runs.run facts.tree input seed picking limit) first
     runs_alike = same_runs (image_of facts.tree) (program_in facts) limit limit picking m first all_along
 
 pub session_alike :
     (facts : Facts) (input : List ℕ) (seed limit : ℕ) (picking : Picking) (m new : Machine) (ending : Ending) (before after : Option (List ℕ))
-    → AreKept (λ level n. Unit {0}) → TakeNumbers (program_in facts) (start (program_in facts) input seed)
+    → AreAllKept → AreNumbered facts → RunKeepsToRules (program_in facts) (start (program_in facts) input seed)
     → Represents facts m (start (program_in facts) input seed)
     → IsCourse (image_of facts.tree) limit (run_from (image_of facts.tree) limit limit picking m) (first_stage picking m) new ending before after
     → IsSourceCourse (runs.run facts.tree input seed picking limit) (start (program_in facts) input seed) new ending before after
-session_alike facts input seed limit picking m new ending before after kept numbers is course =
+session_alike facts input seed limit picking m new ending before after kept numbered numbers is course =
     same_course (image_of facts.tree) limit (run_from (image_of facts.tree) limit limit picking m) (first_stage picking m)
     (runs.run facts.tree input seed picking limit) (start (program_in facts) input seed) new before after
-    (runs_alike facts input seed limit picking m kept numbers is) ending course
+    (runs_alike facts input seed limit picking m kept numbered numbers is) ending course

@@ -21,7 +21,8 @@ quiet_still (goes m') others m still = absurd still
 quiet_still (ends_in f) others m still = refl
 quiet_still acts others m still = refl
 
-quiet_leads : (image : PlainImage) (p most : ℕ) (m : Machine) (n : ℕ) (b : Machine) (i : Instr) → n ≤ most → IsNext image p m n b i
+-- as many as the code has lead there, if any do
+pub quiet_leads : (image : PlainImage) (p most : ℕ) (m : Machine) (n : ℕ) (b : Machine) (i : Instr) → n ≤ most → IsNext image p m n b i
     → quiet_up_to image p most m ≡ b
 quiet_leads image p zero m zero b i few next = sym next.run
 quiet_leads image p zero m (suc n) b i few next = absurd (omega (arith, few))

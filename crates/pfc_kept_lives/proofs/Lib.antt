@@ -1,0 +1,12 @@
+pub mod Bound
+pub mod Finished
+pub mod Only
+pub mod Ended
+pub mod Ending
+pub mod Makers
+pub mod Begun
+pub mod Newborn
+pub mod Others
+pub mod Created
+pub mod Numbers
+pub mod Creating

@@ -1,0 +1,35 @@
+//! The laws. The functions do nothing: their contracts are the laws.
+ghost use Rattle.std.specs.Prelude.{◌≡◌, ℕ, false, List, None};
+ghost use Rattle.pfc_world.specs.Partners.{caller, is_accepting};
+ghost use Rattle.pfc_semantics.specs.Configurations.{Config, number_for};
+ghost use Rattle.pfc_semantics.specs.Displays.{Spot};
+ghost use Rattle.pfc_semantics.specs.Remainders.{Accepting, Argument, Context, Open, Remainder, to_accept, to_entry, calls, meets};
+ghost use Rattle.pfc_machines.specs.declared.machine.Machine.{Machine};
+ghost use Rattle.pfc_representation.specs.Levels.{Facts, program_in, LivingLevel};
+ghost use Rattle.pfc_representation.specs.Acting.{IsActing, HasArrived};
+ghost use Rattle.pfc_representation.specs.Actions.{IsKept, AreKept};
+ghost use Rattle.pfc_kept_meetings.specs.Groups.{EndsAccept};
+ghost use Rattle.pfc_kept_meetings.specs.Owners.{HasTypedEntries, HasSingles};
+
+/// The end of an accept keeps the representation: the process goes on behind it without the names of the accept, and the caller of the meeting that was begun
+/// last is ready.
+pub fn ends_of_accepts_are_kept()
+    ensures { AreKept EndsAccept }
+{}
+
+/// A call of an entry keeps the representation where its owner does not wait to accept it: it is a fault where the owner is not active, and else the process
+/// waits and shows its arguments. The owner has the number that its variable has on both sides.
+pub fn unmet_calls_are_kept()
+    ensures { (facts : Facts) (m : Machine) (c : Config) (p choice : ℕ) (level : LivingLevel) (x : Context) (v : Spot) (entry : ℕ) (k : Remainder)
+        (given : List Argument)
+        → HasTypedEntries facts.tree → HasSingles facts c → is_accepting c.table.rows (number_for (program_in facts) c p v) entry ≡ false
+        → IsActing facts m c p level → HasArrived facts m c p level (calls x (to_entry v entry k) given)
+        → IsKept facts m c p choice (calls x (to_entry v entry k) given) }
+{}
+
+/// An accept keeps the representation where nobody calls its entry: the process waits, and offers to accept.
+pub fn unmet_accepts_are_kept()
+    ensures { (facts : Facts) (m : Machine) (c : Config) (p choice : ℕ) (level : LivingLevel) (x : Context) (o : Open) (k : Remainder) (a : Accepting)
+        → o.offer ≡ to_accept a → caller c.table.rows p a.entry ≡ None → IsActing facts m c p level → HasArrived facts m c p level (meets x o k)
+        → IsKept facts m c p choice (meets x o k) }
+{}

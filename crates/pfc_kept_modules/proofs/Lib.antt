@@ -1,0 +1,15 @@
+pub mod Mains
+pub mod Guards
+pub mod Entered
+pub mod Entrances
+pub mod Behind
+pub mod Entering
+pub mod Settled
+pub mod Leaving
+pub mod Keeping
+pub mod Lent
+pub mod Replaced
+pub mod Renewed
+pub mod Lined
+pub mod Requeued
+pub mod Requeueing

@@ -1,0 +1,4 @@
+pub mod Exported
+pub mod Groups
+pub mod Endings
+pub mod Requeued

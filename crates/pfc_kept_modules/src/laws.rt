@@ -1,0 +1,35 @@
+//! The laws. The functions do nothing: their contracts are the laws.
+ghost use Rattle.std.specs.Prelude.{◌≡◌, ℕ, List};
+ghost use Rattle.pfc_semantics.specs.Configurations.{of_monitor, Config, activity_of};
+ghost use Rattle.pfc_semantics.specs.Remainders.{Context, Argument, Action, calls, to_requeue};
+ghost use Rattle.pfc_machines.specs.declared.machine.Machine.{Machine};
+ghost use Rattle.pfc_representation.specs.Levels.{Facts, program_in, LivingLevel};
+ghost use Rattle.pfc_representation.specs.Trials.{mark_of};
+ghost use Rattle.pfc_representation.specs.Acting.{IsActing, HasArrived};
+ghost use Rattle.pfc_representation.specs.Actions.{IsKept, AreKept};
+ghost use Rattle.pfc_kept_modules.specs.Groups.{EntersModule};
+ghost use Rattle.pfc_kept_modules.specs.Endings.{EndsInMonitor, AreOutside};
+ghost use Rattle.pfc_kept_modules.specs.Requeued.{MayRequeue, AreLentOn};
+
+/// A call of a procedure of a monitor or of a resource from outside begins the same activation on both sides, and the process has the module or waits for it
+/// on both, also where it holds it itself; or both find the stack full.
+pub fn entries_are_kept()
+    ensures { AreKept EntersModule }
+{}
+
+/// The end of a procedure that was called from outside its monitor leads back to the same statement, and the monitor passes to the same resumer or entrant, or
+/// to nobody.
+pub fn monitors_are_left()
+    ensures { (facts : Facts) (m : Machine) (c : Config) (p choice n : ℕ) (level : LivingLevel) (action : Action)
+        → EndsInMonitor level action → mark_of (activity_of (program_in facts) c p).activations ≡ of_monitor n
+        → AreOutside n (activity_of (program_in facts) c p).activations → IsActing facts m c p level → HasArrived facts m c p level action
+        → IsKept facts m c p choice action }
+{}
+
+/// A requeue begins the same activation on both sides in place of the last, with the same caller, and the same scan comes first; or both find the stack full.
+pub fn requeues_are_kept()
+    ensures { (facts : Facts) (m : Machine) (c : Config) (p choice : ℕ) (level : LivingLevel) (x : Context) (scope : ℕ) (given : List Argument)
+        → MayRequeue level scope → AreLentOn (program_in facts) c p given (activity_of (program_in facts) c p).activations
+        → IsActing facts m c p level → HasArrived facts m c p level (calls x (to_requeue scope) given)
+        → IsKept facts m c p choice (calls x (to_requeue scope) given) }
+{}

@@ -1,0 +1,254 @@
+-- Behind an action on a resource: all that is alike, and one clause for each process.
+use Rattle.std.proofs.Common.{◌≡◌, ◌≢◌, ℕ, ◌+◌, ◌^◌, ◌<◌, ◌≤◌, ℤ, true, false, List, length, get_or, Option, Some, None, Ok, refl, sym, ap, ◌∙◌, subst, arith}
+use Rattle.std.proofs.Common.{◌⊎◌, inl, inr}
+use Rattle.std.proofs.lemmas.List.{append-nil, get_or-set_same, get_or-set_other, length-set}
+use Rattle.pfc_state.specs.Stands.{Stand, is_unfinished, ticket_of, due_of}
+use Rattle.pfc_world.specs.Tables.{Table, at}
+use Rattle.pfc_world.specs.Transitions.{ticked}
+use Rattle.pfc_semantics.specs.Programs.{Program}
+use Rattle.pfc_semantics.specs.Configurations.{Activity, Config, nobody, activity_of, done_at}
+use Rattle.pfc_stacks.specs.Stacks.{Stacks, cells_of}
+use Rattle.pfc_cells.specs.Memory.{MemoryIs, ProcessIs}
+use Rattle.pfc_machines.specs.declared.machine.Machine.{Machine}
+use Rattle.pfc_machines.specs.declared.descriptors.Descriptor.{Descriptor}
+use Rattle.pfc_machines.specs.Descriptors.{descriptor_by, descriptor_of}
+use Rattle.pfc_machine_acts.specs.Acting.{acted}
+use Rattle.pfc_machine_acts.specs.Performing.{silent}
+use Rattle.pfc_views.specs.Views.{AreFew}
+use Rattle.pfc_representation.specs.Levels.{Facts, program_in, LivingLevel}
+use Rattle.pfc_representation.specs.Holding.{Holders, is_quiet, waits_at_coend}
+use Rattle.pfc_representation.specs.Processes.{RepresentsProcess}
+use Rattle.pfc_representation.specs.Machines.{SharesWords, machine_table, HoldsStore, IsBetweenActions, AreAlike, Represents, Agrees, goes_on}
+use Rattle.pfc_representation.specs.Acting.{IsActing}
+use Rattle.pfc_representation.specs.Actions.{ComeToSame}
+use Rattle.pfc_kept_own_actions.proofs.Steps.{same_kinds}
+use Rattle.pfc_kept_object_actions.proofs.Tests.{either}
+
+-- ## Standings
+
+-- a process stands so, and neither waited at `coend` before nor to be begun
+pub record IsNewStand (c : Config) (s s' : Stand) : Type 0 where
+  pub unfinished : is_unfinished s' ≡ true
+  pub awake : is_quiet s ≡ false
+  pub no_coend : waits_at_coend s ≡ false
+  pub ticket : (t : ℕ) → ticket_of s' ≡ Some t → t ≤ c.table.done + 1
+  pub no_due : due_of s' ≡ None
+
+abbrev pub StandsThen : Config → Stand → Stand → Type 0
+StandsThen c s s' = (s' ≡ s) ⊎ IsNewStand c s s'
+
+-- who holds what, where only resources change hands
+abbrev pub holders_with : Facts → Config → List (Option ℕ) → Holders
+holders_with facts c resources = record { owners = (program_in facts).objects.conditions; monitors = c.monitors; resources = resources }
+
+-- ## What is to be shown
+
+module _ (facts : Facts) (m : Machine) (c : Config) (p : ℕ) (level : LivingLevel) (acting : IsActing facts m c p level) where
+  abbrev g : Program
+  g = program_in facts
+
+  -- behind the action, with the line of the process that acted
+  pub record IsBehind (line : ℕ) (activities : List Activity) (descriptors : List Descriptor) (stacks : Stacks) (table : Table)
+      (resources : List (Option ℕ)) : Type 0 where
+    pub activity_count : length activities ≡ length c.activities
+    pub descriptor_count : length descriptors ≡ length m.descriptors
+    pub stack_count : length stacks ≡ length m.stacks
+    pub row_count : length table.rows ≡ length c.table.rows
+    pub resource_count : length resources ≡ length c.resources
+    pub cells : (q : ℕ) → cells_of stacks q ≡ cells_of m.stacks q
+    pub rests : table.acting ≡ None
+    pub done : table.done ≡ c.table.done
+    pub moment : table.moment ≡ c.table.moment
+    pub stands : (q : ℕ) → StandsThen c (at c.table.rows q) (at table.rows q)
+    pub mine :
+        RepresentsProcess facts acting.homes acting.entries c.store stacks (ticked table) (holders_with facts c resources) p
+        (record (get_or activities p (nobody g)) { line = line }) (record (descriptor_of descriptors p) { line = line })
+    pub others : (q : ℕ) → q ≢ p → q < length c.activities
+        → RepresentsProcess facts acting.homes acting.entries c.store stacks (ticked table) (holders_with facts c resources) q
+        (get_or activities q (nobody g)) (descriptor_of descriptors q)
+
+  module _ (line : ℕ) (activities : List Activity) (descriptors : List Descriptor) (stacks : Stacks) (table : Table) (resources : List (Option ℕ))
+      (behind : IsBehind line activities descriptors stacks table resources) where
+    abbrev m' : Machine
+    m' = acted line p (record m { stacks = stacks; descriptors = descriptors; world = machine_table facts table; resources = resources })
+
+    abbrev c' : Config
+    c' = done_at g (record c { activities = activities; table = table; resources = resources }) p line
+
+    abbrev a' : Activity
+    a' = record (get_or activities p (nobody g)) { line = line }
+
+    abbrev d' : Descriptor
+    d' = record (descriptor_of descriptors p) { line = line }
+
+    abbrev IsThere : ℕ → Activity → Descriptor → Type 0
+    IsThere q x e = RepresentsProcess facts acting.homes acting.entries c.store stacks (ticked table) (holders_with facts c resources) q x e
+
+    -- ### Lists
+
+    activity_size : length c'.activities ≡ length c.activities
+    activity_size = length-set activities p a' ∙ behind.activity_count
+
+    activity_here : activity_of g c' p ≡ a'
+    activity_here = get_or-set_same activities p a' (nobody g) (subst (λ n. p < n) (sym behind.activity_count) acting.actor.process)
+
+    activity_there : (q : ℕ) → q ≢ p → activity_of g c' q ≡ get_or activities q (nobody g)
+    activity_there q apart = get_or-set_other activities p q a' (nobody g) apart
+
+    descriptor_size : length m'.descriptors ≡ length m.descriptors
+    descriptor_size = length-set descriptors p d' ∙ behind.descriptor_count
+
+    descriptor_here : descriptor_of m'.descriptors p ≡ d'
+    descriptor_here =
+        get_or-set_same descriptors p d' (descriptor_by 0)
+        (subst (λ n. p < n) (sym (behind.descriptor_count ∙ acting.alike.words.descriptors)) acting.actor.process)
+
+    descriptor_there : (q : ℕ) → q ≢ p → descriptor_of m'.descriptors q ≡ descriptor_of descriptors q
+    descriptor_there q apart = get_or-set_other descriptors p q d' (descriptor_by 0) apart
+
+    processes : (q : ℕ) → (q ≡ p) ⊎ (q ≢ p) → q < length c.activities → IsThere q (activity_of g c' q) (descriptor_of m'.descriptors q)
+    processes q (inl same) within =
+        subst (λ n. IsThere n (activity_of g c' n) (descriptor_of m'.descriptors n)) (sym same)
+        (subst (λ (x : Activity). IsThere p x (descriptor_of m'.descriptors p)) (sym activity_here)
+        (subst (λ (e : Descriptor). IsThere p a' e) (sym descriptor_here) behind.mine))
+    processes q (inr apart) within =
+        subst (λ (x : Activity). IsThere q x (descriptor_of m'.descriptors q)) (sym (activity_there q apart))
+        (subst (λ (e : Descriptor). IsThere q (get_or activities q (nobody g)) e) (sym (descriptor_there q apart)) (behind.others q apart within))
+
+    -- ### Standings
+
+    children : waits_at_coend (at table.rows 0) ≡ false → (q : ℕ) → 0 < q → is_quiet (at table.rows q) ≡ true
+    children away q child = by_stand (behind.stands q)
+      where
+        by_main : StandsThen c (at c.table.rows 0) (at table.rows 0) → waits_at_coend (at c.table.rows 0) ≡ false
+        by_main (inl same) = ap waits_at_coend (sym same) ∙ away
+        by_main (inr new) = new.no_coend
+
+        before : is_quiet (at c.table.rows q) ≡ true
+        before = acting.alike.children (by_main (behind.stands 0)) q child
+
+        by_stand : StandsThen c (at c.table.rows q) (at table.rows q) → is_quiet (at table.rows q) ≡ true
+        by_stand (inl same) = ap is_quiet same ∙ before
+        by_stand (inr new) = absurd (let no : true ≡ false = sym before ∙ new.awake in cc)
+
+    main_then : is_unfinished (at table.rows 0) ≡ true
+    main_then = by_stand (behind.stands 0)
+      where
+        by_stand : StandsThen c (at c.table.rows 0) (at table.rows 0) → is_unfinished (at table.rows 0) ≡ true
+        by_stand (inl same) = ap is_unfinished same ∙ acting.alike.main
+        by_stand (inr new) = new.unfinished
+
+    between_then : IsBetweenActions (ticked table)
+    between_then =
+        let old = acting.alike.between in
+        record {
+          acting = behind.rests;
+          tickets = λ q t is. ticket_then q t (behind.stands q) is;
+          moment = more table.moment c.table.moment c.table.done table.done (10 ^ 15) old.moment behind.moment behind.done;
+          due = λ q t is. due_then q t (behind.stands q) is;
+          done = last c.table.done table.done (10 ^ 18) acting.few behind.done;
+        }
+      where
+        more : (n n0 k k' b : ℕ) → n0 ≤ b + k → n ≡ n0 → k' ≡ k → n + 1 ≤ b + (k' + 1)
+        more n n0 k k' b less same same' = grind (arith, less, same, same')
+
+        last : (n k b : ℕ) → n < b → k ≡ n → k + 1 ≤ b
+        last n k b less same = grind (arith, less, same)
+
+        later : (n k j : ℕ) → n ≤ k → j ≡ k → n ≤ j + 1
+        later n k j less same = grind (arith, less, same)
+
+        next : (n k j : ℕ) → n ≤ k + 1 → j ≡ k → n ≤ j + 1
+        next n k j less same = grind (arith, less, same)
+
+        ticket_then : (q t : ℕ) → StandsThen c (at c.table.rows q) (at table.rows q) → ticket_of (at table.rows q) ≡ Some t → t ≤ table.done + 1
+        ticket_then q t (inl same) is = later t c.table.done table.done (acting.alike.between.tickets q t (ap ticket_of (sym same) ∙ is)) behind.done
+        ticket_then q t (inr new) is = next t c.table.done table.done (new.ticket t is) behind.done
+
+        due_then : (q t : ℕ) → StandsThen c (at c.table.rows q) (at table.rows q) → due_of (at table.rows q) ≡ Some t → t ≤ 10 ^ 15
+        due_then q t (inl same) is = acting.alike.between.due q t (ap due_of (sym same) ∙ is)
+        due_then q t (inr new) is = absurd (let no : None ≡ Some t = sym new.no_due ∙ is in cc)
+
+    -- ### All that is alike
+
+    words_then : SharesWords facts m' c'
+    words_then =
+        let old = acting.alike.words in
+        record {
+          processes = activity_size ∙ old.processes;
+          stacks = behind.stack_count ∙ old.stacks ∙ sym activity_size;
+          descriptors = descriptor_size ∙ old.descriptors ∙ sym activity_size;
+          rows = behind.row_count ∙ old.rows ∙ sym activity_size;
+          semaphores = old.semaphores;
+          monitors = old.monitors;
+          owners = old.owners;
+          resources = refl;
+          input = old.input;
+          draws = old.draws;
+          in_line = old.in_line;
+        }
+
+    memory_then : MemoryIs g acting.homes acting.entries c.store stacks
+    memory_then q = subst (λ (cells : List ℤ). ProcessIs g acting.homes c.store q (acting.entries q) cells) (sym (behind.cells q)) (acting.alike.holds.memory q)
+
+    few_then : AreFew stacks
+    few_then =
+        record {
+          cells = λ q. subst (λ (cells : List ℤ). length cells < 2 ^ 32) (sym (behind.cells q)) (acting.alike.holds.few.cells q);
+          processes = subst (λ n. n ≤ 1024) (sym behind.stack_count) acting.alike.holds.few.processes;
+        }
+
+    holds_then : HoldsStore facts acting.homes acting.entries c.store stacks (table.done + 1)
+    holds_then =
+        let old = acting.alike.holds in
+        record {
+          memory = memory_then;
+          few = few_then;
+          objects = old.objects;
+          main = old.main;
+          mains = old.mains;
+          numbers = λ n home is. later n c.table.done table.done (old.numbers n home is) behind.done;
+        }
+      where
+        later : (n k j : ℕ) → n ≤ k → j ≡ k → n ≤ j + 1
+        later n k j less same = grind (arith, less, same)
+
+    alike_then : AreAlike facts acting.homes acting.entries m' c'
+    alike_then =
+        let old = acting.alike in
+        record {
+          program = old.program;
+          words = words_then;
+          holds = holds_then;
+          kinds = same_kinds facts acting.homes acting.entries c c' old.holds.objects old.holds.objects refl activity_size old.kinds;
+          children = children;
+          main = main_then;
+          between = between_then;
+          counts = old.counts;
+          monitor_count = old.monitor_count;
+          resource_count = behind.resource_count ∙ old.resource_count;
+          rooms = old.rooms;
+          fault = old.fault;
+        }
+
+    represents_then : Represents facts m' c'
+    represents_then =
+        record {
+          homes = acting.homes;
+          entries = acting.entries;
+          alike = alike_then;
+          world = refl;
+          processes = λ q within. processes q (either q p) (subst (λ n. q < n) activity_size within);
+        }
+
+    -- both sides come to the same
+    pub comes_then : (world : Table) (holders : List (Option ℕ)) → world ≡ machine_table facts table → holders ≡ resources
+        → ComeToSame facts m c p line (silent (Ok (record m { stacks = stacks; descriptors = descriptors; world = world; resources = holders })))
+        (Ok (record c { activities = activities; table = table; resources = resources }))
+    comes_then world holders same held = (
+      subst (λ (w : Table). Agrees facts (acted line p (record m { stacks = stacks; descriptors = descriptors; world = w; resources = holders })) c') (sym same)
+          (subst (λ (hs : List (Option ℕ)). Agrees facts
+          (acted line p (record m { stacks = stacks; descriptors = descriptors; world = machine_table facts table; resources = hs })) c') (sym held)
+          (goes_on represents_then)),
+      sym (append-nil c.output),
+    )

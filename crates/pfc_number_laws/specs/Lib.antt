@@ -1,0 +1,7 @@
+pub mod Fitting
+pub mod Written
+pub mod Remainders
+pub mod Configurations
+pub mod Runs
+pub mod Objects
+pub mod Tokens

@@ -1,0 +1,82 @@
+-- A process that memory was refused to stands before its next action.
+use Rattle.std.proofs.Common.{◌≡◌, ℕ, zero, suc, ◌<◌, max, length, ap, ◌∙◌, arith}
+use Rattle.pfc_code.specs.Images.{PlainImage}
+use Rattle.pfc_semantics.specs.Configurations.{Config}
+use Rattle.pfc_semantics.specs.Remainders.{Action}
+use Rattle.pfc_semantics.specs.Selects.{choices}
+use Rattle.pfc_semantics.specs.Steps.{next_of}
+use Rattle.pfc_semantics.specs.Time.{settled_config}
+use Rattle.pfc_translation.specs.Images.{image_of}
+use Rattle.pfc_select_actions.specs.Selects.{takes_up}
+use Rattle.pfc_machines.specs.declared.machine.Machine.{Machine}
+use Rattle.pfc_machines.specs.Actions.{at_rest}
+use Rattle.pfc_machine_acts.specs.Settling.{machine_settled}
+use Rattle.pfc_representation.specs.Levels.{Facts, program_in}
+use Rattle.pfc_representation.specs.Machines.{Represents}
+use Rattle.pfc_representation.specs.Actions.{IsKept}
+use Rattle.pfc_run_rules.specs.Rules.{KeepsToRules}
+use Rattle.pfc_arrivals.specs.Arrivals.{IsAboutToAct, ComesToAction}
+use Rattle.pfc_arrivals.proofs.Arriving.{comes_to_action}
+use Rattle.pfc_sessions.specs.Stages as stages
+use Rattle.pfc_sessions.specs.Stages.{Stage}
+use Rattle.pfc_sessions.specs.Steps.{begins, before_action}
+use Rattle.pfc_simulation.specs.Reached.{RunKeepsToRules}
+use Rattle.pfc_simulation.proofs.Simulating.{represents, about}
+use Rattle.pfc_simulation.proofs.Steps.{quiet_leads}
+use Rattle.pfc_source_runs.specs.Points.{Point}
+use Rattle.pfc_source_runs.specs.Standing.{IsUntried}
+use Rattle.pfc_source_runs.proofs.Coming.{IsAt, picks_so}
+use Rattle.pfc_arrivals.specs.Arrivals.{AreNumbered, AreAllKept}
+use Rattle.pfc_arrivals.proofs.Picked.{numbered_at}
+use Rattle.pfc_arrivals.proofs.Standing.{has_setting}
+
+first_choice : (n : ℕ) → 0 < max 1 n
+first_choice zero = grind arith
+first_choice (suc n) = grind arith
+
+-- ## Where quiet instructions lead
+
+module _ (facts : Facts) (kept : AreAllKept) (numbered : AreNumbered facts) (m : Machine) (c : Config) (p : ℕ) (rules : KeepsToRules (program_in facts) c p) (come : ComesToAction facts m c p) where
+  abbrev image : PlainImage
+  image = image_of facts.tree
+
+  abbrev next : Action
+  next = next_of (program_in facts) c p
+
+  stands_by : IsKept facts come.before c p 0 next → before_action image p m ≡ come.before
+  stands_by k =
+      quiet_leads image p (length image.code) (takes_up p (begins p m)) come.count come.before k.instr come.few
+      (record { run = come.run; few = come.few; is = k.is; can = k.can_step; no_move = k.no_move })
+
+  stands_before : before_action image p m ≡ come.before
+  stands_before = stands_by (kept facts come.before c p 0 come.level next (numbered_at facts come.level numbered (has_setting facts come.before c p come.level come.acting)) rules come.acting come.arrived (first_choice (choices (program_in facts) c p next)))
+
+-- ## At a stage
+
+module _ (facts : Facts) (c : Config) (kept : AreAllKept) (numbered : AreNumbered facts) (numbers : RunKeepsToRules (program_in facts) c) (s : Stage) (t : Point)
+    (so : IsAt facts c s t) (new : Machine) (is : stages.IsUntried (image_of facts.tree) s new) where
+  abbrev m : Machine
+  m = machine_settled s.machine
+
+  abbrev d : Config
+  d = settled_config t.config
+
+  represented : Represents facts m d
+  represented = represents facts c kept numbered numbers s.picking s.machine t.config is.process so.relates is.picked
+
+  ready : IsAboutToAct facts m d is.process
+  ready = about facts c kept numbered numbers s.picking s.machine t.config is.process so.relates is.picked
+
+  untried_by : ComesToAction facts m d is.process → IsUntried facts new t
+  untried_by come = record {
+    process = is.process;
+    picks = picks_so facts c kept numbered numbers s t so is.process is.picked;
+    level = come.level;
+    before = come.before;
+    acting = come.acting;
+    arrived = come.arrived;
+    machine = is.machine ∙ ap at_rest (stands_before facts kept numbered m d is.process ready.rules come);
+  }
+
+  pub is_untried : IsUntried facts new t
+  is_untried = untried_by (comes_to_action facts m d is.process represented ready)

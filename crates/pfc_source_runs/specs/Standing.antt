@@ -1,0 +1,97 @@
+-- Where the machine of a session stands behind its run, whole or broken off, in the source text's run.
+use Rattle.std.specs.Prelude.{ℕ, ◌≡◌, ◌<◌, List, ◌++◌, Option}
+use Rattle.pfc_io.specs.Writes.{AppendsFront}
+use Rattle.pfc_sched.specs.Picks.{picked}
+use Rattle.pfc_sched.specs.declared.picking.Pick.TheVariants.{Process}
+use Rattle.pfc_state.specs.declared.endings.Ending.{Ending}
+use Rattle.pfc_state.specs.declared.endings.Ending.TheVariants.{Finished, Fault, Deadlock, Limit, Script, SinkFailed, Memory}
+use Rattle.pfc_semantics.specs.Programs.{Program}
+use Rattle.pfc_semantics.specs.Runs.{Run}
+use Rattle.pfc_semantics.specs.Steps.{next_of}
+use Rattle.pfc_semantics.specs.Time.{settled_config}
+use Rattle.pfc_machines.specs.declared.machine.Machine.{Machine}
+use Rattle.pfc_machines.specs.Actions.{at_rest}
+use Rattle.pfc_representation.specs.Levels.{Facts, LivingLevel, program_in}
+use Rattle.pfc_representation.specs.Rooms.{process_count}
+use Rattle.pfc_representation.specs.Machines.{Agrees}
+use Rattle.pfc_representation.specs.Acting.{IsActing, HasArrived}
+use Rattle.pfc_source_runs.specs.Points.{Point, point_after, IsOnTheWay}
+
+-- ## A machine and a point
+
+-- The machine stands for the settled configuration: who is picked there has gone through quiet instructions to its next action, and has not acted. That can
+-- be tried again.
+pub record IsUntried (facts : Facts) (m : Machine) (s : Point) : Type 0 where
+  pub process : ℕ
+  pub picks : picked s.picking (settled_config s.config).table.rows ≡ Process process
+  pub level : LivingLevel
+  pub before : Machine
+  pub acting : IsActing facts before (settled_config s.config) process level
+  pub arrived : HasArrived facts before (settled_config s.config) process level (next_of (program_in facts) (settled_config s.config) process)
+  pub machine : m ≡ at_rest before
+
+-- the machine stands for the configuration, for the settled one, or for that just before the next action
+pub data StandsFor (facts : Facts) (m : Machine) (s : Point) : Type 0 where
+  behind_action : Agrees facts m s.config → StandsFor facts m s
+  settled : Agrees facts m (settled_config s.config) → StandsFor facts m s
+  before_action : IsUntried facts m s → StandsFor facts m s
+
+-- ## Runs that were broken off
+
+-- The run h was broken off after some of its actions, where this holds of the point to which it came: a front of what these print is written.
+pub record IsBrokenOff (g : Program) (limit : ℕ) (h : Run) (first : Point) (point_is : Point → Type 0) (before after : Option (List ℕ)) : Type 0 where
+  pub count : ℕ
+  pub left : ℕ
+  pub way : IsOnTheWay g limit count left h first
+  pub stands : point_is (point_after g count first)
+  pub bytes : List ℕ
+  pub output : (point_after g count first).config.output ≡ first.config.output ++ bytes
+  pub front : AppendsFront before after bytes
+
+-- the run h came to its end, and a front of what it prints is written
+pub record IsCutAtEnd (facts : Facts) (h : Run) (first : Point) (m : Machine) (before after : Option (List ℕ)) : Type 0 where
+  pub agrees : Agrees facts m h.config
+  pub bytes : List ℕ
+  pub output : h.config.output ≡ first.config.output ++ bytes
+  pub front : AppendsFront before after bytes
+
+-- The sink took no more: behind an action; at the run's end; or where the machine counts no more, which never comes.
+pub data IsCut (facts : Facts) (limit : ℕ) (h : Run) (first : Point) (m : Machine) (before after : Option (List ℕ)) : Type 0 where
+  on_the_way : IsBrokenOff (program_in facts) limit h first (λ s. Agrees facts m s.config) before after → IsCut facts limit h first m before after
+  at_the_end : IsCutAtEnd facts h first m before after → IsCut facts limit h first m before after
+  uncounted : IsBrokenOff (program_in facts) limit h first (λ s. Agrees facts m (settled_config s.config)) before after
+      → IsCut facts limit h first m before after
+
+-- Memory was wanting: before an action; or where the machine counts no more.
+pub data IsWanting (facts : Facts) (limit : ℕ) (h : Run) (first : Point) (m : Machine) (before after : Option (List ℕ)) : Type 0 where
+  refused : IsBrokenOff (program_in facts) limit h first (λ s. IsUntried facts m s) before after → IsWanting facts limit h first m before after
+  worn_out : IsBrokenOff (program_in facts) limit h first (λ s. Agrees facts m (settled_config s.config)) before after
+      → IsWanting facts limit h first m before after
+
+-- ## Runs
+
+-- the process of a fault is one of so many
+abbrev pub NamesOneOf : ℕ → Ending → Type 0
+NamesOneOf n (Fault process line fault) = process < n
+NamesOneOf n ending = Unit {0}
+
+-- the machine agrees with the run's last configuration, and a fault is that of a process of the program
+pub record IsAtEnd (facts : Facts) (h : Run) (m : Machine) (ending : Ending) : Type 0 where
+  pub agrees : Agrees facts m h.config
+  pub names : NamesOneOf (process_count facts) ending
+
+-- where a machine stands behind a session's run from a point on, which came to this ending
+abbrev pub IsStanding : Facts → ℕ → Run → Point → Machine → Ending → Option (List ℕ) → Option (List ℕ) → Type 0
+IsStanding facts limit h first m SinkFailed before after = IsCut facts limit h first m before after
+IsStanding facts limit h first m Memory before after = IsWanting facts limit h first m before after
+IsStanding facts limit h first m Finished before after = IsAtEnd facts h m Finished
+IsStanding facts limit h first m (Fault process line fault) before after = IsAtEnd facts h m (Fault process line fault)
+IsStanding facts limit h first m Deadlock before after = IsAtEnd facts h m Deadlock
+IsStanding facts limit h first m (Limit n) before after = IsAtEnd facts h m (Limit n)
+IsStanding facts limit h first m (Script item why) before after = IsAtEnd facts h m (Script item why)
+
+-- wherever that is: at a point that the run passes, or at its end
+pub data StandsIn (facts : Facts) (limit : ℕ) (h : Run) (first : Point) (m : Machine) : Type 0 where
+  passing : (count left : ℕ) → IsOnTheWay (program_in facts) limit count left h first → StandsFor facts m (point_after (program_in facts) count first)
+      → StandsIn facts limit h first m
+  ended : Agrees facts m h.config → StandsIn facts limit h first m

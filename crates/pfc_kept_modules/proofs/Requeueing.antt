@@ -31,6 +31,7 @@ use Rattle.pfc_call_actions.specs.Requeues.{in_place, requeues as machine_requeu
 use Rattle.pfc_call_actions.specs.Returns.{scans_from}
 use Rattle.pfc_machine_acts.specs.Performing.{silent, with_block}
 use Rattle.pfc_standing_code.specs.Settings.{Trial, of_own, AreOver, site_of, IsBeside, same_block, both_mains, IsAt}
+use Rattle.pfc_types.specs.declared.heads.SubSort.{SubSort}
 use Rattle.pfc_standing_code.specs.Typed.{IsOfSub}
 use Rattle.pfc_standing_code.specs.Words.{AreHeld, AreKnown, IsChecked}
 use Rattle.pfc_standing_code.specs.Performs.{own_block}
@@ -59,7 +60,7 @@ use Rattle.pfc_kept_modules.proofs.Requeued.{represents_requeued}
 module _ (facts : Facts) (m : Machine) (c : Config) (p choice : ℕ) (level : LivingLevel) (acting : IsActing facts m c p level) (x : Context) (b : Block)
     (scope : ℕ) (formals : List Formal) (given : List Argument) (below : List ℤ) (checked : IsChecked level.setting b x.env)
     (alone : (level.setting.trial ≡ of_own) × (level.arms ≡ [])) (may : MayRequeue level scope) (over : AreOver level.setting below)
-    (sub : IsOfSub (site_of level.setting b x) scope formals)
+    {asked : ℕ → SubSort → Type 0} (sub : IsOfSub (site_of level.setting b x) scope formals asked)
     (held : AreHeld level.setting.view (site_of level.setting b x) formals given (operands_of m.stacks p) below)
     (there : IsAt level.setting (stack_of m.stacks p).at (REQ (resource_of (site_of level.setting b x)) (block_number level.setting.program scope)) x.line)
     (lends : AreLentOn (program_in facts) c p given (activity_of (program_in facts) c p).activations)
@@ -93,11 +94,11 @@ module _ (facts : Facts) (m : Machine) (c : Config) (p choice : ℕ) (level : Li
   target : (n : ℕ) × IsExported facts.tree n k callee formals × (module_of blocks block.outer ≡ Some n)
   target = by level.setting.program same sub
     where
-      by : (q : Program) → q ≡ g → IsOfSub (record (site_of level.setting b x) { program = q }) scope formals
+      by : (q : Program) → q ≡ g → IsOfSub (record (site_of level.setting b x) { program = q }) scope formals asked
           → (n : ℕ) × IsExported facts.tree n k callee formals × (module_of blocks block.outer ≡ Some n)
       by q is of_sub =
-          let of : IsOfSub (record (site_of level.setting b x) { program = g }) scope formals = subst (λ (z : Program). IsOfSub (record
-          (site_of level.setting b x) { program = z }) scope formals) is of_sub in
+          let of : IsOfSub (record (site_of level.setting b x) { program = g }) scope formals asked = subst (λ (z : Program). IsOfSub (record
+          (site_of level.setting b x) { program = z }) scope formals asked) is of_sub in
           let found = may.exported facts.tree of.number same acting.alike.program of.among of.own_scope in
           (found.0, subst (λ (fs : List Formal). IsExported facts.tree found.0 k callee fs) (sym of.own_formals) found.1, found.2)
 

@@ -34,9 +34,9 @@ use Rattle.pfc_typed_programs.specs.Bodies.{IsBody, of_block, of_module, of_main
 use Rattle.pfc_nesting_laws.proofs.Programs.{by_scope}
 use Rattle.pfc_callee_laws.specs.Callees.{is_guarded_sort, IsActivated, IsSubBlock, IsCalledFrom, IsMainsBody}
 use Rattle.pfc_callee_laws.proofs.Images.{params_there}
-use Rattle.pfc_callee_laws.proofs.Mains.{of_mains}
+use Rattle.pfc_callee_laws.proofs.Mains.{main_scope, of_mains}
 use Rattle.pfc_callee_laws.proofs.Program.{its_layout}
-use Rattle.pfc_callee_laws.proofs.Blocks.{main_scope, sub_block, has_result}
+use Rattle.pfc_callee_laws.proofs.Blocks.{sub_block, has_result}
 use Rattle.pfc_callee_laws.proofs.Calls.{called_at, nested_in_main_code}
 use Rattle.pfc_representation.specs.Levels.{Facts, program_in, LivingLevel, IsProgram, block_of, number_in}
 use Rattle.pfc_representation.specs.Acting.{IsActing, HasArrived}
@@ -59,7 +59,7 @@ is_same n m h = grind (arith, nat_tests)
 one_block : (x y : Block) → Some x ≡ Some y → x ≡ y
 one_block x y e = cc
 
-one_head : (x y : SubHead) → Some x ≡ Some y → x ≡ y
+pub one_head : (x y : SubHead) → Some x ≡ Some y → x ≡ y
 one_head x y e = cc
 
 -- a block with this scope is there
@@ -78,7 +78,7 @@ found_before (x ∷ bs) k i b e is = by (x.scope == i) refl (λ j f. found_befor
     by false other rest (suc j) f = let low = rest j f in omega (arith, low)
 
 -- whatever else it would be
-number_is : (bs : List Block) (k i d : ℕ) (b : Block) → slice_get bs k ≡ Some b → b.scope ≡ i
+pub number_is : (bs : List Block) (k i d : ℕ) (b : Block) → slice_get bs k ≡ Some b → b.scope ≡ i
     → unwrap_or (position (λ (c : Block). c.scope == i) bs) d ≡ unwrap_or (position (λ (c : Block). c.scope == i) bs) 0
 number_is bs k i d b e is = by (position_or_len (λ (c : Block). c.scope == i) bs) (found_before bs k i b e is)
   where
@@ -173,12 +173,12 @@ module _ (facts : Facts) (m : Machine) (c : Config) (p : ℕ) (level : LivingLev
         by k (inl e) = of_block k b0 e
         by k (inr e) = subst (IsBody t) (sym e) of_main
 
-    body_of : (b : Block) → IsBeside level.setting b0 b → IsBody t b
+    pub body_of : (b : Block) → IsBeside level.setting b0 b → IsBody t b
     body_of b same_block = own_body
     body_of b (both_mains _ one two) = let is = mains_at b two in mains_body b is.0 is.1
 
     module _ (is : IsProgram t) where
-      counted : (b : Block) → IsBody t b → b.cells ≡ layout_cells (program_of t).state.forms b.layout
+      pub counted : (b : Block) → IsBody t b → b.cells ≡ layout_cells (program_of t).state.forms b.layout
       counted b (of_block k c e) = (its_layout t is.lawful k b e).cells
       counted b (of_module k c e) = (of_mains t is.lawful (suc k) b e).cells
       counted b of_main = (of_mains t is.lawful 0 b refl).cells

@@ -1,13 +1,13 @@
 //! The laws. The functions do nothing: their contracts are the laws.
 ghost use Rattle.std.specs.Prelude.{◌≡◌, ℕ, List};
 ghost use Rattle.pfc_semantics.specs.Configurations.{of_monitor, Config, activity_of};
-ghost use Rattle.pfc_semantics.specs.Remainders.{Context, Argument, Action, calls, to_requeue};
+ghost use Rattle.pfc_semantics.specs.Remainders.{Context, Remainder, Argument, Action, calls, to_module, to_requeue};
 ghost use Rattle.pfc_machines.specs.declared.machine.Machine.{Machine};
 ghost use Rattle.pfc_representation.specs.Levels.{Facts, program_in, LivingLevel};
 ghost use Rattle.pfc_representation.specs.Trials.{mark_of};
 ghost use Rattle.pfc_representation.specs.Acting.{IsActing, HasArrived};
 ghost use Rattle.pfc_representation.specs.Actions.{IsKept, AreKept};
-ghost use Rattle.pfc_kept_modules.specs.Groups.{EntersModule};
+ghost use Rattle.pfc_kept_modules.specs.Groups.{MayEnter, EntersModule, IsModuleEntry};
 ghost use Rattle.pfc_kept_modules.specs.Endings.{EndsInMonitor, AreOutside};
 ghost use Rattle.pfc_kept_modules.specs.Requeued.{MayRequeue, AreLentOn};
 
@@ -32,4 +32,16 @@ pub fn requeues_are_kept()
         → MayRequeue level scope → AreLentOn (program_in facts) c p given (activity_of (program_in facts) c p).activations
         → IsActing facts m c p level → HasArrived facts m c p level (calls x (to_requeue scope) given)
         → IsKept facts m c p choice (calls x (to_requeue scope) given) }
+{}
+
+/// Wherever the code of a checked program calls a procedure from outside its module, that can be called: the module exports it, and no part of its variables
+/// is an object.
+pub fn checked_programs_may_enter()
+    ensures { (facts : Facts) (m : Machine) (c : Config) (p : ℕ) (level : LivingLevel) (x : Context) (n scope : ℕ) (k : Remainder) (given : List Argument)
+        → IsActing facts m c p level → HasArrived facts m c p level (calls x (to_module n scope k) given) → MayEnter level n scope }
+{}
+
+/// So all calls from outside modules are kept.
+pub fn module_entries_are_kept()
+    ensures { AreKept IsModuleEntry }
 {}

@@ -126,3 +126,7 @@ module _ (t : ProgramTree) (lawful : IsLawful (forget_program t)) (clean : broke
   pub nested_in_main_code : (i k : ℕ) (b callee : Block) → slice_get (g.main ∷ g.modules) i ≡ Some b → slice_get g.blocks k ≡ Some callee
       → is_mains bs callee.outer ≡ true → IsNested g b callee (links_from bs b callee.outer)
   nested_in_main_code i k b callee at at_callee mains = mains_nested b (of_mains t lawful i b at) k callee at_callee mains
+
+  pub nested_in_main : (k : ℕ) (callee : Block) → slice_get g.blocks k ≡ Some callee → is_mains bs callee.outer ≡ true → IsNested g g.main callee 0
+  nested_in_main k callee at mains =
+      let main = of_mains t lawful 0 g.main refl in nested_in_mains t lawful g.main main.alone main.no_accept k callee at mains

@@ -13,3 +13,5 @@ pub mod Program
 pub mod Blocks
 pub mod Mains
 pub mod Calls
+pub mod Modules
+pub mod Processes

@@ -76,6 +76,13 @@ main_env_is : (scope outer : ℕ) (env : Env) (next : ℕ) (b : BodyTree) (layou
     → (block_of scope outer env next b layout accepts guard).env ≡ env
 main_env_is scope outer env next (body ss from to) layout accepts guard = refl
 
+main_scope_is : (scope outer : ℕ) (env : Env) (next : ℕ) (b : BodyTree) (layout : Layout) (accepts : ℕ) (guard : Option Guard)
+    → (block_of scope outer env next b layout accepts guard).scope ≡ scope
+main_scope_is scope outer env next (body ss from to) layout accepts guard = refl
+
+pub main_scope : (t : ProgramTree) → (program_of t).main.scope ≡ 0
+main_scope t = main_scope_is 0 _ _ _ t.body _ _ _
+
 main_sees : (t : ProgramTree) (i : ℕ) → sees (program_of t).main.env.view i ≡ true → is_mains (program_of t).state.blocks i ≡ true
 main_sees t i h =
     by (0 == i) refl
@@ -89,6 +96,7 @@ pub of_mains : (t : ProgramTree) → IsLawful (forget_program t) → (i : ℕ) (
     → slice_get ((program_of t).main ∷ (program_of t).modules) i ≡ Some b → IsMainsBody t b
 of_mains t lawful zero b e =
     subst (IsMainsBody t) (one_block (program_of t).main b e) (record {
+      own = subst (λ (i : ℕ). is_mains (program_of t).state.blocks i ≡ true) (sym (main_scope t)) refl;
       mains = main_sees t;
       alone = main_alone t lawful;
       no_accept = main_has_none t lawful;
@@ -96,8 +104,10 @@ of_mains t lawful zero b e =
     })
 of_mains t lawful (suc i) b e =
     let small = each_of (IsSmall (finished t)) (program_of t).modules i b (parts_small (finished t) 0 1 t.parts) e in
-    let mains = (each_of (IsInitial (program_of t)) (program_of t).modules i b (initial_placed t lawful) e).2 in
+    let placed = each_of (IsInitial (program_of t)) (program_of t).modules i b (initial_placed t lawful) e in
+    let mains = placed.2 in
     record {
+      own = placed.1;
       mains = mains;
       alone = nothing_linked (program_of t).state.blocks b.env.view mains;
       no_accept = no_accept_by b small.0;

@@ -118,7 +118,7 @@ abbrev pub InExpressions : ℕ → SubSort → Type 0
 InExpressions i sort = is_function_sort sort ≡ true
 
 abbrev pub FromOutside : Blocks → ℕ → ℕ → SubSort → Type 0
-FromOutside blocks n i sort = (i ≡ (module_at blocks n).scope) × (is_function_sort sort ≡ false)
+FromOutside blocks n i sort = (n < length blocks.modules) × (i ≡ (module_at blocks n).scope) × (is_function_sort sort ≡ false)
 
 abbrev pub ByRequeue : ℕ → SubSort → Type 0
 ByRequeue i sort = sort ≡ Guarded

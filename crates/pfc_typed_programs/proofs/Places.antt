@@ -18,7 +18,7 @@ use Rattle.pfc_types.specs.declared.heads.ModuleHead.{ModuleHead}
 use Rattle.pfc_types.specs.declared.heads.SubSort.{SubSort}
 use Rattle.pfc_types.specs.declared.heads.SubSort.TheVariants.{Procedure, Guarded, Function}
 use Rattle.pfc_types.specs.declared.scope.Meaning.{Meaning}
-use Rattle.pfc_types.specs.declared.scope.Meaning.TheVariants.{Variable, Sub, Process}
+use Rattle.pfc_types.specs.declared.scope.Meaning.TheVariants.{Variable, Sub, Module, Process}
 use Rattle.pfc_types.specs.declared.view.Found.{Found}
 use Rattle.pfc_types.specs.declared.view.Around.{Around}
 use Rattle.pfc_types.specs.rules.FaultyNames.{all_typed}
@@ -249,6 +249,19 @@ module _ (t : ProgramTree) (lawful : IsLawful (forget_program t)) (clean : broke
             let is : f.meaning ≡ Sub n = cc in
             of_scope f.scope (subst (λ (m : Meaning). Stands bs f.scope m) is (named_stands (finished t) (known t lawful clean) v x f h))
 
+    module_found : (v : List Level) (x : Text) (n : ℕ) → meaning_of (found_in bs.scopes v x) ≡ Some (Module n) → n < length bs.modules
+    module_found v x n e = by (found_in bs.scopes v x) refl e
+      where
+        of_scope : (o : Option ℕ) → Stands bs o (Module n) → n < length bs.modules
+        of_scope None h = absurd h
+        of_scope (Some i) h = h
+
+        by : (o : Option Found) → found_in bs.scopes v x ≡ o → meaning_of o ≡ Some (Module n) → n < length bs.modules
+        by None h e = absurd (cc)
+        by (Some f) h e =
+            let is : f.meaning ≡ Module n = cc in
+            of_scope f.scope (subst (λ (m : Meaning). Stands bs f.scope m) is (named_stands (finished t) (known t lawful clean) v x f h))
+
     -- it stands among the names of a scope in view
     sub_named : (v : List Level) (a : Around) (l : ℕ) → Views v → (x : Text) (n : ℕ) → meaning_of (found_in bs.scopes v x) ≡ Some (Sub n)
         → IsNamedSub (at (finished t) v a l) (sub_at bs n)
@@ -460,6 +473,7 @@ module _ (t : ProgramTree) (lawful : IsLawful (forget_program t)) (clean : broke
           singles = single v a l view;
           processes = λ u n e. started v a l n (a_process_type (finished t) (known t lawful clean) u n e);
           entries = λ n k x e. entry_typed n k;
+          modules = module_found v;
           exported = exported v a l;
         }
 

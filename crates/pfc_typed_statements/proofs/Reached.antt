@@ -36,6 +36,7 @@ callable_known t s lawful program have =
       singles = have.singles;
       processes = have.processes;
       entries = have.entries;
+      modules = have.modules;
       exported = have.exported;
       faulty = subst (λ (k : State). (i : ℕ) (x : Text) → meaning_in (scope_at k.blocks.scopes i) x ≢ Some Faulty) (sym program) (none_faulty t lawful);
     }

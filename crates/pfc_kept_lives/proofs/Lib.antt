@@ -6,6 +6,7 @@ pub mod Finished
 pub mod Only
 pub mod Ended
 pub mod Ending
+pub mod Quiet
 pub mod Makers
 pub mod Numbers
 pub mod Begun

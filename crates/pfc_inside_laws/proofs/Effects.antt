@@ -372,7 +372,7 @@ module _ (law : Asked) (closed : IsClosed law) (program : FitsProgram law) (c : 
   effect_fits choice (waits x s k) n = with_counts law (goes_on g c p x k) (waited (counted c) p (number_for g c p s)) (on x n.0 k n.1)
   effect_fits choice (signals x s k) n = signals_fit x n.0 k n.1 s
   effect_fits choice (delays x s rank k) n = with_monitor_holders law (goes_on g c p x k) _ (on x n.0 k n.2)
-  effect_fits choice (resumes x s k) n = with_monitor_holders law (goes_on g c p x k) _ (on x n.0 k n.1)
+  effect_fits choice (resumes x s k) n = with_monitor_holders law (goes_on g c p x k) _ (on x n.0 k n.2)
   effect_fits choice (sleeps x m k) n = sleeps_fit x n.0 k n.1 m
   effect_fits choice (meets x o k) n = meets_fits law closed program c fits p x n.0 k n.2 o n.1
   effect_fits choice (decides x s k) n = decides_fits law closed program c fits p x n.0 k n.2 s n.1 choice (matched_places g c p s)

@@ -19,11 +19,10 @@ pub record FitsBlock (r : Asked) (b : Block) : Type 0 where
   pub stmts : FitStmts r.accept b.next b.stmts
   pub guard : FitsGuard r b.guard
 
--- in all that is known of a program: its bodies, the names in view in initialising ones, and the first values of its variables
+-- in all that is known of a program: its bodies, and the first values of its variables
 pub record FitsProgram (r : Asked) : Type 0 where
   pub blocks : AllByRecursion (FitsBlock r) r.program.blocks
   pub modules : AllByRecursion (FitsBlock r) r.program.modules
-  pub inits : AllByRecursion (λ (b : Block). r.env 0 (plain ∷ []) b.env) r.program.modules
   pub main : FitsBlock r r.program.main
   pub firsts : FitList r.program.firsts
   pub variables : FitList r.program.variables

@@ -1,8 +1,9 @@
-//! Laws of the numbers in a run of the source text. Each function does nothing: its contract is the law.
+//! Laws of who is inside a monitor, of runs of the source text. The functions do nothing: their contracts are the laws.
 //!
-//! It promises that every number has 32 bits: in the store, in what is left of the text, and in what processes show to one another. So has what
-//! `initial` takes as a count, and `delay` as a rank. It knows no machine, and says nothing of what a number means.
+//! It promises that a child which performs the text of a monitor has entered it from outside and not yet left, where the program is scoped as a checked one is.
+//! It knows no machine, and does not tell who holds a monitor.
 #![tactic(auto)]
 
 mod laws;
 
+pub use laws::who_performs_is_inside;

@@ -169,18 +169,18 @@ module _ (law : Asked) (who : ℕ) (ms : List Mark) (closed : IsClosed law) wher
       receiver_fits channel None fits = offered (to_receive channel None) tt
       receiver_fits channel (Some d) fits =
           desig_fits law who ms closed c known d fits (offer_into channel a rest s k) (λ v. go (with_open a s (to_receive channel (Some v.spot)))) (one, others, all, left)
-          (λ v. offered (to_receive channel (Some v.spot)) tt)
+          (λ v there. offered (to_receive channel (Some v.spot)) tt)
 
       comm_fits : (comm : CommTree) → FitsComm law.accept a.next comm → FitsAction law who ms (from_comm c comm a rest s k go)
       comm_fits (comm_accept x p) fits = offered (to_accept (accepting_of c a.next x p.line)) (accepted_fits a.next x p.line fits)
       comm_fits (comm_send d e p) fits =
           let message = perhaps_unless (names_any c.env (as_desig e)) e fits.1 in
           desig_fits law who ms closed c known d fits.0 (offer_to (message_of c e) a rest s k) (λ channel. from_message c channel.spot (message_of c e) a rest s k go)
-          (message, one, others, all, left) (λ channel. message_fits channel.spot (message_of c e) message)
+          (message, one, others, all, left) (λ channel there. message_fits channel.spot (message_of c e) message)
       comm_fits (comm_receive d v p) fits =
           let target = target_unless (names_any c.env (Some v)) v fits.1 in
           desig_fits law who ms closed c known d fits.0 (offer_from (receiver_of c v) a rest s k) (λ channel. from_receiver c channel.spot (receiver_of c v) a rest s k go)
-          (target, one, others, all, left) (λ channel. receiver_fits channel.spot (receiver_of c v) target)
+          (target, one, others, all, left) (λ channel there. receiver_fits channel.spot (receiver_of c v) target)
       comm_fits (timeout e p) fits =
           expr_fits law who ms closed c known e fits (offer_wait a rest s k) (from_seconds c a s go) (one, others, all, left) (λ v given. seconds_fit a s go v one all on)
       comm_fits (terminate p) fits = offered to_end tt

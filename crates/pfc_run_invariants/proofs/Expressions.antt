@@ -1,5 +1,5 @@
 -- What comes next in an expression has only numbers of 32 bits.
-use Rattle.std.proofs.Common.{◌≡◌, ℕ, pos, Bool, true, false, if◌then◌else◌, List, [], ◌∷◌, ◌++◌, Option, Some, None, Ok, Err, refl}
+use Rattle.std.proofs.Common.{ℤ, ◌-ℤ◌, ◌+ℤ◌, subst, sym, ◌≡◌, ℕ, pos, Bool, true, false, if◌then◌else◌, List, [], ◌∷◌, ◌++◌, Option, Some, None, Ok, Err, refl}
 use Rattle.pfc_tree.specs.Symbols.{Text}
 use Rattle.pfc_tree.specs.trees.Exprs.{ExprTree, SimpleTree, SummandTrees, TermTree, MultiplierTrees, FactorTree, DesigTree, SelectorTrees, ExprTrees, ActualTree, ActualTrees, plain, related, sum, no_summands, more_summands, product, no_multipliers, more_multipliers, number, literal, negation, paren, applied as used, desig, index, field, no_selectors, more_selectors, no_exprs, more_exprs, actual, actual_width, no_actuals, more_actuals}
 use Rattle.pfc_types.specs.Scopes.{meaning_of}
@@ -11,13 +11,15 @@ use Rattle.pfc_types.specs.declared.scope.Meaning.TheVariants.{Constant, Variabl
 use Rattle.pfc_types.specs.declared.heads.Formal.{Formal}
 use Rattle.pfc_types.specs.declared.heads.SubHead.{SubHead}
 use Rattle.pfc_values.specs.Numbers.{Outcome, inverse_of, is_true}
-use Rattle.std.specs.Prelude.{not}
+use Rattle.std.specs.Prelude.{◌&&◌, nat_abs, int_le, not}
 use Rattle.pfc_semantics.specs.Values.{Value, ordinal, compound, points, ordinal_of}
-use Rattle.pfc_semantics.specs.Displays.{TypedSpot}
+use Rattle.pfc_types.specs.declared.types.TypeForm.{TypeForm}
+use Rattle.pfc_types.specs.declared.types.TypeForm.TheVariants.{Array}
+use Rattle.pfc_semantics.specs.Displays.{TypedSpot, within}
 use Rattle.pfc_semantics.specs.Operators.{signed, added, multiplied, compared, holds, applied, simple_of}
 use Rattle.pfc_semantics.specs.Predeclared.{Function, eof, eoln, empty, clock, random, function_of}
 use Rattle.pfc_semantics.specs.Remainders.{Context, Argument, by_value, by_reference, AwaitsValue, AwaitsLocation, Call, Action, begin_sum, add_to, begin_product, multiply_by, compare_with, compare_to, invert, apply, index_into, pass_value, read_for, pass_variable, ask_empty, to_function, reads, asks_empty}
-use Rattle.pfc_semantics.specs.Expressions.{with_number, char_in, spot_in, spot_of, field_spot, element_spot, with_element, finish_call, from_function, from_name, from_expr, from_simple, from_summands, from_term, from_multipliers, from_factor, from_argument, from_reference, from_actual, from_lent, from_variable, from_args, from_selectors, from_indices, from_desig}
+use Rattle.pfc_semantics.specs.Expressions.{element_in, form_in, with_number, char_in, spot_in, spot_of, field_spot, element_spot, with_element, finish_call, from_function, from_name, from_expr, from_simple, from_summands, from_term, from_multipliers, from_factor, from_argument, from_reference, from_actual, from_lent, from_variable, from_args, from_selectors, from_indices, from_desig}
 use Rattle.pfc_run_invariants.specs.Fitting.{Fits, FitsOutcome, FitsValue, FitsMeaning}
 use Rattle.pfc_run_invariants.specs.Written.{FitsExpr, FitsSimple, FitSummands, FitsTerm, FitMultipliers, FitsFactor, FitsDesig, FitSelectors, FitExprs, FitsActual, FitActuals}
 use Rattle.pfc_run_invariants.specs.Remainders.{FitsEnv, FitsArgument, FitArguments, FitsAwaiting, FitsGoal, FitsCall, FitsAction}
@@ -32,7 +34,7 @@ abbrev pub Goes : Asked → ℕ → List Mark → (Value → Action) → Type 0
 Goes law who ms go = (v : Value) → FitsValue v → FitsAction law who ms (go v)
 
 abbrev pub Arrives : Asked → ℕ → List Mark → (TypedSpot → Action) → Type 0
-Arrives law who ms go = (s : TypedSpot) → FitsAction law who ms (go s)
+Arrives law who ms go = (s : TypedSpot) → law.spot who ms s.spot.scope → FitsAction law who ms (go s)
 
 abbrev pub Evaluates : Asked → ℕ → List Mark → (AwaitsValue → (Value → Action) → Action) → Type 0
 Evaluates law who ms from = (u : AwaitsValue) (go : Value → Action) → FitsAwaiting law who ms u → Goes law who ms go → FitsAction law who ms (from u go)
@@ -55,9 +57,24 @@ module _ (law : Asked) (who : ℕ) (ms : List Mark) (closed : IsClosed law) wher
     number_on (Ok n) go fits on = on (ordinal n) fits
     number_on (Err f) go fits on = tt
 
-    pub element_on : (s : Option TypedSpot) (go : TypedSpot → Action) → Arrives law who ms go → FitsAction law who ms (with_element c s go)
-    element_on None go on = tt
-    element_on (Some s) go on = on s
+    within_bounds :
+        (b : Bool) (s t : TypedSpot) (go : TypedSpot → Action) → t.spot.scope ≡ s.spot.scope → law.spot who ms s.spot.scope → Arrives law who ms go
+        → FitsAction law who ms (with_element c (if b then Some t else None) go)
+    within_bounds true s t go same there on = on t (subst (λ (i : ℕ). law.spot who ms i) (sym same) there)
+    within_bounds false s t go same there on = tt
+
+    element_by :
+        (form : Option TypeForm) (s : TypedSpot) (i : ℤ) (go : TypedSpot → Action) → law.spot who ms s.spot.scope → Arrives law who ms go
+        → FitsAction law who ms (with_element c (element_in form s.spot i) go)
+    element_by (Some (Array over low high element)) s i go there on =
+        within_bounds (int_le low i && int_le i high) s
+        (record { spot = within s.spot (record { place = nat_abs (i -ℤ low); index = i }); t = Some element }) go refl there on
+    element_by form s i go there on = tt
+
+    pub element_on :
+        (s : TypedSpot) (i : ℤ) (go : TypedSpot → Action) → law.spot who ms s.spot.scope → Arrives law who ms go
+        → FitsAction law who ms (with_element c (element_spot c.env.state.forms s i) go)
+    element_on s i go there on = element_by (form_in c.env.state.forms s.t) s i go there on
 
     -- ## Functions
 
@@ -74,7 +91,7 @@ module _ (law : Asked) (who : ℕ) (ms : List Mark) (closed : IsClosed law) wher
     function_fits eof t value variable given lent u go waits on = (known, waits)
     function_fits eoln t value variable given lent u go waits on = (known, waits)
     function_fits clock t value variable given lent u go waits on = (known, waits)
-    function_fits empty t value variable given lent u go waits on = lent (ask_empty u) (λ s. asks_empty c s.spot u) waits (λ s. (known, waits))
+    function_fits empty t value variable given lent u go waits on = lent (ask_empty u) (λ s. asks_empty c s.spot u) waits (λ s there. (known, waits))
     function_fits f t value variable given lent u go waits on =
         given (apply f t u) (finish_call c f t u go) waits (λ v fits. call_fits f t u go v fits waits on)
 
@@ -85,7 +102,7 @@ module _ (law : Asked) (who : ℕ) (ms : List Mark) (closed : IsClosed law) wher
         → FitsAction law who ms (from_name c m u go variable called predeclared)
     name_fits x (Some (Constant t n)) is u go variable called predeclared fits waits on located made asks = on (ordinal n) fits
     name_fits x (Some (Variable t reference)) is u go variable called predeclared fits waits on located made asks =
-        located (read_for u) (λ s. reads c s.spot u) waits (λ s. (known, waits))
+        located (read_for u) (λ s. reads c s.spot u) waits (λ s there. (known, waits))
     name_fits x (Some (Sub n)) is u go variable called predeclared fits waits on located made asks =
         let head : SubHead = sub_at c.env.state.blocks n in made head.formals (to_function head.scope u) (closed.calls who ms c.env x n known is, waits)
     name_fits x (Some (Predeclared k)) is u go variable called predeclared fits waits on located made asks = asks (function_of k)
@@ -155,7 +172,7 @@ module _ (law : Asked) (who : ℕ) (ms : List Mark) (closed : IsClosed law) wher
           (λ formals call. from_args c formals args [] call)
           (λ f. from_function c f (first_type c.env args) u go (from_argument c args) (from_reference c args))
           (closed.names who ms c.env known c.env.view x) waits on
-          (λ goal arrive reached arrives. selectors_fit ss fits.0 (spot_of c.env found) goal arrive reached arrives)
+          (λ goal arrive reached arrives. selectors_fit ss fits.0 (spot_of c.env found) (closed.spots who ms c.env x known) goal arrive reached arrives)
           (λ formals call held. args_fit formals args fits.1 [] tt call held)
           (λ f. function_fits f (first_type c.env args) (from_argument c args) (from_reference c args)
           (λ w last held behind. argument_fits args fits.1 w last held behind) (λ goal last held behind. reference_fits args fits.1 goal last held behind)
@@ -166,7 +183,7 @@ module _ (law : Asked) (who : ℕ) (ms : List Mark) (closed : IsClosed law) wher
       argument_fits (more_actuals a rest) fits u go waits on = actual_fits a fits.0 u go waits on
 
       pub reference_fits : (args : ActualTrees) → FitActuals args → Locates law who ms (from_reference c args)
-      reference_fits no_actuals fits goal go waits on = on (spot_in 0 0 None)
+      reference_fits no_actuals fits goal go waits on = on (spot_in 0 0 None) (closed.outside who ms)
       reference_fits (more_actuals a rest) fits goal go waits on = lent_fits a fits.0 goal go waits on
 
       pub actual_fits : (a : ActualTree) → FitsActual a → Evaluates law who ms (from_actual c a)
@@ -179,8 +196,8 @@ module _ (law : Asked) (who : ℕ) (ms : List Mark) (closed : IsClosed law) wher
 
       pub variable_fits : (e : ExprTree) → FitsExpr e → Locates law who ms (from_variable c e)
       variable_fits (plain (sum None (product (used (desig x ss q) no_actuals p) no_multipliers) no_summands) r) fits goal go waits on =
-          selectors_fit ss fits.0.0.0 (spot_of c.env (find c.env x)) goal go waits on
-      variable_fits e fits goal go waits on = on (spot_in 0 0 None)
+          selectors_fit ss fits.0.0.0 (spot_of c.env (find c.env x)) (closed.spots who ms c.env x known) goal go waits on
+      variable_fits e fits goal go waits on = on (spot_in 0 0 None) (closed.outside who ms)
 
       pub args_fit :
           (formals : List Formal) (args : ActualTrees) → FitActuals args → (given : List Argument) → FitArguments law who ms given → (call : Call) → FitsCall law who ms call
@@ -192,24 +209,26 @@ module _ (law : Asked) (who : ℕ) (ms : List Mark) (closed : IsClosed law) wher
           (from_actual c a (pass_value formals rest given call) (λ v. from_args c formals rest (given ++ by_value v ∷ []) call))
           (lent_fits a fits.0 (pass_variable formals rest given call) (λ s. from_args c formals rest (given ++ by_reference s.spot ∷ []) call)
           (fits.1, so_far, waits)
-          (λ s. args_fit formals rest fits.1 (given ++ by_reference s.spot ∷ []) (all_push (FitsArgument law who ms) given (by_reference s.spot) so_far tt) call waits))
+          (λ s there. args_fit formals rest fits.1 (given ++ by_reference s.spot ∷ []) (all_push (FitsArgument law who ms) given (by_reference s.spot) so_far tt) call waits))
           (actual_fits a fits.0 (pass_value formals rest given call) (λ v. from_args c formals rest (given ++ by_value v ∷ []) call)
           (fits.1, so_far, waits)
           (λ v passed. args_fit formals rest fits.1 (given ++ by_value v ∷ []) (all_push (FitsArgument law who ms) given (by_value v) so_far passed) call waits))
 
-      pub selectors_fit : (ss : SelectorTrees) → FitSelectors ss → (s : TypedSpot) → Locates law who ms (from_selectors c s ss)
-      selectors_fit no_selectors fits s goal go waits on = on s
-      selectors_fit (more_selectors (index es p) ss) fits s goal go waits on =
-          indices_fit es fits.0 ss fits.1 s goal (λ t. from_selectors c t ss goal go) waits (λ t. selectors_fit ss fits.1 t goal go waits on)
-      selectors_fit (more_selectors (field x p) ss) fits s goal go waits on = selectors_fit ss fits.1 (field_spot c.env.state.forms s x) goal go waits on
+      pub selectors_fit : (ss : SelectorTrees) → FitSelectors ss → (s : TypedSpot) → law.spot who ms s.spot.scope → Locates law who ms (from_selectors c s ss)
+      selectors_fit no_selectors fits s there goal go waits on = on s there
+      selectors_fit (more_selectors (index es p) ss) fits s there goal go waits on =
+          indices_fit es fits.0 ss fits.1 s there goal (λ t. from_selectors c t ss goal go) waits (λ t still. selectors_fit ss fits.1 t still goal go waits on)
+      selectors_fit (more_selectors (field x p) ss) fits s there goal go waits on =
+          selectors_fit ss fits.1 (field_spot c.env.state.forms s x) there goal go waits on
 
-      pub indices_fit : (es : ExprTrees) → FitExprs es → (ss : SelectorTrees) → FitSelectors ss → (s : TypedSpot) → Locates law who ms (from_indices c s es ss)
-      indices_fit no_exprs fits ss behind s goal go waits on = on s
-      indices_fit (more_exprs e es) fits ss behind s goal go waits on =
+      pub indices_fit : (es : ExprTrees) → FitExprs es → (ss : SelectorTrees) → FitSelectors ss → (s : TypedSpot) → law.spot who ms s.spot.scope
+          → Locates law who ms (from_indices c s es ss)
+      indices_fit no_exprs fits ss behind s there goal go waits on = on s there
+      indices_fit (more_exprs e es) fits ss behind s there goal go waits on =
           expr_fits e fits.0 (index_into s es ss goal)
-          (λ i. with_element c (element_spot c.env.state.forms s (ordinal_of i)) (λ t. from_indices c t es ss goal go)) (fits.1, behind, waits)
-          (λ i given. element_on (element_spot c.env.state.forms s (ordinal_of i)) (λ t. from_indices c t es ss goal go)
-          (λ t. indices_fit es fits.1 ss behind t goal go waits on))
+          (λ i. with_element c (element_spot c.env.state.forms s (ordinal_of i)) (λ t. from_indices c t es ss goal go)) (there, fits.1, behind, waits)
+          (λ i given. element_on s (ordinal_of i) (λ t. from_indices c t es ss goal go) there
+          (λ t still. indices_fit es fits.1 ss behind t still goal go waits on))
 
     pub desig_fits : (d : DesigTree) → FitsDesig d → Locates law who ms (from_desig c d)
-    desig_fits (desig x ss p) fits goal go waits on = selectors_fit ss fits (spot_of c.env (find c.env x)) goal go waits on
+    desig_fits (desig x ss p) fits goal go waits on = selectors_fit ss fits (spot_of c.env (find c.env x)) (closed.spots who ms c.env x known) goal go waits on

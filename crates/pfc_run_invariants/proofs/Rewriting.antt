@@ -64,31 +64,32 @@ module _ (law : Asked) (who : ℕ) (ms : List Mark) (closed : IsClosed law) wher
       (λ v given. other_fits w.bar.context (closed.guards who ms w.bar.context.env left.0.0) w left.0 s left.1 k left.2 v)
 
   module _ (c : Context) (known : FitsEnv law who ms c.env) where
-    pub location_fits : (goal : AwaitsLocation) → FitsGoal law who ms goal → (s : TypedSpot) → FitsAction law who ms (from_location c goal s)
-    location_fits (read_for u) fits s = (known, fits)
-    location_fits (assign_to e k) fits s = expr_fits law who ms closed c known e fits.0 (store_at s.spot k) (λ v. writes c s.spot v k) fits.1 (λ v given. (known, given, fits.1))
-    location_fits (input_to t k) fits s = (known, fits)
-    location_fits (pass_variable formals rest given call) fits s =
+    pub location_fits : (goal : AwaitsLocation) → FitsGoal law who ms goal → (s : TypedSpot) → law.spot who ms s.spot.scope
+        → FitsAction law who ms (from_location c goal s)
+    location_fits (read_for u) fits s there = (known, fits)
+    location_fits (assign_to e k) fits s there = expr_fits law who ms closed c known e fits.0 (store_at s.spot k) (λ v. writes c s.spot v k) fits.1 (λ v given. (known, given, fits.1))
+    location_fits (input_to t k) fits s there = (known, fits)
+    location_fits (pass_variable formals rest given call) fits s there =
         args_fit law who ms closed c known formals rest fits.0 (given ++ by_reference s.spot ∷ []) (all_push (FitsArgument law who ms) given (by_reference s.spot) fits.1 tt) call fits.2
-    location_fits (ask_empty u) fits s = (known, fits)
-    location_fits (activate_with formals args k) fits s = args_fit law who ms closed c known formals args fits.0 [] tt (to_process s.spot k) fits.1
-    location_fits (enter_with entry formals args k) fits s = args_fit law who ms closed c known formals args fits.0 [] tt (to_entry s.spot entry k) fits.1
-    location_fits (initial_to e k) fits s =
+    location_fits (ask_empty u) fits s there = (known, fits)
+    location_fits (activate_with formals args k) fits s there = args_fit law who ms closed c known formals args fits.0 [] tt (to_process s.spot k) fits.1
+    location_fits (enter_with entry formals args k) fits s there = args_fit law who ms closed c known formals args fits.0 [] tt (to_entry s.spot entry k) fits.1
+    location_fits (initial_to e k) fits s there =
         expr_fits law who ms closed c known e fits.0 (set_count s.spot k) (λ n. initials c s.spot (ordinal_of n) k) fits.1 (λ n given. (known, ordinal_fits n given, fits.1))
-    location_fits (wait_at k) fits s = (known, fits)
-    location_fits (signal_at k) fits s = (known, fits)
-    location_fits (delay_at rank k) fits s = delay_fits law who ms closed c known s.spot rank k fits.0 fits.1
-    location_fits (resume_at k) fits s = (known, fits)
-    location_fits (send_to e k) fits s = sent_fits law who ms closed c known s.spot e k fits.0 fits.1
-    location_fits (receive_from d k) fits s = received_fits law who ms closed c known s.spot d k fits.0 fits.1
-    location_fits (receive_into channel k) fits s = (known, (tt, tt, tt), fits)
-    location_fits (offer_to e a rest sel k) fits s =
+    location_fits (wait_at k) fits s there = (known, fits)
+    location_fits (signal_at k) fits s there = (known, fits)
+    location_fits (delay_at rank k) fits s there = delay_fits law who ms closed c known s.spot rank k fits.0 fits.1
+    location_fits (resume_at k) fits s there = (known, there, fits)
+    location_fits (send_to e k) fits s there = sent_fits law who ms closed c known s.spot e k fits.0 fits.1
+    location_fits (receive_from d k) fits s there = received_fits law who ms closed c known s.spot d k fits.0 fits.1
+    location_fits (receive_into channel k) fits s there = (known, (tt, tt, tt), fits)
+    location_fits (offer_to e a rest sel k) fits s there =
         message_fits law who ms closed c known a fits.1 rest fits.2 sel fits.3 k fits.4 (λ t. from_alternatives c rest t k)
         (λ t found. alternatives_fit law who ms closed c known rest fits.2 t found k fits.4) s.spot e fits.0
-    location_fits (offer_from d a rest sel k) fits s =
+    location_fits (offer_from d a rest sel k) fits s there =
         receiver_fits law who ms closed c known a fits.1 rest fits.2 sel fits.3 k fits.4 (λ t. from_alternatives c rest t k)
         (λ t found. alternatives_fit law who ms closed c known rest fits.2 t found k fits.4) s.spot d fits.0
-    location_fits (offer_into channel a rest sel k) fits s =
+    location_fits (offer_into channel a rest sel k) fits s there =
         alternatives_fit law who ms closed c known rest fits.1 (with_open a sel (to_receive channel (Some s.spot)))
         (open_fits law who ms closed a sel (to_receive channel (Some s.spot)) fits.0 fits.2 tt) k fits.3
 
@@ -112,10 +113,11 @@ module _ (law : Asked) (who : ℕ) (ms : List Mark) (closed : IsClosed law) wher
     value_fits (invert u) fits a given = value_fits u fits (ordinal (inverse_of (ordinal_of a))) (truth_fits (not (is_true (ordinal_of a))))
     value_fits (apply f t u) fits v given = call_fits law who ms closed c known f t u (from_value c u) v given fits (λ w held. value_fits u fits w held)
     value_fits (index_into s es ss goal) fits i given =
-        element_on law who ms closed c known (element_spot c.env.state.forms s (ordinal_of i))
-        (λ t. from_indices c t es ss goal (λ last. from_selectors c last ss goal (from_location c goal)))
-        (λ t. indices_fit law who ms closed c known es fits.0 ss fits.1 t goal (λ last. from_selectors c last ss goal (from_location c goal)) fits.2
-        (λ last. selectors_fit law who ms closed c known ss fits.1 last goal (from_location c goal) fits.2 (λ l. location_fits goal fits.2 l)))
+        element_on law who ms closed c known s (ordinal_of i)
+        (λ t. from_indices c t es ss goal (λ last. from_selectors c last ss goal (from_location c goal))) fits.0
+        (λ t there. indices_fit law who ms closed c known es fits.1 ss fits.2 t there goal (λ last. from_selectors c last ss goal (from_location c goal)) fits.3
+        (λ last still. selectors_fit law who ms closed c known ss fits.2 last still goal (from_location c goal) fits.3
+        (λ l end. location_fits goal fits.3 l end)))
     value_fits (pass_value formals rest given call) fits v passed =
         args_fit law who ms closed c known formals rest fits.0 (given ++ by_value v ∷ []) (all_push (FitsArgument law who ms) given (by_value v) fits.1 passed) call fits.2
     value_fits (store_at s k) fits v given = (known, given, fits)

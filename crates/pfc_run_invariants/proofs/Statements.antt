@@ -74,7 +74,7 @@ module _ (law : Asked) (who : ℕ) (ms : List Mark) (closed : IsClosed law) wher
     assign_fits : (d : DesigTree) (e : ExprTree) (k : Remainder) → FitsDesig d → FitsExpr e → FitsRemainder law who ms k → FitsAction law who ms (from_assign c d e k)
     assign_fits d e k target value left =
         desig_fits law who ms closed c known d target (assign_to e k) (λ s. from_expr c e (store_at s.spot k) (λ v. writes c s.spot v k)) (value, left)
-        (λ s. expr_fits law who ms closed c known e value (store_at s.spot k) (λ v. writes c s.spot v k) left (λ v given. (known, given, left)))
+        (λ s there. expr_fits law who ms closed c known e value (store_at s.spot k) (λ v. writes c s.spot v k) left (λ v given. (known, given, left)))
 
     piece_fits : (k : Remainder) (o : Result (List ℕ) RunFault) → FitsRemainder law who ms k → FitsAction law who ms (from_piece c k o)
     piece_fits k (Ok bytes) left = (known, left)
@@ -111,7 +111,7 @@ module _ (law : Asked) (who : ℕ) (ms : List Mark) (closed : IsClosed law) wher
     input_fits : (d : Option DesigTree) (k : Remainder) (go : Action) → FitsTarget d → FitsRemainder law who ms k → FitsAction law who ms go → FitsAction law who ms (from_input c d k go)
     input_fits None k go fits left on = on
     input_fits (Some d) k go fits left on =
-        let t = desig_type c.env d in desig_fits law who ms closed c known d fits (input_to t k) (λ s. inputs c t s.spot k) left (λ s. (known, left))
+        let t = desig_type c.env d in desig_fits law who ms closed c known d fits (input_to t k) (λ s. inputs c t s.spot k) left (λ s there. (known, left))
 
     pub reads_fit :
         (args : ActualTrees) (skip : Bool) (k : Remainder) (go : Action) → FitActuals args → FitsRemainder law who ms k → FitsAction law who ms go
@@ -129,7 +129,7 @@ module _ (law : Asked) (who : ℕ) (ms : List Mark) (closed : IsClosed law) wher
     initial_fits args k None go fits left count on = on
     initial_fits args k (Some e) go fits left count on =
         reference_fits law who ms closed c known args fits (initial_to e k) (λ s. from_expr c e (set_count s.spot k) (λ n. initials c s.spot (ordinal_of n) k)) (count, left)
-        (λ s. expr_fits law who ms closed c known e count (set_count s.spot k) (λ n. initials c s.spot (ordinal_of n) k) left (λ n given. (known, ordinal_fits n given, left)))
+        (λ s there. expr_fits law who ms closed c known e count (set_count s.spot k) (λ n. initials c s.spot (ordinal_of n) k) left (λ n given. (known, ordinal_fits n given, left)))
 
     pub delay_fits : (s : Spot) (e : Option ExprTree) (k : Remainder) → FitsPerhaps e → FitsRemainder law who ms k → FitsAction law who ms (from_delay c s e k)
     delay_fits s None k fits left = (known, refl, left)
@@ -143,13 +143,13 @@ module _ (law : Asked) (who : ℕ) (ms : List Mark) (closed : IsClosed law) wher
     procedure_fits (writer newline) args k go fits left on = writes_fit args newline k go fits left on
     procedure_fits initial args k go fits left on =
         initial_fits args k (expr_of (behind_first args)) go fits left (first_fits (behind_first args) (others_fit args fits)) on
-    procedure_fits wait args k go fits left on = reference_fits law who ms closed c known args fits (wait_at k) (λ s. waits c s.spot k) left (λ s. (known, left))
-    procedure_fits signal args k go fits left on = reference_fits law who ms closed c known args fits (signal_at k) (λ s. signals c s.spot k) left (λ s. (known, left))
+    procedure_fits wait args k go fits left on = reference_fits law who ms closed c known args fits (wait_at k) (λ s. waits c s.spot k) left (λ s there. (known, left))
+    procedure_fits signal args k go fits left on = reference_fits law who ms closed c known args fits (signal_at k) (λ s. signals c s.spot k) left (λ s there. (known, left))
     procedure_fits delay args k go fits left on =
         let rank = expr_of (behind_first args) in
         let given = first_fits (behind_first args) (others_fit args fits) in
-        reference_fits law who ms closed c known args fits (delay_at rank k) (λ s. from_delay c s.spot rank k) (given, left) (λ s. delay_fits s.spot rank k given left)
-    procedure_fits resume args k go fits left on = reference_fits law who ms closed c known args fits (resume_at k) (λ s. resumes c s.spot k) left (λ s. (known, left))
+        reference_fits law who ms closed c known args fits (delay_at rank k) (λ s. from_delay c s.spot rank k) (given, left) (λ s there. delay_fits s.spot rank k given left)
+    procedure_fits resume args k go fits left on = reference_fits law who ms closed c known args fits (resume_at k) (λ s. resumes c s.spot k) left (λ s there. (known, there, left))
     procedure_fits sleep args k go fits left on =
         argument_fits law who ms closed c known args fits (sleep_for k) (λ n. sleeps c (ordinal_of n) k) left (λ n given. (known, left))
     procedure_fits no_procedure args k go fits left on = on
@@ -157,40 +157,40 @@ module _ (law : Asked) (who : ℕ) (ms : List Mark) (closed : IsClosed law) wher
     -- ## Calls
 
     activation_fits :
-        (s : TypedSpot) (ss : SelectorTrees) (formals : List Formal) (args : ActualTrees) (k : Remainder) → FitSelectors ss → FitActuals args
+        (s : TypedSpot) (ss : SelectorTrees) (formals : List Formal) (args : ActualTrees) (k : Remainder) → FitSelectors ss × law.spot who ms s.spot.scope → FitActuals args
         → FitsRemainder law who ms k → FitsAction law who ms (from_activation c s ss formals args k)
     activation_fits s ss formals args k reached fits left =
-        selectors_fit law who ms closed c known ss reached s (activate_with formals args k) (λ p. from_args c formals args [] (to_process p.spot k)) (fits, left)
-        (λ p. args_fit law who ms closed c known formals args fits [] tt (to_process p.spot k) left)
+        selectors_fit law who ms closed c known ss reached.0 s reached.1 (activate_with formals args k) (λ p. from_args c formals args [] (to_process p.spot k)) (fits, left)
+        (λ p there. args_fit law who ms closed c known formals args fits [] tt (to_process p.spot k) left)
 
     entry_call_fits :
-        (s : TypedSpot) (ss : SelectorTrees) (entry : ℕ) (formals : List Formal) (args : ActualTrees) (k : Remainder) → FitSelectors ss → FitActuals args
+        (s : TypedSpot) (ss : SelectorTrees) (entry : ℕ) (formals : List Formal) (args : ActualTrees) (k : Remainder) → FitSelectors ss × law.spot who ms s.spot.scope → FitActuals args
         → FitsRemainder law who ms k → FitsAction law who ms (from_entry_call c s ss entry formals args k)
     entry_call_fits s ss entry formals args k reached fits left =
-        selectors_fit law who ms closed c known ss reached s (enter_with entry formals args k) (λ p. from_args c formals args [] (to_entry p.spot entry k)) (fits, left)
-        (λ p. args_fit law who ms closed c known formals args fits [] tt (to_entry p.spot entry k) left)
+        selectors_fit law who ms closed c known ss reached.0 s reached.1 (enter_with entry formals args k) (λ p. from_args c formals args [] (to_entry p.spot entry k)) (fits, left)
+        (λ p there. args_fit law who ms closed c known formals args fits [] tt (to_entry p.spot entry k) left)
 
     module _ (args : ActualTrees) (fits : FitActuals args) (k : Remainder) (left : FitsRemainder law who ms k) (go : Action) (on : FitsAction law who ms go) where
-      entry_fits : (n : ℕ) (s : TypedSpot) (ss : SelectorTrees) (m : Option Meaning) → FitSelectors ss → FitsAction law who ms (from_entry c n s ss m args k go)
+      entry_fits : (n : ℕ) (s : TypedSpot) (ss : SelectorTrees) (m : Option Meaning) → FitSelectors ss × law.spot who ms s.spot.scope → FitsAction law who ms (from_entry c n s ss m args k go)
       entry_fits n s ss (Some (Entry entry)) reached = entry_call_fits s ss entry (entry_at c.env.state.blocks n entry) args k reached fits left
       entry_fits n s ss m reached = on
 
-      process_fits : (s : TypedSpot) (ss : SelectorTrees) (n : Option ℕ) → FitSelectors ss → FitsAction law who ms (from_process c s ss n args k go)
+      process_fits : (s : TypedSpot) (ss : SelectorTrees) (n : Option ℕ) → FitSelectors ss × law.spot who ms s.spot.scope → FitsAction law who ms (from_process c s ss n args k go)
       process_fits s ss None reached = on
       process_fits s ss (Some n) reached = activation_fits s ss (process_at c.env.state.blocks n).formals args k reached fits left
 
-      field_fits : (s : TypedSpot) (ss : SelectorTrees) (n : Option ℕ) (x : Text) → FitSelectors ss → FitsAction law who ms (from_field c s ss n x args k go)
+      field_fits : (s : TypedSpot) (ss : SelectorTrees) (n : Option ℕ) (x : Text) → FitSelectors ss × law.spot who ms s.spot.scope → FitsAction law who ms (from_field c s ss n x args k go)
       field_fits s ss None x reached = process_fits s ss (process_of_type c.env (selected c.env s.t ss)) reached
-      field_fits s ss (Some n) x reached = entry_fits n s (before_last ss) (name_in_process c.env.state.blocks n x) (before_fits ss reached)
+      field_fits s ss (Some n) x reached = entry_fits n s (before_last ss) (name_in_process c.env.state.blocks n x) (before_fits ss reached.0, reached.1)
 
       variable_call_fits :
-          (s : TypedSpot) (ss : SelectorTrees) (x : Option (Text × Place)) → FitSelectors ss → FitsAction law who ms (from_called_variable c s ss x args k go)
+          (s : TypedSpot) (ss : SelectorTrees) (x : Option (Text × Place)) → FitSelectors ss × law.spot who ms s.spot.scope → FitsAction law who ms (from_called_variable c s ss x args k go)
       variable_call_fits s ss None reached = process_fits s ss (process_of_type c.env (selected c.env s.t ss)) reached
       variable_call_fits s ss (Some x) reached = field_fits s ss (process_of_type c.env (selected c.env s.t (before_last ss))) x.0 reached
 
-      single_fits : (n : ℕ) (s : TypedSpot) (x : Option (Text × Place)) → FitsAction law who ms (from_called_process c n s x args k go)
-      single_fits n s None = activation_fits s no_selectors (process_at c.env.state.blocks n).formals args k tt fits left
-      single_fits n s (Some x) = entry_fits n s no_selectors (name_in_process c.env.state.blocks n x.0) tt
+      single_fits : (n : ℕ) (s : TypedSpot) (x : Option (Text × Place)) → law.spot who ms s.spot.scope → FitsAction law who ms (from_called_process c n s x args k go)
+      single_fits n s None there = activation_fits s no_selectors (process_at c.env.state.blocks n).formals args k (tt, there) fits left
+      single_fits n s (Some x) there = entry_fits n s no_selectors (name_in_process c.env.state.blocks n x.0) (tt, there)
 
       exported_fits : (x y : Text) (n : ℕ) → meaning_of (find c.env x) ≡ Some (Module n) → (m : Option Meaning)
           → meaning_in (scope_at c.env.state.blocks.scopes (module_at c.env.state.blocks n).scope) y ≡ m → FitsAction law who ms (from_exported c n m args k go)
@@ -202,17 +202,18 @@ module _ (law : Asked) (who : ℕ) (ms : List Mark) (closed : IsClosed law) wher
       module_fits z n None is = on
       module_fits z n (Some x) is = let b = c.env.state.blocks in exported_fits z x.0 n is (meaning_in (scope_at b.scopes (module_at b n).scope) x.0) refl
 
-      called_fits : (x : Text) (m : Option Meaning) → meaning_of (find c.env x) ≡ m → (s : TypedSpot) (ss : SelectorTrees) → FitSelectors ss → FitsAction law who ms (from_called c m s ss args k go)
+      called_fits : (x : Text) (m : Option Meaning) → meaning_of (find c.env x) ≡ m → (s : TypedSpot) (ss : SelectorTrees) → FitSelectors ss × law.spot who ms s.spot.scope → FitsAction law who ms (from_called c m s ss args k go)
       called_fits x (Some (Predeclared n)) is s ss reached = procedure_fits (procedure_of n) args k go fits left on
       called_fits x (Some (Sub n)) is s ss reached =
           let head : SubHead = sub_at c.env.state.blocks n in args_fit law who ms closed c known head.formals args fits [] tt (to_procedure head.scope k) (closed.calls who ms c.env x n known is, left)
       called_fits x (Some (Module n)) is s ss reached = module_fits x n (last_field ss) is
-      called_fits x (Some (Process n)) is s ss reached = single_fits n s (last_field ss)
+      called_fits x (Some (Process n)) is s ss reached = single_fits n s (last_field ss) reached.1
       called_fits x (Some (Variable t reference)) is s ss reached = variable_call_fits s ss (last_field ss) reached
       called_fits x m is s ss reached = on
 
       call_fits : (d : DesigTree) → FitsDesig d → FitsAction law who ms (from_call c d args k go)
-      call_fits (desig x ss p) reached = let found = find c.env x in called_fits x (meaning_of found) refl (spot_of c.env found) ss reached
+      call_fits (desig x ss p) reached =
+          let found = find c.env x in called_fits x (meaning_of found) refl (spot_of c.env found) ss (reached, closed.spots who ms c.env x known)
 
       requeue_fits : (x : Text) (m : Option Meaning) → meaning_of (find c.env x) ≡ m → FitsAction law who ms (from_requeue c m args go)
       requeue_fits x (Some (Sub n)) is =
@@ -230,19 +231,19 @@ module _ (law : Asked) (who : ℕ) (ms : List Mark) (closed : IsClosed law) wher
     send_fits d e k reached fits left =
         let message = perhaps_unless (names_any c.env (as_desig e)) e fits in
         desig_fits law who ms closed c known d reached (send_to (message_of c e) k) (λ channel. from_sent c channel.spot (message_of c e) k) (message, left)
-        (λ channel. sent_fits channel.spot (message_of c e) k message left)
+        (λ channel there. sent_fits channel.spot (message_of c e) k message left)
 
     pub received_fits : (channel : Spot) (d : Option DesigTree) (k : Remainder) → FitsTarget d → FitsRemainder law who ms k → FitsAction law who ms (from_received c channel d k)
     received_fits channel None k fits left = (known, (tt, tt, tt), left)
     received_fits channel (Some d) k fits left =
         desig_fits law who ms closed c known d fits (receive_into channel k) (λ v. meets c (plain_open (to_receive channel (Some v.spot))) k) left
-        (λ v. (known, (tt, tt, tt), left))
+        (λ v there. (known, (tt, tt, tt), left))
 
     receive_fits : (d v : DesigTree) (k : Remainder) → FitsDesig d → FitsDesig v → FitsRemainder law who ms k → FitsAction law who ms (from_receive c d v k)
     receive_fits d v k reached fits left =
         let target = target_unless (names_any c.env (Some v)) v fits in
         desig_fits law who ms closed c known d reached (receive_from (receiver_of c v) k) (λ channel. from_received c channel.spot (receiver_of c v) k) (target, left)
-        (λ channel. received_fits channel.spot (receiver_of c v) k target left)
+        (λ channel there. received_fits channel.spot (receiver_of c v) k target left)
 
     -- ## Loops
 

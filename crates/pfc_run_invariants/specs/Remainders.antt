@@ -98,7 +98,7 @@ module _ (r : Asked) (p : ℕ) (ms : List Mark) where
     FitsAwaiting (compare_to n r u) = FitsAwaiting u
     FitsAwaiting (invert u) = FitsAwaiting u
     FitsAwaiting (apply f t u) = FitsAwaiting u
-    FitsAwaiting (index_into s es ss goal) = FitExprs es × FitSelectors ss × FitsGoal goal
+    FitsAwaiting (index_into s es ss goal) = r.spot p ms s.spot.scope × FitExprs es × FitSelectors ss × FitsGoal goal
     FitsAwaiting (pass_value formals rest given call) = FitActuals rest × FitArguments given × FitsCall call
     FitsAwaiting (store_at s k) = FitsRemainder k
     FitsAwaiting (choose n s t k) = FitsStmt r.accept n s × FitsStmt r.accept (n + scopes_in s) t × FitsRemainder k
@@ -169,7 +169,7 @@ module _ (r : Asked) (p : ℕ) (ms : List Mark) where
   FitsAction (waits x s k) = FitsEnv x.env × FitsRemainder k
   FitsAction (signals x s k) = FitsEnv x.env × FitsRemainder k
   FitsAction (delays x s n k) = FitsEnv x.env × Fits n × FitsRemainder k
-  FitsAction (resumes x s k) = FitsEnv x.env × FitsRemainder k
+  FitsAction (resumes x s k) = FitsEnv x.env × r.spot p ms s.scope × FitsRemainder k
   FitsAction (sleeps x n k) = FitsEnv x.env × FitsRemainder k
   FitsAction (meets x o k) = FitsEnv x.env × FitsOpen o × FitsRemainder k
   FitsAction (decides x s k) = FitsEnv x.env × FitsSelecting s × FitsRemainder k

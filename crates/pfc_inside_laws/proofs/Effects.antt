@@ -1,7 +1,6 @@
 -- Behind every action all numbers have 32 bits.
 use Rattle.std.proofs.Common.{subst, ◌∙◌, ap, sym, refl, ◌≢◌, ◌≡◌, ℕ, ℤ, pos, negsuc, zero, suc, ◌+◌, Bool, true, false, nat_le, if◌then◌else◌, List, [], ◌∷◌, ◌++◌, Option, Some, None, Result, Ok, Err}
 use Rattle.std.specs.Prelude.{◌*◌, ◌/◌, ◌==◌}
-use Rattle.std.specs.List.{AllByRecursion}
 use Rattle.rand_pcg.specs.Lcg.{Lcg}
 use Rattle.pfc_base.specs.declared.faults.RunFault.{RunFault}
 use Rattle.pfc_base.specs.declared.faults.RunFault.TheVariants.{Active, NotActive, Late, Count as TooLarge}
@@ -45,7 +44,7 @@ use Rattle.pfc_run_invariants.specs.Remainders.{FitsEnv, FitArguments, FitsBar, 
 use Rattle.pfc_inside_laws.specs.Configurations.{FitsGuard, FitsBlock, FitsProgram, FitsCaller, FitActivations, marks_of, FitsHand, FitsConfig}
 use Rattle.pfc_run_invariants.proofs.Numbers.{FitsItem, fitting_fits, truth_fits, item_fits, drawn_fits}
 use Rattle.pfc_run_invariants.proofs.Stores.{variable_fits, without_fits, without_all_fits, new_values_fit}
-use Rattle.pfc_inside_laws.proofs.Steps.{FitsEffect, effect_either, tabled, with_counts, with_monitor_holders, with_resource_holders, body_fits, guarded_fits, block_fits, activity_fits, with_activity_fits, on_it_goes, it_holds, it_shows, found_value, it_writes, all_pass, full_fits, activated_fits, left_fits, marks_at, Lives, same_marks, apart_marks}
+use Rattle.pfc_inside_laws.proofs.Steps.{FitsEffect, effect_either, tabled, with_counts, with_monitor_holders, with_resource_holders, body_fits, guarded_fits, block_fits, activity_fits, with_activity_fits, on_it_goes, it_holds, it_shows, found_value, it_writes, all_pass, full_fits, activated_fits, left_fits, marks_at, same_marks, apart_marks}
 use Rattle.pfc_inside_laws.proofs.Communications.{FitsPartner, partner_fits, called_at_fits, meets_fits, decides_fits}
 use Rattle.pfc_run_invariants.specs.Inputs.{AreBytes}
 use Rattle.pfc_run_invariants.specs.Asked.{Asked, module_mark, IsClosed}

@@ -1,11 +1,11 @@
 -- What is asked of names in view, so that who performs the text of a monitor is inside it, is so wherever runs lead.
-use Rattle.std.proofs.Common.{◌≡◌, ◌≢◌, ℕ, zero, suc, ◌==◌, ◌||◌, Bool, true, false, if◌then◌else◌, List, [], ◌∷◌, map, Option, Some, None, refl, sym, ap, ◌∙◌, subst, arith}
+use Rattle.std.proofs.Common.{◌≡◌, ◌≢◌, ℕ, suc, ◌==◌, ◌||◌, Bool, true, false, if◌then◌else◌, List, [], ◌∷◌, Option, Some, None, refl, sym, ap, ◌∙◌, subst, arith}
 use Rattle.std.specs.Prelude.{nat_lt, option_map}
 use Rattle.std.specs.Option.{option_or}
 use Rattle.std.specs.List.{AllByRecursion, list_any, slice_get}
 use Rattle.std.proofs.lemmas.Bool.Decides.{nat_tests}
 use Rattle.pfc_tree.specs.Symbols.{Text}
-use Rattle.pfc_types.specs.Scopes.{Names, Level, within, found_at, predeclared, predeclared_names, meaning_in, position_in, scope_at, found_in, meaning_of}
+use Rattle.pfc_types.specs.Scopes.{Names, Level, within, found_at, predeclared_names, meaning_in, position_in, scope_at, found_in}
 use Rattle.pfc_types.specs.Blocks.{Blocks, State, sub_at}
 use Rattle.pfc_types.specs.declared.scope.Meaning.{Meaning}
 use Rattle.pfc_types.specs.declared.scope.Meaning.TheVariants.{Variable, Process, Sub}
@@ -16,15 +16,15 @@ use Rattle.pfc_semantics.specs.Expressions.{named_spot, found_spot, spot_of}
 use Rattle.pfc_semantics.specs.Programs.{Guard, Block, Program, found_block, block_at}
 use Rattle.pfc_semantics.specs.Remainders.{Action, resumes, Context, Remainder}
 use Rattle.pfc_semantics.specs.Displays.{Spot}
-use Rattle.pfc_semantics.specs.Configurations.{Mark, plain, Activation, Config, declared_block, activity_of}
+use Rattle.pfc_semantics.specs.Configurations.{Mark, plain, Activation, Config, activity_of}
 use Rattle.pfc_semantics.specs.Monitors.{is_in, is_inside}
 use Rattle.pfc_semantics.specs.Steps.{next_of}
 use Rattle.pfc_run_invariants.specs.Asked.{IsClosed}
 use Rattle.pfc_run_invariants.specs.Fitting.{FitNames}
 use Rattle.pfc_run_invariants.specs.Remainders.{FitsAction}
 use Rattle.pfc_run_invariants.specs.Written.{FitStmts}
-use Rattle.pfc_inside_laws.specs.Configurations.{FitsGuard, FitsBlock, FitsProgram, marks_of, FitsConfig}
-use Rattle.pfc_inside_laws.specs.Inside.{IsMonitor, IsSeen, IsNoMonitor, IsOf, of_main, of_module, of_block, of_guard, in_accept, IsScoped, IsWithin, inside_of, FitsTest, FitsText, HasText, AreInside, IsAlive}
+use Rattle.pfc_inside_laws.specs.Configurations.{FitsGuard, FitsBlock, FitsProgram, marks_of}
+use Rattle.pfc_inside_laws.specs.Inside.{IsMonitor, IsNoMonitor, IsOf, of_main, of_module, of_block, of_guard, in_accept, IsScoped, IsWithin, inside_of, FitsTest, HasText, AreInside, IsAlive}
 use Rattle.pfc_inside_laws.proofs.Runs.{next_of_fits}
 
 -- ## Names that are found

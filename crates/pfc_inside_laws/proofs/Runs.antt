@@ -1,5 +1,5 @@
 -- Wherever a run comes, it is so.
-use Rattle.std.proofs.Common.{◌≡◌, ◌≢◌, ℕ, ◌+◌, Bool, true, false, if◌then◌else◌, List, [], ◌∷◌, map, Option, Some, None, Ok, Err, refl}
+use Rattle.std.proofs.Common.{◌≡◌, ℕ, ◌+◌, Bool, true, false, if◌then◌else◌, List, [], ◌∷◌, map, Some, Ok, Err, refl}
 use Rattle.std.specs.Prelude.{◌==◌, ◌&&◌}
 use Rattle.std.specs.List.{AllByRecursion}
 use Rattle.pfc_state.specs.Stands.{Stand, Is_ready, may_end}
@@ -23,7 +23,7 @@ use Rattle.pfc_run_invariants.specs.Remainders.{FitsRemainder, FitsAction}
 use Rattle.pfc_run_invariants.proofs.Statements.{behind_fits}
 use Rattle.pfc_run_invariants.proofs.Rewriting.{next_fits}
 use Rattle.pfc_run_invariants.proofs.Stores.{without_all_fits}
-use Rattle.pfc_inside_laws.specs.Configurations.{FitsBlock, FitsProgram, marks_of, FitsActivity, FitFrom, FitsConfig}
+use Rattle.pfc_inside_laws.specs.Configurations.{FitsBlock, FitsProgram, FitsActivity, FitFrom, FitsConfig}
 use Rattle.pfc_inside_laws.proofs.Steps.{FitsEffect, tabled, body_fits, marks_at, Lives, activity_fits, with_activity_fits}
 use Rattle.pfc_inside_laws.proofs.Effects.{effect_fits}
 

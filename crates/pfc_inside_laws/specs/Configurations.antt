@@ -2,7 +2,7 @@
 use Rattle.std.specs.Prelude.{◌≢◌, ℕ, ◌+◌, List, [], ◌∷◌, map, Option, Some, None}
 use Rattle.std.specs.List.{AllByRecursion}
 use Rattle.pfc_semantics.specs.Programs.{Guard, Block}
-use Rattle.pfc_semantics.specs.Configurations.{Mark, plain, Caller, of_nobody, of_remainder, of_value, Activation, Hand, empty_hand, offering, asking, barred_at, Activity, Config}
+use Rattle.pfc_semantics.specs.Configurations.{Mark, Caller, of_nobody, of_remainder, of_value, Activation, Hand, empty_hand, offering, asking, barred_at, Activity, Config}
 use Rattle.pfc_run_invariants.specs.Asked.{Asked}
 use Rattle.pfc_run_invariants.specs.Fitting.{FitList, FitsStore}
 use Rattle.pfc_run_invariants.specs.Inputs.{AreBytes}

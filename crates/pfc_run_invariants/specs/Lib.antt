@@ -1,0 +1,5 @@
+pub mod Fitting
+pub mod Written
+pub mod Asked
+pub mod Remainders
+pub mod Inputs

@@ -76,9 +76,10 @@ module _ (g : Program) (program : SuitsProgram g) (scanned : List Activation →
       (scope : ℕ) (m : Mark) → MayRequeue g m scope → (own : List Activation)
       → (let b = block_at g scope in let r = resource_marked m in
       SuitsRemainder g m (scanned own) b.env (scan_on (scan_of g r (way_to g r b b.guard)) (in_names b.env (body_of b))))
-  requeue_left scope (of_resource r) may own =
-      (by (block_at g scope).guard refl may.1,
-       λ (i : Env). body_suits g program (of_resource r) (scanned own) (block_at g scope) (entered_suits g program scope r may.0))
+  requeue_left scope (of_resource r) may own = (
+    by (block_at g scope).guard refl may.1,
+    λ (i : Env). body_suits g program (of_resource r) (scanned own) (block_at g scope) (entered_suits g program scope r may.0),
+  )
     where
       by : (o : Option Guard) → (block_at g scope).guard ≡ o → is_some o ≡ true
           → SuitsScan g (scanned own) (scan_of g r (way_to g r (block_at g scope) o))
@@ -148,10 +149,11 @@ module _ (g : Program) (program : SuitsProgram g) (scanned : List Activation →
         let values = new_values g b (all_passed g c p args) in
         let new : Activation = record a { number = new_number c; scope = b.scope; cells = cells_above below b } in
         let here : MayRequeue g a.mark scope = subst (λ (l : List Activation). MayRequeue g (mark_in l) scope) stands may in
-        full_suits g scanned p (cells_above below b) (requeued_in g c p b args a below)
-        (instead owns p (new ∷ below),
-         instead_suits g scanned owns (record c { store = with_room (without c.store a.number) (new_number c) values }) p (new ∷ below) _ suits
-         (record { stands = refl; doing = requeue_left scope a.mark here (new ∷ below); activations = all; hand = tt }))
+        full_suits g scanned p (cells_above below b) (requeued_in g c p b args a below) (
+          instead owns p (new ∷ below),
+          instead_suits g scanned owns (record c { store = with_room (without c.store a.number) (new_number c) values }) p (new ∷ below) _ suits
+              (record { stands = refl; doing = requeue_left scope a.mark here (new ∷ below); activations = all; hand = tt }),
+        )
 
     creates_suits :
         (x : Context) (s : Spot) (args : List Argument) (k : Remainder) → Left x.env k → SuitsEffect g scanned (creates g c p x s args k)
@@ -186,10 +188,11 @@ module _ (g : Program) (program : SuitsProgram g) (scanned : List Activation →
         by true e = tt
         by false e =
             let apart = apart_from c.table.rows p n ready e in
-            full_suits g scanned n (cells_above [] b) (goes_on g new p x k)
-            (instead owns n own,
-             on_it_goes g scanned (instead owns n own) new p x k new_suits
-             (subst (λ (l : List Activation). SuitsRemainder g (mark_in l) (scanned l) x.env k) (sym (other_instead owns n own p apart)) left))
+            full_suits g scanned n (cells_above [] b) (goes_on g new p x k) (
+              instead owns n own,
+              on_it_goes g scanned (instead owns n own) new p x k new_suits
+                  (subst (λ (l : List Activation). SuitsRemainder g (mark_in l) (scanned l) x.env k) (sym (other_instead owns n own p apart)) left),
+            )
 
     enters_suit :
         (x : Context) (s : Spot) (entry : ℕ) (args : List Argument) (k : Remainder) → Left x.env k → SuitsEffect g scanned (enters g c p x s entry args k)
@@ -222,10 +225,11 @@ module _ (g : Program) (program : SuitsProgram g) (scanned : List Activation →
 
     ended_suits : SuitsEffect g scanned (Ok (ended_process g c p))
     ended_suits =
-        let a : Activity = activity_of g c p in
-        (owns,
-         with_activity_suits g scanned owns (record c { store = without_all c.store a.activations; table = finished c.table p }) p (ended_activity a) suits
-         (record { stands = tt; doing = (suits p).doing; activations = tt; hand = tt }))
+        let a : Activity = activity_of g c p in (
+          owns,
+          with_activity_suits g scanned owns (record c { store = without_all c.store a.activations; table = finished c.table p }) p (ended_activity a) suits
+              (record { stands = tt; doing = (suits p).doing; activations = tt; hand = tt }),
+        )
 
     module _ (a : Activation) (below : List Activation) (innermost : (activity_of g c p).activations ≡ a ∷ below)
         (others : SuitActivations g scanned below) (own : List Activation) (stands : StandsOn own below) where

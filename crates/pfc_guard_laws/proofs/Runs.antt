@@ -50,10 +50,11 @@ module _ (g : Program) (scanned : List Activation → Scan → Type 0) where
   -- ## Steps
 
   done_suits : (c : Config) (p line : ℕ) → SuitsEffect g scanned (Ok c) → SuitsEffect g scanned (Ok (done_at g c p line))
-  done_suits c p line so =
-      (so.0,
-       with_activity_suits g scanned so.0 (record c { table = ticked c.table }) p _ so.1
-       (record { stands = (so.1 p).stands; doing = (so.1 p).doing; activations = (so.1 p).activations; hand = (so.1 p).hand }))
+  done_suits c p line so = (
+    so.0,
+    with_activity_suits g scanned so.0 (record c { table = ticked c.table }) p _ so.1
+        (record { stands = (so.1 p).stands; doing = (so.1 p).doing; activations = (so.1 p).activations; hand = (so.1 p).hand }),
+  )
 
   pub after_suits :
       (c : Config) (p line : ℕ) (e : Effect) → SuitsEffect g scanned (Ok c) → SuitsEffect g scanned e → SuitsEffect g scanned (Ok (after g c p line e))

@@ -68,7 +68,6 @@ line_fits true [] all = tt
 line_fits false [] all = tt
 line_fits whole (b ∷ rest) all = line_bytes (b ∷ rest) all
 
-
 module _ (law : Asked) (closed : IsClosed law) (program : FitsProgram law) (c : Config) (fits : FitsConfig law c) (p : ℕ)
     (ready : at c.table.rows p ≡ Is_ready) where
   abbrev g : Program

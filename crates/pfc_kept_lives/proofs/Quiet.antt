@@ -70,7 +70,7 @@ pub ◌&◌ : {c d : Code} → IsQuiet c → IsQuiet d → IsQuiet (c ⨾ d)
 ◌&◌ {c} {d} p q =
     record {
       each = λ at n. each_append (λ j i. IsOther i) at (c.put at n) (d.put (at + c.size) (n + length c.texts)) (p.each at n)
-          (moved (at + c.size) (at + length (c.put at n)) (instructions (d.put (at + c.size) (n + length c.texts))) (q.each (at + c.size) (n + length c.texts)))
+          (moved (at + c.size) (at + length (c.put at n)) (instructions (d.put (at + c.size) (n + length c.texts))) (q.each (at + c.size) (n + length c.texts)));
     }
   where
     moved : (at to : ℕ) (code : List Instr) → Each (λ j i. IsOther i) at code → Each (λ j i. IsOther i) to code

@@ -1,4 +1,4 @@
--- The body of a guarded procedure has its guard, and sees its own names, those of its resource and the program's alone.
+-- The body of a guarded procedure has its guard and no accepts, and sees its own names, those of its resource and the program's alone.
 use Rattle.std.proofs.Common.{◌≡◌, ℕ, ◌+◌, ◌==◌, ◌||◌, ◌⊎◌, inl, inr, Bool, true, false, is_some, List, [], ◌∷◌, ◌++◌, take, drop, None, refl, sym, subst}
 use Rattle.pfc_tree.specs.trees.Stmts.{BodyTree, body}
 use Rattle.pfc_tree.specs.trees.Parts.{KindTree, PartTree, PartTrees, SubTree, ModuleTree, ProcessTree, procedure, function, guarded, consts, types, vars, sub_part, monitor, resource, process_part, no_parts, more_parts, sub, the_module, process}
@@ -19,7 +19,7 @@ use Rattle.pfc_nesting_laws.proofs.Numbered.{Every, every_append}
 abbrev pub IsOfItsModule : Block → Type 0
 IsOfItsModule b =
     b.env.around.guarded ≡ true
-    → (is_some b.guard ≡ true) × ((j : ℕ) → sees b.env.view j ≡ true → (j ≡ b.scope) ⊎ ((j ≡ b.outer) ⊎ (j ≡ 0)))
+    → (is_some b.guard ≡ true) × (b.accepts ≡ 0) × ((j : ℕ) → sees b.env.view j ≡ true → (j ≡ b.scope) ⊎ ((j ≡ b.outer) ⊎ (j ≡ 0)))
 
 -- around a module stands the program
 abbrev Inner : Home → List Level → Type 0
@@ -44,7 +44,7 @@ kind_so h s scope i l around outer inside inner next (body ss from to) layout pr
 kind_so h s scope i l around outer inside inner next (body ss from to) layout (function x p) own there lawful all e =
     absurd (let both : false ≡ true = e in cc)
 kind_so h s scope i l around outer inside inner next (body ss from to) layout (guarded w p) own there lawful all e =
-    (refl, λ j seen. subst (λ (k : ℕ). (j ≡ k) ⊎ ((j ≡ i) ⊎ (j ≡ 0))) own (subst (λ (k : ℕ). (j ≡ l.scope) ⊎ ((j ≡ k) ⊎ (j ≡ 0))) there
+    (refl, refl, λ j seen. subst (λ (k : ℕ). (j ≡ k) ⊎ ((j ≡ i) ⊎ (j ≡ 0))) own (subst (λ (k : ℕ). (j ≡ l.scope) ⊎ ((j ≡ k) ⊎ (j ≡ 0))) there
     (in_view l.scope around.scope j outer (all lawful.0) seen)))
 
 process_so : (scope i : ℕ) (s : State) (view : List Level) (next : ℕ) (b : BodyTree) (layout : Layout) (accepts : ℕ)

@@ -115,7 +115,7 @@ module _ (t : ProgramTree) (lawful : IsLawful (forget_program t)) (clean : broke
   -- ## Where it stands
 
   module _ (k : ℕ) (b : Block) (at : slice_get g.blocks k ≡ Some b) (inside : b.env.around.guarded ≡ true) where
-    its_module : (is_some b.guard ≡ true) × ((j : ℕ) → sees b.env.view j ≡ true → (j ≡ b.scope) ⊎ ((j ≡ b.outer) ⊎ (j ≡ 0)))
+    its_module : (is_some b.guard ≡ true) × (b.accepts ≡ 0) × ((j : ℕ) → sees b.env.view j ≡ true → (j ≡ b.scope) ⊎ ((j ≡ b.outer) ⊎ (j ≡ 0)))
     its_module = every_at IsOfItsModule g.blocks k b (program_so (finished t) 0 1 t.parts lawful.0) at inside
 
     -- it is that of a guarded procedure
@@ -151,7 +151,7 @@ module _ (t : ProgramTree) (lawful : IsLawful (forget_program t)) (clean : broke
     its_outer j callee n at_callee module near =
         elim (or_cases (list_any (λ (level : Level). level.scope == callee.outer) b.env.view) (is_accept b callee.outer) near) [
         | inl e ↦
-            elim (its_module.1 callee.outer (any_sees b.env.view callee.outer e)) [
+            elim (its_module.2 callee.outer (any_sees b.env.view callee.outer e)) [
               | inl own ↦
                   absurd (let both : true ≡ false = sym (mains_of t lawful clean callee.outer n module) ∙ ap (λ (i : ℕ). is_mains bs i) own
                   ∙ own_not_mains t lawful k b at in cc)
@@ -184,6 +184,7 @@ module _ (t : ProgramTree) (lawful : IsLawful (forget_program t)) (clean : broke
             there = at;
             own = own;
             guarded = guarded;
+            alone = (its_module k b at inside).1;
             head = head.0;
             headed = head.1;
             sort = head.2;

@@ -102,12 +102,13 @@ pub record IsGuardedBlock (t : ProgramTree) (b : Block) : Type 0 where
   pub of_module : IsOfModule t n b
   pub resource : (module_at (program_of t).state.blocks n).resource ≡ true
 
--- A requeue leads from the body of a guarded procedure to another of the same resource.
+-- A requeue leads from the body of a guarded procedure, in which no accept stands, to another of the same resource.
 pub record IsRequeuedFrom (t : ProgramTree) (b callee : Block) : Type 0 where
   pub k : ℕ
   pub there : slice_get (program_of t).blocks k ≡ Some b
   pub own : Guard
   pub guarded : b.guard ≡ Some own
+  pub alone : b.accepts ≡ 0
   pub head : SubHead
   pub headed : sub_with (program_of t).state.blocks.subs b.scope ≡ Some head
   pub sort : head.sort ≡ Guarded

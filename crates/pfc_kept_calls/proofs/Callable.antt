@@ -137,7 +137,7 @@ module _ (facts : Facts) (m : Machine) (c : Config) (p : ℕ) (level : LivingLev
   abbrev b0 : Block
   b0 = level.setting.block
 
-  at_hand : block_of level ≡ b0
+  pub at_hand : block_of level ≡ b0
   at_hand = ap (λ (t : Trial). own_block t level.setting.block) own
 
   same_program : level.setting.program ≡ program_in facts
@@ -159,7 +159,7 @@ module _ (facts : Facts) (m : Machine) (c : Config) (p : ℕ) (level : LivingLev
     abbrev IsMainsAt : Block → Type 0
     IsMainsAt b = (i : ℕ) × (slice_get ((program_of t).main ∷ (program_of t).modules) i ≡ Some b)
 
-    mains_at : (b : Block) → IsMains level.setting b → IsMainsAt b
+    pub mains_at : (b : Block) → IsMains level.setting b → IsMainsAt b
     mains_at b is = (is.0, subst (λ (z : Program). slice_get (z.main ∷ z.modules) is.0 ≡ Some b) same is.1)
 
     mains_body : (b : Block) (i : ℕ) → slice_get ((program_of t).main ∷ (program_of t).modules) i ≡ Some b → IsBody t b

@@ -16,3 +16,4 @@ pub mod Alike
 pub mod Owner
 pub mod Known
 pub mod Parameters
+pub mod Told

@@ -4,7 +4,9 @@ pub mod Entered
 pub mod Entrances
 pub mod Behind
 pub mod Entering
+pub mod Exports
 pub mod Enterable
+pub mod Requeueable
 pub mod Settled
 pub mod Leaving
 pub mod Keeping

@@ -2,3 +2,4 @@ pub mod Exported
 pub mod Groups
 pub mod Endings
 pub mod Requeued
+pub mod Requeueable

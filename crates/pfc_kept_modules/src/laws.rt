@@ -9,6 +9,7 @@ ghost use Rattle.pfc_representation.specs.Acting.{IsActing, HasArrived};
 ghost use Rattle.pfc_representation.specs.Actions.{IsKept, AreKept};
 ghost use Rattle.pfc_kept_modules.specs.Groups.{MayEnter, EntersModule, IsModuleEntry};
 ghost use Rattle.pfc_kept_modules.specs.Endings.{EndsInMonitor, AreOutside};
+ghost use Rattle.pfc_kept_modules.specs.Requeueable.{CanRequeue};
 ghost use Rattle.pfc_kept_modules.specs.Requeued.{MayRequeue, AreLentOn};
 
 /// A call of a procedure of a monitor or of a resource from outside begins the same activation on both sides, and the process has the module or waits for it
@@ -44,4 +45,11 @@ pub fn checked_programs_may_enter()
 /// So all calls from outside modules are kept.
 pub fn module_entries_are_kept()
     ensures { AreKept IsModuleEntry }
+{}
+
+/// Wherever the code of a checked program requeues, it stands in the body of a guarded procedure, in which no accept stands, and names another of the same
+/// resource, which can be called.
+pub fn checked_programs_can_requeue()
+    ensures { (facts : Facts) (m : Machine) (c : Config) (p : ℕ) (level : LivingLevel) (x : Context) (scope : ℕ) (given : List Argument)
+        → IsActing facts m c p level → HasArrived facts m c p level (calls x (to_requeue scope) given) → CanRequeue level scope }
 {}

@@ -29,13 +29,13 @@ in_view : (scope i j : ℕ) (outer : List Level) → ((k : ℕ) → sees outer k
     → (j ≡ scope) ⊎ ((j ≡ i) ⊎ (j ≡ 0))
 in_view scope i j outer inner seen =
     elim (or_cases (scope == j) (i == j || sees outer j) seen) [
-    | inl e ↦ inl (sym (equal_number scope j e))
-    | inr rest ↦
-        elim (or_cases (i == j) (sees outer j) rest) [
-          | inl e ↦ inr (inl (sym (equal_number i j e)))
-          | inr e ↦ inr (inr (inner j e))
-        ]
-  ]
+      | inl e ↦ inl (sym (equal_number scope j e))
+      | inr rest ↦
+          elim (or_cases (i == j) (sees outer j) rest) [
+            | inl e ↦ inr (inl (sym (equal_number i j e)))
+            | inr e ↦ inr (inr (inner j e))
+          ]
+    ]
 
 kind_so : (h : Home) (s : State) (scope i : ℕ) (l around : Level) (outer : List Level) (inside : Bool) (inner : Env) (next : ℕ) (b : BodyTree)
     (layout : Layout) (kind : KindTree) → l.scope ≡ scope → around.scope ≡ i → IsLawfulKind h (forget_kind kind) → Inner h outer
@@ -43,9 +43,12 @@ kind_so : (h : Home) (s : State) (scope i : ℕ) (l around : Level) (outer : Lis
 kind_so h s scope i l around outer inside inner next (body ss from to) layout procedure own there lawful all e = absurd (let both : false ≡ true = e in cc)
 kind_so h s scope i l around outer inside inner next (body ss from to) layout (function x p) own there lawful all e =
     absurd (let both : false ≡ true = e in cc)
-kind_so h s scope i l around outer inside inner next (body ss from to) layout (guarded w p) own there lawful all e =
-    (refl, refl, λ j seen. subst (λ (k : ℕ). (j ≡ k) ⊎ ((j ≡ i) ⊎ (j ≡ 0))) own (subst (λ (k : ℕ). (j ≡ l.scope) ⊎ ((j ≡ k) ⊎ (j ≡ 0))) there
-    (in_view l.scope around.scope j outer (all lawful.0) seen)))
+kind_so h s scope i l around outer inside inner next (body ss from to) layout (guarded w p) own there lawful all e = (
+  refl,
+  refl,
+  λ j seen. subst (λ (k : ℕ). (j ≡ k) ⊎ ((j ≡ i) ⊎ (j ≡ 0))) own (subst (λ (k : ℕ). (j ≡ l.scope) ⊎ ((j ≡ k) ⊎ (j ≡ 0))) there
+      (in_view l.scope around.scope j outer (all lawful.0) seen)),
+)
 
 process_so : (scope i : ℕ) (s : State) (view : List Level) (next : ℕ) (b : BodyTree) (layout : Layout) (accepts : ℕ)
     → IsOfItsModule (block_of scope i (env_at s view around_process) next b layout accepts None)
@@ -90,9 +93,9 @@ module_so h s n next (the_module x exports ps b last p) apart lawful =
     of_program_scope : (j : ℕ) → (0 == j || false) ≡ true → j ≡ 0
     of_program_scope j seen =
         elim (or_cases (0 == j) false seen) [
-        | inl e ↦ sym (equal_number 0 j e)
-        | inr e ↦ absurd (cc)
-      ]
+          | inl e ↦ sym (equal_number 0 j e)
+          | inr e ↦ absurd (cc)
+        ]
 
 pub program_so : (s : State) (n next : ℕ) (qs : PartTrees) → AreLawfulParts of_program (forget_parts qs)
     → Every IsOfItsModule (parts_blocks s false 0 n [] next qs)
@@ -115,6 +118,8 @@ program_so s n next (more_parts q qs) lawful =
         let around = level 0 (passed (scope_at s.blocks.scopes 0) n x) ∷ [] in
         let inner = next + 1 + parts_scopes ps in
         every_append IsOfItsModule (parts_blocks s true next count around (next + 1) ps) (_ ∷ [])
-        (parts_so of_other s true next count around (next + 1) ps (λ x. x) lawful.1.2 (λ none. absurd none))
-        (process_so next 0 s (here s.blocks.scopes next around) inner b
-        (process_layout own (take (body_scopes b) (drop inner s.blocks.scopes))) (body_scopes b), tt)
+        (parts_so of_other s true next count around (next + 1) ps (λ x. x) lawful.1.2 (λ none. absurd none)) (
+          process_so next 0 s (here s.blocks.scopes next around) inner b
+              (process_layout own (take (body_scopes b) (drop inner s.blocks.scopes))) (body_scopes b),
+          tt,
+        )

@@ -132,8 +132,7 @@ module _ (t : ProgramTree) (lawful : IsLawful (forget_program t)) (clean : broke
             let n = found.0 in
             let scope : (sub_at bs n).scope ≡ b.scope = ap (λ (h : SubHead). h.scope) found.2 ∙ found.3 in
             let guard : is_some b.guard ≡ is_guarded_sort (sub_at bs n).sort =
-            sym (ap (λ (x : Block). is_some x.guard) (of_scope (sub_at bs n).scope scope)) ∙ (of_sub t lawful n found.1).guard in
-            (
+            sym (ap (λ (x : Block). is_some x.guard) (of_scope (sub_at bs n).scope scope)) ∙ (of_sub t lawful n found.1).guard in (
               there.0,
               there.1,
               sort_guarded there.0.sort (ap (λ (h : SubHead). is_guarded_sort h.sort) (sym found.2) ∙ sym guard ∙ its_module.0),
@@ -148,21 +147,21 @@ module _ (t : ProgramTree) (lawful : IsLawful (forget_program t)) (clean : broke
     -- of main's scopes it sees its module's and the program's alone
     its_outer : (j : ℕ) (callee : Block) (n : ℕ) → slice_get g.blocks j ≡ Some callee → module_of bs callee.outer ≡ Some n
         → is_near b callee.outer ≡ true → b.outer ≡ callee.outer
-    its_outer j callee n at_callee module near =
+    its_outer j callee n at_callee found near =
         elim (or_cases (list_any (λ (level : Level). level.scope == callee.outer) b.env.view) (is_accept b callee.outer) near) [
-        | inl e ↦
-            elim (its_module.2 callee.outer (any_sees b.env.view callee.outer e)) [
-              | inl own ↦
-                  absurd (let both : true ≡ false = sym (mains_of t lawful clean callee.outer n module) ∙ ap (λ (i : ℕ). is_mains bs i) own
-                  ∙ own_not_mains t lawful k b at in cc)
-              | inr rest ↦
-                  elim rest [
-                    | inl e ↦ sym e
-                    | inr zero ↦ absurd (no_program_module n (sym (ap (λ (i : ℕ). module_of bs i) zero) ∙ module))
-                  ]
-            ]
-        | inr e ↦ absurd (outside_accepts t lawful k j b callee at at_callee e)
-      ]
+          | inl e ↦
+              elim (its_module.2 callee.outer (any_sees b.env.view callee.outer e)) [
+                | inl own ↦
+                    absurd (let both : true ≡ false = sym (mains_of t lawful clean callee.outer n found) ∙ ap (λ (i : ℕ). is_mains bs i) own
+                    ∙ own_not_mains t lawful k b at in cc)
+                | inr rest ↦
+                    elim rest [
+                      | inl e ↦ sym e
+                      | inr zero ↦ absurd (no_program_module n (sym (ap (λ (i : ℕ). module_of bs i) zero) ∙ found))
+                    ]
+              ]
+          | inr e ↦ absurd (outside_accepts t lawful k j b callee at at_callee e)
+        ]
 
   pub requeued_from : (b : Block) (scope : ℕ) (formals : List Formal) → IsBody t b → IsCalledFrom t b scope formals (ByRequeue b)
       → IsRequeuedFrom t b (block_at g scope)

@@ -146,9 +146,11 @@ module _ (facts : Facts) (m : Machine) (c : Config) (p : ℕ) (level : LivingLev
   module _ (t : ProgramTree) (same : level.setting.program ≡ program_of t) where
     there : (k : ℕ) × ((slice_get (program_of t).blocks k ≡ Some b0) ⊎ (b0 ≡ (program_of t).main))
     there =
-        let (k, code, block, goes) = arrived.within in
-        (k, by k (subst (λ (z : Program). (slice_get z.blocks k ≡ Some (block_of level)) ⊎ ((k ≡ length z.blocks) × (block_of level ≡ z.main)))
-        (sym same_program ∙ same) block.2))
+        let (k, code, block, goes) = arrived.within in (
+          k,
+          by k (subst (λ (z : Program). (slice_get z.blocks k ≡ Some (block_of level)) ⊎ ((k ≡ length z.blocks) × (block_of level ≡ z.main)))
+              (sym same_program ∙ same) block.2),
+        )
       where
         by : (k : ℕ) → (slice_get (program_of t).blocks k ≡ Some (block_of level)) ⊎ ((k ≡ length (program_of t).blocks) × (block_of level ≡ (program_of t).main))
             → (slice_get (program_of t).blocks k ≡ Some b0) ⊎ (b0 ≡ (program_of t).main)
@@ -228,7 +230,7 @@ module _ (facts : Facts) (m : Machine) (c : Config) (p : ℕ) (level : LivingLev
           let plain : is_guarded_sort head.sort ≡ false =
           ap (λ (h : SubHead). is_guarded_sort h.sort) (sym same_head) ∙ unguarded _ called.head.sort called.as_asked in
           let here : (z : ℕ) → z ≡ scope
-              → IsNested (program_of t) b' (block_at (program_of t) z) (links_from (program_of t).state.blocks b' (block_at (program_of t) z).outer) =
+          → IsNested (program_of t) b' (block_at (program_of t) z) (links_from (program_of t).state.blocks b' (block_at (program_of t) z).outer) =
           λ z e. subst (λ (j : ℕ). IsNested (program_of t) b' (block_at (program_of t) j)
           (links_from (program_of t).state.blocks b' (block_at (program_of t) j).outer)) (sym e)
           (nested_beside b b' (block_at (program_of t) scope) (block_number (program_of t) scope) beside beside'

@@ -152,7 +152,8 @@ module _ (facts : Facts) (m : Machine) (c : Config) (p : ℕ) (level : LivingLev
               (sym same_program ∙ same) block.2),
         )
       where
-        by : (k : ℕ) → (slice_get (program_of t).blocks k ≡ Some (block_of level)) ⊎ ((k ≡ length (program_of t).blocks) × (block_of level ≡ (program_of t).main))
+        by : (k : ℕ)
+            → (slice_get (program_of t).blocks k ≡ Some (block_of level)) ⊎ ((k ≡ length (program_of t).blocks) × (block_of level ≡ (program_of t).main))
             → (slice_get (program_of t).blocks k ≡ Some b0) ⊎ (b0 ≡ (program_of t).main)
         by k (inl e) = inl (e ∙ ap Some at_hand)
         by k (inr e) = inr (sym at_hand ∙ e.1)

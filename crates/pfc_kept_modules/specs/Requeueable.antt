@@ -9,8 +9,8 @@ use Rattle.pfc_translation.specs.Sites.{module_of}
 use Rattle.pfc_representation.specs.Levels.{LivingLevel, IsProgram}
 use Rattle.pfc_kept_modules.specs.Exported.{IsExported}
 
--- A process at this level is in the body of a guarded procedure, which is none of main's bodies and has no accepts, and the procedure with this scope is another
--- of the same resource, with a guard. The cells of each block are those of its variables.
+-- A process at this level is in the body of a guarded procedure, which is none of main's bodies and has no accepts, and the procedure with this scope is
+-- another of the same resource, with a guard. The cells of each block are those of its variables.
 pub record CanRequeue (level : LivingLevel) (scope : ℕ) : Type 0 where
   pub last : level.setting.last ≡ RET
   pub own : Guard

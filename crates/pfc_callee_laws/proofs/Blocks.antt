@@ -130,7 +130,8 @@ module _ (t : ProgramTree) (lawful : IsLawful (forget_program t)) (clean : broke
     size : length (map formal_meaning head.formals) ≡ count
     size = length-map head.formals formal_meaning
 
-    result_plain : (sort : SubSort) (j : ℕ) (m : Meaning) → slice_get (result_laid sort) j ≡ Some m → (u : TypeId) × (m ≡ Variable u false) × (sort ≡ Function (Some u))
+    result_plain : (sort : SubSort) (j : ℕ) (m : Meaning) → slice_get (result_laid sort) j ≡ Some m
+        → (u : TypeId) × (m ≡ Variable u false) × (sort ≡ Function (Some u))
     result_plain Procedure j m e = absurd (cc)
     result_plain Guarded j m e = absurd (cc)
     result_plain (Function None) j m e = absurd (cc)
@@ -203,7 +204,8 @@ module _ (t : ProgramTree) (lawful : IsLawful (forget_program t)) (clean : broke
         let scopes = has_scopes t lawful (block_number g head.scope) b h.there in
         let mains : is_mains bs b.scope ≡ false = own_not_mains t lawful (block_number g head.scope) b h.there in
         let headed_by : sub_with bs.subs b.scope ≡ Some head = ap (λ (i : ℕ). sub_with bs.subs i) h.scope ∙ own_sub t n below in
-        let none : is_accept b b.scope ≡ false = (no_accept t lawful (block_number g head.scope) b h.there b.scope (own_is_known g b (own_not_mains t lawful (block_number g head.scope) b h.there)
+        let none : is_accept b b.scope ≡ false = (no_accept t lawful (block_number g head.scope) b h.there b.scope
+        (own_is_known g b (own_not_mains t lawful (block_number g head.scope) b h.there)
         (its_numbers t lawful (block_number g head.scope) b h.there).below (its_layout t lawful (block_number g head.scope) b h.there).sees_own)) in
         let own : own_variables g b ≡ length b.layout =
         ap (λ (r : Bool). if r then length (layout_with (block_site g b) b.scope) else variables_by (block_site g b) b.scope (sub_with bs.subs b.scope)) mains
@@ -310,7 +312,8 @@ module _ (t : ProgramTree) (lawful : IsLawful (forget_program t)) (clean : broke
 
         count_is : own_variables g p ≡ length (laid_names own_names)
         count_is =
-            ap (λ (r : Bool). if r then length (layout_with (block_site g p) p.scope) else variables_by (block_site g p) p.scope (sub_with bs.subs p.scope)) mains
+            ap (λ (r : Bool). if r then length (layout_with (block_site g p) p.scope) else variables_by (block_site g p) p.scope (sub_with bs.subs p.scope))
+            mains
             ∙ ap (λ (i : ℕ). variables_by (block_site g p) i (sub_with bs.subs i)) there.scope
             ∙ ap (λ (o : Option SubHead). variables_by (block_site g p) its.scope o) no_sub
 

@@ -28,14 +28,14 @@ one_block x y e = cc
 
 -- ## Initialising bodies
 
--- it has no accepts, and the cells of its own layout
+-- it has no accepts, and the cells of its own layout, and is no guarded procedure's
 abbrev IsSmall : State → Block → Type 0
-IsSmall s b = (b.accepts ≡ 0) × (b.cells ≡ layout_cells s.forms b.layout)
+IsSmall s b = (b.accepts ≡ 0) × (b.cells ≡ layout_cells s.forms b.layout) × (b.env.around.guarded ≡ false)
 
 module _ (s : State) where
   init_small : (scope : ℕ) (view : List Level) (next : ℕ) (b : Option BodyTree) → All (IsSmall s) (init_block s scope view next b)
   init_small scope view next None = All-nil (IsSmall s)
-  init_small scope view next (Some (body ss first last)) = All-cons (IsSmall s) _ [] (refl, refl) (All-nil (IsSmall s))
+  init_small scope view next (Some (body ss first last)) = All-cons (IsSmall s) _ [] (refl, refl, refl) (All-nil (IsSmall s))
 
   module_small : (n next : ℕ) (m : ModuleTree) → All (IsSmall s) (module_inits s n next m)
   module_small n next (the_module x exports ps b last p) = init_small next _ (next + 1 + parts_scopes ps) b
@@ -99,6 +99,7 @@ of_mains t lawful zero b e =
       own = subst (λ (i : ℕ). is_mains (program_of t).state.blocks i ≡ true) (sym (main_scope t)) refl;
       mains = main_sees t;
       alone = main_alone t lawful;
+      unguarded = ap (λ (e : Env). e.around.guarded) (main_env_is 0 0 (env_of_main (finished t)) (1 + parts_scopes t.parts) t.body _ 0 None);
       no_accept = main_has_none t lawful;
       cells = main_cells_are t;
     })
@@ -110,6 +111,7 @@ of_mains t lawful (suc i) b e =
       own = placed.1;
       mains = mains;
       alone = nothing_linked (program_of t).state.blocks b.env.view mains;
+      unguarded = small.2;
       no_accept = no_accept_by b small.0;
       cells = small.1;
     }

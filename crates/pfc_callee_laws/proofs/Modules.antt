@@ -1,10 +1,9 @@
--- Each module is found by its scope; and what is called from outside, or by a requeue, stands in a module.
+-- Each module is found by its scope; and what is called from outside stands in its module.
 use Rattle.std.proofs.Common.{◌≡◌, ℕ, zero, suc, ◌+◌, ◌<◌, ◌≤◌, ◌==◌, nat_lt, not, cond, ◌||◌, is_some, Bool, true, false, List, [], ◌∷◌, length, get_or, slice_get, Option, Some, None, refl, sym, ap, ◌∙◌, subst, arith}
 use Rattle.std.specs.Prelude.{position}
 use Rattle.std.specs.List.{position_or_len}
 use Rattle.std.proofs.lemmas.Bool.Decides.{nat_tests}
 use Rattle.std.proofs.lemmas.Option.{slice_get-get_or}
-use Rattle.std.proofs.lemmas.List.Quantifiers.{position-Some}
 use Rattle.pfc_tree.specs.trees.Parts.{PartTrees, ModuleTree, ProgramTree, consts, types, vars, sub_part, monitor, resource, process_part, no_parts, more_parts}
 use Rattle.pfc_tree.specs.forget.Parts.{forget_program}
 use Rattle.pfc_tree.specs.lawful.Parts.{IsLawful}
@@ -14,16 +13,14 @@ use Rattle.pfc_types.specs.rules.Bodies.{part_scopes, module_scopes}
 use Rattle.pfc_types.specs.rules.Whole.{finished, broken}
 use Rattle.pfc_types.specs.declared.heads.Formal.{Formal}
 use Rattle.pfc_types.specs.declared.heads.SubSort.{SubSort}
-use Rattle.pfc_types.specs.declared.heads.SubSort.TheVariants.{Guarded}
 use Rattle.pfc_semantics.specs.Programs.{Block, Guard, Program, block_at, block_number, program_of}
 use Rattle.pfc_translation.specs.Sites.{module_of, is_mains}
 use Rattle.pfc_image_laws.specs.Modules.{modules_from}
 use Rattle.pfc_image_laws.proofs.Modules.{program_modules}
 use Rattle.pfc_image_cells.proofs.Trees.{module_opens}
-use Rattle.pfc_standing_code.specs.Typed.{FromOutside, ByRequeue}
-use Rattle.pfc_standing_images.proofs.Guards.{guarded_in_resource}
+use Rattle.pfc_standing_code.specs.Typed.{FromOutside}
 use Rattle.pfc_call_laws.proofs.Places.{or_right}
-use Rattle.pfc_callee_laws.specs.Callees.{is_guarded_sort, IsCalledFrom, IsOfModule, IsGuardedBlock}
+use Rattle.pfc_callee_laws.specs.Callees.{IsCalledFrom, IsOfModule}
 use Rattle.pfc_callee_laws.proofs.Calls.{nested_in_main}
 
 one_module : (x y : ModuleHead) → Some x ≡ Some y → x ≡ y
@@ -38,7 +35,7 @@ below_head : (next more : ℕ) (rest : List ModuleHead) (h m : ModuleHead) (n : 
 below_head next more rest h m zero own e further = let is = ap (λ (x : ModuleHead). x.scope) (one_module h m e) in omega (arith, is, own)
 below_head next more rest h m (suc j) own e further = let low = further j e in omega (arith, low)
 
-begins : (next : ℕ) (qs : PartTrees) (n : ℕ) (m : ModuleHead) → slice_get (modules_from next qs) n ≡ Some m → next ≤ m.scope
+pub begins : (next : ℕ) (qs : PartTrees) (n : ℕ) (m : ModuleHead) → slice_get (modules_from next qs) n ≡ Some m → next ≤ m.scope
 begins next no_parts n m e = absurd (cc)
 begins next (more_parts (consts items) qs) n m e = let low = begins (next + 0) qs n m e in omega (arith, low)
 begins next (more_parts (types items) qs) n m e = let low = begins (next + 0) qs n m e in omega (arith, low)
@@ -94,7 +91,7 @@ module_found t lawful n low =
     let inside : nat_lt (found_at bs.modules m.scope) (length bs.modules) ≡ true = grind (arith, nat_tests) in
     ap (λ (r : Bool). cond r (Some (found_at bs.modules m.scope)) None) inside ∙ ap (λ (i : ℕ). Some i) first
 
-guard_there : (o : Option Guard) → is_some o ≡ true → (guard : Guard) × (o ≡ Some guard)
+pub guard_there : (o : Option Guard) → is_some o ≡ true → (guard : Guard) × (o ≡ Some guard)
 guard_there None e = absurd (cc)
 guard_there (Some guard) e = (guard, refl)
 
@@ -105,14 +102,14 @@ module _ (t : ProgramTree) (lawful : IsLawful (forget_program t)) (clean : broke
   abbrev bs : Blocks
   bs = (finished t).blocks
 
-  mains_of : (i n : ℕ) → module_of bs i ≡ Some n → is_mains bs i ≡ true
+  pub mains_of : (i n : ℕ) → module_of bs i ≡ Some n → is_mains bs i ≡ true
   mains_of i n e = ap (λ (o : Option ℕ). (i == 0) || is_some o) e ∙ or_right (i == 0) true refl
 
-  of_module : (k n : ℕ) (b : Block) → slice_get g.blocks k ≡ Some b → n < length bs.modules → module_of bs b.outer ≡ Some n → IsOfModule t n b
+  pub of_module : (k n : ℕ) (b : Block) → slice_get g.blocks k ≡ Some b → n < length bs.modules → module_of bs b.outer ≡ Some n → IsOfModule t n b
   of_module k n b at low inside =
       record { among = low; inside = inside; nested = nested_in_main t lawful clean k b at (mains_of b.outer n inside) }
 
-  callee_there : (b : Block) (scope : ℕ) (formals : List Formal) (asked : ℕ → SubSort → Type 0) → IsCalledFrom t b scope formals asked
+  pub callee_there : (b : Block) (scope : ℕ) (formals : List Formal) (asked : ℕ → SubSort → Type 0) → IsCalledFrom t b scope formals asked
       → slice_get g.blocks (block_number g scope) ≡ Some (block_at g scope)
   callee_there b scope formals asked is =
       subst (λ (i : ℕ). slice_get g.blocks (block_number g i) ≡ Some (block_at g i)) (sym is.own_scope) is.sub.activated.there
@@ -123,19 +120,3 @@ module _ (t : ProgramTree) (lawful : IsLawful (forget_program t)) (clean : broke
       let (low, outer, plain) = is.as_asked in
       of_module (block_number g scope) n (block_at g scope) (callee_there b scope formals (FromOutside bs n) is) low
       (ap (λ (i : ℕ). module_of bs i) outer ∙ module_found t lawful n low)
-
-  pub requeued_in_resource : (b : Block) (scope : ℕ) (formals : List Formal) → IsCalledFrom t b scope formals ByRequeue
-      → IsGuardedBlock t (block_at g scope)
-  requeued_in_resource b scope formals is =
-      let callee = block_at g scope in
-      let at = callee_there b scope formals ByRequeue is in
-      let (guard, has) = guard_there callee.guard (is.guarded ∙ ap is_guarded_sort is.as_asked) in
-      let there = guarded_in_resource t (block_number g scope) callee guard lawful at has in
-      let found = position-Some (λ (m : ModuleHead). m.scope == callee.outer) bs.modules there.0 no_module there.1 in
-      record {
-        guard = guard;
-        guarded = has;
-        n = there.0;
-        of_module = of_module (block_number g scope) there.0 callee at found.0 there.1;
-        resource = there.2;
-      }

@@ -102,10 +102,25 @@ pub record IsGuardedBlock (t : ProgramTree) (b : Block) : Type 0 where
   pub of_module : IsOfModule t n b
   pub resource : (module_at (program_of t).state.blocks n).resource ≡ true
 
--- main's own body or an initialising one: it stands in one of main's scopes, sees these alone, has no accepts, and the cells of its own layout
+-- A requeue leads from the body of a guarded procedure, in which no accept stands, to another of the same resource.
+pub record IsRequeuedFrom (t : ProgramTree) (b callee : Block) : Type 0 where
+  pub k : ℕ
+  pub there : slice_get (program_of t).blocks k ≡ Some b
+  pub own : Guard
+  pub guarded : b.guard ≡ Some own
+  pub alone : b.accepts ≡ 0
+  pub head : SubHead
+  pub headed : sub_with (program_of t).state.blocks.subs b.scope ≡ Some head
+  pub sort : head.sort ≡ Guarded
+  pub to : IsGuardedBlock t callee
+  pub inside : module_of (program_of t).state.blocks b.outer ≡ Some to.n
+
+-- main's own body or an initialising one: it stands in one of main's scopes, sees these alone, is no guarded procedure's, has no
+-- accepts, and the cells of its own layout
 pub record IsMainsBody (t : ProgramTree) (b : Block) : Type 0 where
   pub own : is_mains (program_of t).state.blocks b.scope ≡ true
   pub mains : (i : ℕ) → sees b.env.view i ≡ true → is_mains (program_of t).state.blocks i ≡ true
   pub alone : scopes_around (program_of t) b ≡ []
+  pub unguarded : b.env.around.guarded ≡ false
   pub no_accept : (i : ℕ) → is_accept b i ≡ false
   pub cells : b.cells ≡ layout_cells (program_of t).state.forms b.layout

@@ -18,7 +18,7 @@ ghost use Rattle.pfc_translation.specs.Images.{image_of};
 ghost use Rattle.pfc_translation.specs.Sites.{Site, module_of};
 ghost use Rattle.pfc_standing_code.specs.Typed.{ByName, InExpressions, FromOutside, ByRequeue, IsOfSub};
 ghost use Rattle.pfc_typed_programs.specs.Bodies.{IsBody};
-ghost use Rattle.pfc_callee_laws.specs.Callees.{IsSubBlock, IsProcessBlock, HasResultAt, IsCalledFrom, IsOfModule, IsGuardedBlock, IsApart, IsMainsBody};
+ghost use Rattle.pfc_callee_laws.specs.Callees.{IsSubBlock, IsProcessBlock, HasResultAt, IsCalledFrom, IsOfModule, IsRequeuedFrom, IsApart, IsMainsBody};
 
 /// The scope of each heading of a sub or a process is that of a block, which the image has: its parameters stand first in its layout, no part of its variables
 /// is an object, and what is in view in its body is known there. The block of a sub has a guard where the sub is guarded; that of a process has none, and
@@ -66,17 +66,19 @@ pub fn called_subs_are_nested()
         → s.program ≡ program_of t → IsBody t s.block → IsOfSub s scope formals (FromOutside (finished t).blocks n)
         → IsCalledFrom t s.block scope formals (FromOutside (finished t).blocks n) }
     ensures by_requeue { (t : ProgramTree) (s : Site) (scope : ℕ) (formals : List Formal) → IsLawful (forget_program t) → broken t ≡ []
-        → s.program ≡ program_of t → IsBody t s.block → IsOfSub s scope formals ByRequeue → IsCalledFrom t s.block scope formals ByRequeue }
+        → s.program ≡ program_of t → IsBody t s.block → IsOfSub s scope formals (ByRequeue s.block)
+        → IsCalledFrom t s.block scope formals (ByRequeue s.block) }
 {}
 
-/// Each module is found by its scope. What is called from outside its module stands in that module, and what a requeue names in a resource.
+/// Each module is found by its scope. What is called from outside its module stands in that module; and a requeue leads from the body of a guarded procedure
+/// to another of the same resource.
 pub fn modules_have_their_procedures()
     ensures found { (t : ProgramTree) (n : ℕ) → IsLawful (forget_program t) → n < length (finished t).blocks.modules
         → module_of (finished t).blocks (module_at (finished t).blocks n).scope ≡ Some n }
     ensures from_outside { (t : ProgramTree) (b : Block) (n scope : ℕ) (formals : List Formal) → IsLawful (forget_program t) → broken t ≡ []
         → IsCalledFrom t b scope formals (FromOutside (finished t).blocks n) → IsOfModule t n (block_at (program_of t) scope) }
-    ensures by_requeue { (t : ProgramTree) (b : Block) (scope : ℕ) (formals : List Formal) → IsLawful (forget_program t) → broken t ≡ []
-        → IsCalledFrom t b scope formals ByRequeue → IsGuardedBlock t (block_at (program_of t) scope) }
+    ensures by_requeue { (t : ProgramTree) (b : Block) (scope : ℕ) (formals : List Formal) → IsLawful (forget_program t) → broken t ≡ [] → IsBody t b
+        → IsCalledFrom t b scope formals (ByRequeue b) → IsRequeuedFrom t b (block_at (program_of t) scope) }
 {}
 
 /// The scope of a process is that of no sub, of no body of main's and of no other process, and those of its accepts are of no sub. Each of its variables takes

@@ -137,7 +137,7 @@ module _ (facts : Facts) (m : Machine) (c : Config) (p : ℕ) (level : LivingLev
   abbrev b0 : Block
   b0 = level.setting.block
 
-  at_hand : block_of level ≡ b0
+  pub at_hand : block_of level ≡ b0
   at_hand = ap (λ (t : Trial). own_block t level.setting.block) own
 
   same_program : level.setting.program ≡ program_in facts
@@ -152,7 +152,8 @@ module _ (facts : Facts) (m : Machine) (c : Config) (p : ℕ) (level : LivingLev
               (sym same_program ∙ same) block.2),
         )
       where
-        by : (k : ℕ) → (slice_get (program_of t).blocks k ≡ Some (block_of level)) ⊎ ((k ≡ length (program_of t).blocks) × (block_of level ≡ (program_of t).main))
+        by : (k : ℕ)
+            → (slice_get (program_of t).blocks k ≡ Some (block_of level)) ⊎ ((k ≡ length (program_of t).blocks) × (block_of level ≡ (program_of t).main))
             → (slice_get (program_of t).blocks k ≡ Some b0) ⊎ (b0 ≡ (program_of t).main)
         by k (inl e) = inl (e ∙ ap Some at_hand)
         by k (inr e) = inr (sym at_hand ∙ e.1)
@@ -161,7 +162,7 @@ module _ (facts : Facts) (m : Machine) (c : Config) (p : ℕ) (level : LivingLev
     abbrev IsMainsAt : Block → Type 0
     IsMainsAt b = (i : ℕ) × (slice_get ((program_of t).main ∷ (program_of t).modules) i ≡ Some b)
 
-    mains_at : (b : Block) → IsMains level.setting b → IsMainsAt b
+    pub mains_at : (b : Block) → IsMains level.setting b → IsMainsAt b
     mains_at b is = (is.0, subst (λ (z : Program). slice_get (z.main ∷ z.modules) is.0 ≡ Some b) same is.1)
 
     mains_body : (b : Block) (i : ℕ) → slice_get ((program_of t).main ∷ (program_of t).modules) i ≡ Some b → IsBody t b

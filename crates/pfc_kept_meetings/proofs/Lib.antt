@@ -23,3 +23,4 @@ pub mod Begins
 pub mod Untouched
 pub mod Caller
 pub mod Meets
+pub mod Told

@@ -1,7 +1,7 @@
 //! The laws. The functions do nothing: their contracts are the laws.
 ghost use Rattle.std.specs.Prelude.{◌≡◌, ℕ, List};
 ghost use Rattle.pfc_semantics.specs.Configurations.{of_monitor, Config, activity_of};
-ghost use Rattle.pfc_semantics.specs.Remainders.{Context, Remainder, Argument, Action, calls, to_module};
+ghost use Rattle.pfc_semantics.specs.Remainders.{Context, Remainder, Argument, Action, calls, to_module, to_requeue};
 ghost use Rattle.pfc_machines.specs.declared.machine.Machine.{Machine};
 ghost use Rattle.pfc_representation.specs.Levels.{Facts, program_in, LivingLevel};
 ghost use Rattle.pfc_representation.specs.Trials.{mark_of};
@@ -9,7 +9,7 @@ ghost use Rattle.pfc_representation.specs.Acting.{IsActing, HasArrived};
 ghost use Rattle.pfc_representation.specs.Actions.{IsKept, AreKept};
 ghost use Rattle.pfc_kept_modules.specs.Groups.{MayEnter, EntersModule, IsModuleEntry};
 ghost use Rattle.pfc_kept_modules.specs.Endings.{EndsInMonitor, AreOutside, IsInOnce};
-ghost use Rattle.pfc_kept_modules.specs.Requeued.{HasFewOperands, Requeues};
+ghost use Rattle.pfc_kept_modules.specs.Requeued.{HasFewOperands, MayRequeue, Requeues};
 
 /// A call of a procedure of a monitor or of a resource from outside begins the same activation on both sides, and the process has the module or waits for it
 /// on both, also where it holds it itself; or both find the stack full.
@@ -49,4 +49,11 @@ pub fn checked_programs_may_enter()
 /// So all calls from outside modules are kept.
 pub fn module_entries_are_kept()
     ensures { AreKept IsModuleEntry }
+{}
+
+/// Wherever the code of a checked program requeues, it stands in the body of a guarded procedure, in which no accept stands, and names another of the same
+/// resource, which can be called.
+pub fn checked_programs_can_requeue()
+    ensures { (facts : Facts) (m : Machine) (c : Config) (p : ℕ) (level : LivingLevel) (x : Context) (scope : ℕ) (given : List Argument)
+        → IsActing facts m c p level → HasArrived facts m c p level (calls x (to_requeue scope) given) → MayRequeue level scope }
 {}

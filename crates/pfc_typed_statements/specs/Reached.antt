@@ -15,8 +15,8 @@ use Rattle.pfc_semantics.specs.Expressions.{spot_of}
 use Rattle.pfc_semantics.specs.Statements.{name_in_process}
 use Rattle.pfc_translation.specs.Sites.{Site, forms_of, blocks_of}
 use Rattle.pfc_standing_code.specs.Shapes.{IsSound}
-use Rattle.pfc_standing_code.specs.Typed.{StandsAt, IsDeclared, TakesCells}
-use Rattle.pfc_typed_phrases.specs.Names.{left_behind, IsLaid, IsWhole}
+use Rattle.pfc_standing_code.specs.Typed.{StandsAt, IsDeclared, TakesCells, is_near}
+use Rattle.pfc_typed_phrases.specs.Names.{left_behind, IsLaid, IsNamedSub, IsWhole}
 
 pub record AreReached (s : Site) : Type 0 where
   pub sound : IsSound (forms_of s)
@@ -25,6 +25,10 @@ pub record AreReached (s : Site) : Type 0 where
   -- inside a function its result is a variable
   pub results : (x : Text) (n : ℕ) (t : TypeId) → meaning_of (find s.env x) ≡ Some (Sub n) → (sub_at (blocks_of s) n).sort ≡ Function (Some t)
       → is_around s.env.view (sub_at (blocks_of s) n).scope ≡ true → IsLaid s x t
+  -- a body stands where it does, whatever is around a statement in it; and a sub that is named there is in view
+  pub guarded : s.env.around.guarded ≡ true → s.block.env.around.guarded ≡ true
+  pub near : (x : Text) (n : ℕ) → meaning_of (find s.env x) ≡ Some (Sub n)
+      → (named : IsNamedSub s (sub_at (blocks_of s) n)) × (is_near s.block named.within ≡ true)
 
 -- ## What is called
 
@@ -64,6 +68,10 @@ pub record HaveResults (s : Site) : Type 0 where
   pub filled : (t : TypeId) → 0 < cells_in (forms_of s) t
   pub results : (x : Text) (n : ℕ) (t : TypeId) → meaning_of (find s.env x) ≡ Some (Sub n) → (sub_at (blocks_of s) n).sort ≡ Function (Some t)
       → is_around s.env.view (sub_at (blocks_of s) n).scope ≡ true → IsLaid s x t
+  -- a body stands where it does, whatever is around a statement in it; and a sub that is named there is in view
+  pub guarded : s.env.around.guarded ≡ true → s.block.env.around.guarded ≡ true
+  pub near : (x : Text) (n : ℕ) → meaning_of (find s.env x) ≡ Some (Sub n)
+      → (named : IsNamedSub s (sub_at (blocks_of s) n)) × (is_near s.block named.within ≡ true)
 
 -- processes can be started, entries called, and exported subs of modules
 pub record HaveStarts (s : Site) : Type 0 where

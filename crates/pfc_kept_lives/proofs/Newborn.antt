@@ -1,5 +1,5 @@
 -- The clause of a process that was created, and has not yet begun.
-use Rattle.std.proofs.Common.{◌≡◌, ℕ, zero, suc, ◌+◌, ◌<◌, ◌≤◌, ℤ, List, [], ◌∷◌, length, set, get_or, All, Some, None, drop, ◌-◌}
+use Rattle.std.proofs.Common.{◌≡◌, ℕ, zero, suc, ◌+◌, ◌<◌, ◌≤◌, ℤ, true, false, List, [], ◌∷◌, length, set, get_or, All, Some, None, drop, ◌-◌}
 use Rattle.std.proofs.Common.{refl, sym, ap, ◌∙◌, subst, arith}
 use Rattle.std.proofs.lemmas.List.{get_or-set_same, length-set}
 use Rattle.pfc_code.specs.declared.images.Block.{Block as CodeBlock}
@@ -181,6 +181,7 @@ module _ (facts : Facts) (m : Machine) (c : Config) (p : ℕ) (level : LivingLev
     laid = ap (λ (b : Block). b.layout) (has_scopes facts.tree acting.alike.program.lawful k callee new.can.there).by_scope;
     apart = references_apart facts m c p level acting n k callee formals x given below new;
     guarded = λ guard is. (let none : None ≡ Some guard = sym new.can.unguarded ∙ is in absurd (cc));
+    accepts = λ i none. absurd (let both : false ≡ true = none in cc);
   }
 
   is_first : (room' : ℕ) → block.operands + guards_room facts ≤ room'

@@ -13,6 +13,7 @@ pub mod Ending
 pub mod Keeping
 pub mod Lent
 pub mod Lending
+pub mod Unmet
 pub mod Replaced
 pub mod Renewed
 pub mod Requeued

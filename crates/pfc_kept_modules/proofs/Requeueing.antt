@@ -34,7 +34,7 @@ use Rattle.pfc_call_actions.specs.Returns.{scans_from}
 use Rattle.pfc_machine_acts.specs.Performing.{silent, with_block}
 use Rattle.pfc_standing_code.specs.Settings.{Trial, of_own, AreOver, site_of, IsBeside, same_block, both_mains, IsAt}
 use Rattle.pfc_standing_code.specs.Words.{AreHeld, AreKnown, IsChecked}
-use Rattle.pfc_standing_code.specs.Performs.{own_block, own_room}
+use Rattle.pfc_standing_code.specs.Performs.{own_block, own_room, own_view, own_accepts}
 use Rattle.pfc_standing_images.specs.Images.{IsOfImage}
 use Rattle.pfc_standing_images.proofs.Wholes.{block_stands}
 use Rattle.pfc_standing_images.proofs.Guards.{turn_there}
@@ -59,6 +59,7 @@ use Rattle.pfc_kept_modules.specs.Requeued.{IsLasting, MayRequeue, HasFewOperand
 use Rattle.pfc_kept_modules.proofs.Subs.{IsSubOf}
 use Rattle.pfc_kept_modules.proofs.Lent.{IsLentOn}
 use Rattle.pfc_kept_modules.proofs.Lending.{all_lent}
+use Rattle.pfc_kept_modules.proofs.Unmet.{none_open, none_met}
 use Rattle.pfc_kept_modules.proofs.Replaced.{top, others, activations_are, entries_are, IsRequeue}
 use Rattle.pfc_kept_modules.proofs.Requeued.{represents_requeued}
 
@@ -250,11 +251,21 @@ module _ (facts : Facts) (m : Machine) (c : Config) (p choice : ℕ) (level : Li
       let found = turn_there facts.tree (outer facts m c p level acting) k callee guard acting.alike.program.lawful outer_image can.there its_guard in
       (found.0, subst (λ i. slice_get (image_of facts.tree).scans i ≡ Some found.0) its_resource found.1)
 
+  -- nobody meets the process there
+  unmet : level.setting.meetings ≡ []
+  unmet =
+      let seen = acting.actor.stands.seen in
+      none_met facts acting.homes acting.entries c.store c.table p (acting.entries p) (word_of (last_activation m.stacks p)) (activity_of g c p).display
+      level.setting (block_of level) (own_view level.setting.trial level.setting.view) seen.others
+      (own_accepts level.setting.trial level.setting.accepts) level.setting.meetings seen.sees
+      (none_open (block_of level) (own_accepts level.setting.trial level.setting.accepts)
+      (ap (λ (t : Trial). (own_block t block).accepts) alone.0 ∙ may.alone) (has facts m c p level acting more).called.stands.accepts)
+
   requeue : placed ≡ true → IsRequeue facts m c p level acting more b callee number k r turn.0 formals x given below guard
   requeue place = record {
     own_trial = alone.0;
     none = alone.1;
-    unmet = may.unmet;
+    unmet = unmet;
     last = may.last;
     beside = checked.beside;
     known = known;

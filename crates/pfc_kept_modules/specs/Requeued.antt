@@ -1,5 +1,5 @@
 -- Requeues.
-use Rattle.std.specs.Prelude.{ℕ, ◌<◌, ◌≡◌, ◌^◌, true, List, [], ◌∷◌, length, All, Some, ◌⊎◌}
+use Rattle.std.specs.Prelude.{ℕ, ◌<◌, ◌≡◌, ◌^◌, true, List, ◌∷◌, length, All, Some, ◌⊎◌}
 use Rattle.std.specs.List.{slice_get}
 use Rattle.pfc_code.specs.declared.instructions.Instr.TheVariants.{RET}
 use Rattle.pfc_tree.specs.trees.Parts.{ProgramTree}
@@ -29,7 +29,7 @@ pub record MayRequeue (level : LivingLevel) (scope : ℕ) : Type 0 where
   pub guard : (t : ProgramTree) → level.setting.program ≡ program_of t → IsProgram t → (guard : Guard) × ((block_at (program_of t) scope).guard ≡ Some guard)
   pub counted : (t : ProgramTree) (k : ℕ) (b : Block) → level.setting.program ≡ program_of t → IsProgram t
       → slice_get ((program_of t).main ∷ (program_of t).blocks) k ≡ Some b → b.cells ≡ layout_cells (program_of t).state.forms b.layout
-  pub unmet : level.setting.meetings ≡ []
+  pub alone : level.setting.block.accepts ≡ 0
 
 -- How many operands a process may hold has 32 bits. So it is on every machine: its calls end for want of memory where they would need room for more.
 abbrev pub HasFewOperands : Machine → ℕ → Type 0

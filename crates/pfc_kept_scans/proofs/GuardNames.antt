@@ -1,11 +1,11 @@
 -- The names in view in the guard of the own procedure are known to a process that is at it.
-use Rattle.std.proofs.Common.{◌≡◌, ℕ, ◌==◌, Bool, true, false, ◌||◌, List, [], ◌∷◌, slice_get, Option, Some, refl, sym, ap, ◌∙◌, subst, arith, ◌⊎◌, inl, inr}
+use Rattle.std.proofs.Common.{◌≡◌, ℕ, ◌==◌, Bool, true, false, ◌||◌, List, [], ◌∷◌, slice_get, Option, Some, refl, sym, ap, ◌∙◌, subst}
 use Rattle.std.specs.Prelude.{is_some}
 use Rattle.std.specs.List.{list_any}
 use Rattle.pfc_types.specs.Blocks.{Blocks}
 use Rattle.pfc_types.specs.Scopes.{Level}
 use Rattle.pfc_types.specs.rules.Expressions.{Env}
-use Rattle.pfc_semantics.specs.Programs.{Block, Guard, Program}
+use Rattle.pfc_semantics.specs.Programs.{Block, Program}
 use Rattle.pfc_semantics.specs.Remainders.{Bar}
 use Rattle.pfc_semantics.specs.Configurations.{Config}
 use Rattle.pfc_translation.specs.Sites.{is_mains, linked}
@@ -13,7 +13,6 @@ use Rattle.pfc_stacks.specs.Refs.{word_of}
 use Rattle.pfc_stacks.specs.Stacks.{last_activation}
 use Rattle.pfc_machines.specs.declared.machine.Machine.{Machine}
 use Rattle.pfc_standing_code.specs.Settings.{Trial, of_own, IsBeside, IsInTrial}
-use Rattle.pfc_standing_code.specs.Typed.{is_seen}
 use Rattle.pfc_standing_code.specs.Words.{is_known, AreKnown, AreOwnNames, IsChecked}
 use Rattle.pfc_standing_code.specs.Performs.{IsOwnBar}
 use Rattle.pfc_standing_images.proofs.Guards.{guarded_in_resource}

@@ -20,3 +20,4 @@ pub mod Passing
 pub mod Nexts
 pub mod NextStatements
 pub mod NextDoings
+pub mod GuardNames

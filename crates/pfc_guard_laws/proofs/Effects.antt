@@ -16,7 +16,7 @@ use Rattle.pfc_world.specs.Tables.{at, some_created}
 use Rattle.pfc_world.specs.Transitions.{placed, blocked, all_started, finished}
 use Rattle.pfc_world.specs.Partners.{is_accepting, is_empty_condition, next_barred}
 use Rattle.pfc_world.specs.Rendezvous.{is_uncalled, called as called_in}
-use Rattle.pfc_world.specs.Semaphores.{counting, is_overfull, signalled}
+use Rattle.pfc_world.specs.Semaphores.{is_overfull, signalled}
 use Rattle.pfc_world.specs.Monitors.{entered}
 use Rattle.pfc_world.specs.Resources.{resource_entered}
 use Rattle.pfc_semantics.specs.Values.{Value, ordinal}
@@ -28,7 +28,7 @@ use Rattle.pfc_semantics.specs.Programs.{Guard, Block, Program, block_at}
 use Rattle.pfc_semantics.specs.Remainders.{Context, Argument, Bar, Call, Remainder, AwaitsValue, Scan, Tried, Way, leave, own as trying, in_names, scan_on, try_guard, try_other, to_procedure, to_function, to_module, to_requeue, to_process, to_entry, Action, reads, writes, turns, calls, finishes, prints, inputs, skips, asks_eof, asks_eoln, asks_clock, asks_empty, draws, joins, initials, waits, signals, delays, resumes, sleeps, meets, decides, parts, scans, bars, passes, faults}
 use Rattle.pfc_semantics.specs.Rewriting.{going, holding}
 use Rattle.pfc_semantics.specs.Configurations.{Mark, plain, of_monitor, of_resource, Caller, of_nobody, of_remainder, of_value, Activation, Activity, Hand, empty_hand, offering, asking, barred_at, Config, Effect, activity_of, goes_on, showing, value_for, number_for, written_for, all_passed, with_table, counted, with_counted, monitors_held, with_monitors, resources_held, with_resources, body_of}
-use Rattle.pfc_semantics.specs.Calls.{cells_above, new_number, new_values, new_activation, activated, result_in, unless_full, left_by}
+use Rattle.pfc_semantics.specs.Calls.{cells_above, new_number, new_values, new_activation, activated, result_in, unless_full}
 use Rattle.pfc_semantics.specs.Processes.{declaration_of, process_block, created, creates, joined, ended_activity, without_all, ended_process}
 use Rattle.pfc_semantics.specs.Semaphores.{initials_at, signals_to}
 use Rattle.pfc_semantics.specs.Monitors.{enters_monitor}

@@ -7,6 +7,7 @@ pub mod Only
 pub mod Ended
 pub mod Ending
 pub mod Quiet
+pub mod Outside
 pub mod Makers
 pub mod Numbers
 pub mod Begun

@@ -135,7 +135,7 @@ signed s None = no_code
 signed s (Some (Plus, p)) = no_code
 signed s (Some (Minus, p)) = one_is s NEG tt
 
-based : (s : Site) (v : Spot) → IsQuiet (base_code s v)
+pub based : (s : Site) (v : Spot) → IsQuiet (base_code s v)
 based s v = one_is s _ (by (refers s v))
   where
     by : (r : Bool) → IsOther (if r then REF (links_to s v.scope) (cell_of s v) else ADDR (links_to s v.scope) (cell_of s v))

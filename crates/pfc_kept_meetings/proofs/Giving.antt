@@ -186,7 +186,7 @@ module _ (facts : Facts) (m : Machine) (c : Config) (homes : Homes) (entries : E
       accept_stands g b i
       (block_laid facts.tree alike.program.lawful (first facts m c homes entries alike q level stands own there processes b x checked acc.entry i accepts).own.block b (in_blocks facts m c homes entries alike q level stands own there processes b x checked acc.entry i accepts) i of_block) of_block
 
-  stand_home : StandIn (layout_at g home) parameters from
+  pub stand_home : StandIn (layout_at g home) parameters from
   stand_home = subst (λ (l : Layout). StandIn l parameters from) (sym (its_layout facts m c homes entries alike q level stands own there processes b x checked acc.entry i accepts)) stand
 
   abbrev s0 : Setting
@@ -225,7 +225,7 @@ module _ (facts : Facts) (m : Machine) (c : Config) (homes : Homes) (entries : E
   abbrev r : Ref
   r = record { process = home.process; cell = home.cell + own_cells + layout_cells g.state.forms stand_home.before }
 
-  d_is : d ≡ layout_cells g.state.forms stand_home.before
+  pub d_is : d ≡ layout_cells g.state.forms stand_home.before
   d_is =
       ap
       (λ (y : Program).

@@ -23,3 +23,7 @@ pub mod Begins
 pub mod Untouched
 pub mod Caller
 pub mod Meets
+pub mod Few
+pub mod Live
+pub mod Together
+pub mod Joining

@@ -50,7 +50,7 @@ use Rattle.pfc_kept_meetings.proofs.Lenders.{ready_unmet}
 use Rattle.pfc_kept_meetings.proofs.Owner as owner
 use Rattle.pfc_kept_meetings.proofs.Untouched.{others_alike, main_lives}
 
-calls_unmet : (s : Stand) (p e t r : ℕ) (arms : List WaitArm) → s ≡ Waits (Call p e) t arms → is_met_by s r → ⊥
+pub calls_unmet : (s : Stand) (p e t r : ℕ) (arms : List WaitArm) → s ≡ Waits (Call p e) t arms → is_met_by s r → ⊥
 calls_unmet s p e t r arms is met = (let none : is_met_by (Waits (Call p e) t arms) r = subst (λ (y : Stand). is_met_by y r) is met in none)
 
 module _ (facts : Facts) (m : Machine) (c : Config) (p : ℕ) (level : LivingLevel) (acting : IsActing facts m c p level) (own : level.setting.trial ≡ of_own)

@@ -1,11 +1,11 @@
 -- An accept with all of its callers.
-use Rattle.std.proofs.Common.{◌≡◌, ◌≢◌, ℕ, zero, suc, ◌+◌, ◌^◌, ◌<◌, ◌≤◌, ℤ, true, false, List, [], ◌∷◌, length, take, drop, reverse, set, get_or, slice_get, Option, Some, None, Ok, refl, sym, ap, ap₂, ◌∙◌, subst, arith}
+use Rattle.std.proofs.Common.{◌≡◌, ℕ, ◌+◌, ◌^◌, ◌<◌, ◌≤◌, ℤ, true, List, [], length, take, drop, reverse, set, slice_get, Option, Some, Ok, refl, sym, ap, ap₂, ◌∙◌, subst, arith}
 use Rattle.std.proofs.lemmas.List.{reverse-reverse, length-set, get_or-set_other}
 use Rattle.pfc_code.specs.declared.instructions.Instr.TheVariants.{ACC}
-use Rattle.pfc_state.specs.Stands.{Is_idle, Is_ready}
+use Rattle.pfc_state.specs.Stands.{Is_idle}
 use Rattle.pfc_world.specs.Partners.{caller}
 use Rattle.pfc_world.specs.Rendezvous.{taken}
-use Rattle.pfc_world.specs.Tables.{Table, at}
+use Rattle.pfc_world.specs.Tables.{at}
 use Rattle.pfc_world.specs.Transitions.{rested}
 use Rattle.pfc_semantics.specs.Displays.{Frame, frame_of}
 use Rattle.pfc_semantics.specs.Values.{Value}
@@ -13,7 +13,7 @@ use Rattle.pfc_semantics.specs.Programs.{Block, Program}
 use Rattle.pfc_semantics.specs.Remainders.{Action, Context, Accepting, Offer, Open, Remainder, to_accept, meets}
 use Rattle.pfc_semantics.specs.Rendezvous.{taken_from, asked}
 use Rattle.pfc_semantics.specs.Store.{Store, values_in, with_values}
-use Rattle.pfc_semantics.specs.Configurations.{Activity, Config, Effect, Hand, activity_of}
+use Rattle.pfc_semantics.specs.Configurations.{Config, Hand, activity_of}
 use Rattle.pfc_translation.specs.Sites.{is_accept}
 use Rattle.pfc_translation.specs.Selects.{accept_cell, accept_cells}
 use Rattle.pfc_stacks.specs.Stacks.{Stack, Stacks, no_stack, stack_of, cells_of, operands_of, written}
@@ -21,7 +21,6 @@ use Rattle.pfc_stacks.specs.Effects.{moved}
 use Rattle.pfc_stacks.specs.Conditions.{AreLive}
 use Rattle.pfc_machines.specs.declared.machine.Machine.{Machine}
 use Rattle.pfc_machines.specs.declared.descriptors.Descriptor.{Descriptor}
-use Rattle.pfc_machines.specs.Actions.{Effect as MachineEffect}
 use Rattle.pfc_machines.specs.Descriptors.{descriptor_of}
 use Rattle.pfc_machines.specs.Quiet.{left_by}
 use Rattle.pfc_meeting_actions.specs.Meetings.{parameter_cell, arguments_taken, CanMeet}

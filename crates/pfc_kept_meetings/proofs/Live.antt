@@ -1,64 +1,29 @@
 -- The cells of an accept's parameters are there.
-use Rattle.std.proofs.Common.{◌≡◌, ◌≢◌, ℕ, ◌+◌, ◌*◌, ◌^◌, ◌<◌, ◌≤◌, ◌==◌, ℤ, pos, Bool, true, false, if◌then◌else◌, List, [], ◌∷◌, ◌++◌, length, take, get_or, set, slice_get, Option, Some, None, refl, sym, ap, ap₂, ◌∙◌, subst, arith, length-append, take_at, ◌⊎◌, inl, inr}
-use Rattle.std.proofs.lemmas.List.{length-set}
-use Rattle.pfc_types.specs.Scopes.{scope_at}
-use Rattle.pfc_types.specs.declared.types.TypeId.{TypeId}
-use Rattle.pfc_types.specs.declared.scope.Meaning.TheVariants.{Variable}
-use Rattle.pfc_semantics.specs.Values.{Value, Location, ordinal, points}
-use Rattle.pfc_semantics.specs.Displays.{Frame, Display, frame_of, accept_frames}
-use Rattle.pfc_semantics.specs.Layouts.{Layout, laid_names, sub_with}
-use Rattle.pfc_types.specs.Blocks.{entry_at}
-use Rattle.pfc_types.specs.declared.heads.Formal.{Formal}
-use Rattle.pfc_types.specs.declared.heads.SubHead.{SubHead}
-use Rattle.pfc_types.specs.rules.Declarations.{scope_cells}
-use Rattle.pfc_call_laws.specs.Blocks.{AreLaidAs}
-use Rattle.pfc_call_laws.specs.Calls.{HasNoObjects}
-use Rattle.pfc_semantics.specs.Programs.{Block, Program, block_at, layout_cells}
+use Rattle.std.proofs.Common.{◌≡◌, ℕ, ◌+◌, ◌<◌, ◌≤◌, ℤ, true, List, [], ◌∷◌, ◌++◌, length, Some, sym, ap, ◌∙◌, subst, arith, length-append}
+use Rattle.pfc_semantics.specs.Layouts.{Layout}
+use Rattle.pfc_semantics.specs.Programs.{Block, Program, layout_cells}
 use Rattle.pfc_semantics.specs.Remainders.{Context, Accepting}
-use Rattle.pfc_semantics.specs.Rendezvous.{taken_from}
-use Rattle.pfc_semantics.specs.Store.{Store, values_in, with_values}
-use Rattle.pfc_semantics.specs.Configurations.{Activation, Config, activity_of}
-use Rattle.pfc_translation.specs.Sites.{Site, is_mains, level_of, is_accept, before_accept, laid_before, layout_with, links_to, place_of}
-use Rattle.pfc_translation.specs.Selects.{accept_cell, accept_cells}
-use Rattle.pfc_stacks.specs.declared.refs.Ref.{Ref}
+use Rattle.pfc_semantics.specs.Store.{values_in}
+use Rattle.pfc_semantics.specs.Configurations.{Config, activity_of}
+use Rattle.pfc_translation.specs.Sites.{is_accept}
 use Rattle.pfc_stacks.specs.Conditions.{AreLive}
-use Rattle.pfc_stacks.specs.Refs.{word_of}
-use Rattle.pfc_stacks.specs.Stacks.{Stack, Stacks, stack_of, cells_of, own_cells, last_activation, written}
+use Rattle.pfc_stacks.specs.Stacks.{cells_of}
 use Rattle.pfc_cells.specs.Homes.{Home, Homes, layout_at}
-use Rattle.pfc_cells.specs.Memory.{AreCells, Entry, Entries, Lives, ProcessIs, CellsAre, MemoryIs}
-use Rattle.pfc_cells.proofs.Stores.{values_kept}
+use Rattle.pfc_cells.specs.Memory.{Entry, Entries, ProcessIs}
 use Rattle.pfc_machines.specs.declared.machine.Machine.{Machine}
 use Rattle.pfc_machines.specs.Descriptors.{descriptor_of}
 use Rattle.pfc_meeting_actions.specs.Meetings.{parameter_cell}
-use Rattle.pfc_standing_code.specs.Settings.{View, Setting, of_own, site_of}
-use Rattle.pfc_standing_code.specs.Typed.{variables_by, variables_of}
+use Rattle.pfc_standing_code.specs.Settings.{of_own}
 use Rattle.pfc_standing_code.specs.TypedStatements.{AcceptsEntry}
-use Rattle.pfc_standing_code.specs.Words.{IsChecked, is_known}
-use Rattle.pfc_views.specs.Views.{first_number, block_site, AreFew, AreObjects}
-use Rattle.pfc_views.proofs.Living.{lives}
-use Rattle.pfc_stack_laws.specs.Standing.{HoldStore}
-use Rattle.pfc_stack_laws.proofs.Moves.{same_cells}
-use Rattle.pfc_call_laws.proofs.Calling.{is_addressed}
-use Rattle.pfc_call_laws.proofs.Displays.{is_other}
-use Rattle.pfc_call_laws.proofs.Places.{or_left}
-use Rattle.pfc_nesting_laws.proofs.Programs.{is_laid as block_laid}
-use Rattle.pfc_meeting_laws.specs.Meetings.{display_of, StandIn}
-use Rattle.pfc_meeting_laws.proofs.Frames.{frame_of_accept}
-use Rattle.pfc_meeting_laws.proofs.Laid.{accept_stands}
-use Rattle.pfc_meeting_laws.proofs.Meetings.{held}
-use Rattle.pfc_meeting_laws.proofs.Taking.{taken_length, taken_there, values_now, values_count}
+use Rattle.pfc_standing_code.specs.Words.{IsChecked}
 use Rattle.pfc_representation.specs.Levels.{Facts, program_in, LivingLevel}
 use Rattle.pfc_representation.specs.Hands.{laid_parameters, entry_formals}
 use Rattle.pfc_representation.specs.Holding.{holders_in}
 use Rattle.pfc_representation.specs.Machines.{AreAlike}
 use Rattle.pfc_representation.specs.Processes.{IsAtLevel}
-use Rattle.pfc_kept_messages.proofs.Sight.{same_program}
-use Rattle.pfc_kept_messages.proofs.Stacks.{changed_cells}
 use Rattle.pfc_kept_meetings.specs.Owners.{HasTypedEntries}
 use Rattle.pfc_kept_meetings.specs.Accepts.{HasProcesses, KeepsAccepts}
-use Rattle.pfc_kept_meetings.proofs.Owner as owner
-use Rattle.pfc_kept_meetings.proofs.Owner.{known, only, first, child, of_process, process_is, formals_are, scopes, own_not_mains, own_known, in_blocks, links_own, its_layout, living, block_is}
-use Rattle.pfc_kept_meetings.proofs.Parameters.{names_laid, names_cells, taken_other}
+use Rattle.pfc_kept_meetings.proofs.Owner.{only, first}
 use Rattle.pfc_stacks.specs.Conditions.{AreLive}
 use Rattle.pfc_cells.proofs.Blocks.{block_length}
 use Rattle.pfc_call_laws.proofs.Layouts.{layout_joined}

@@ -1,6 +1,5 @@
 -- A level with another view, other accepts and other meetings, while all else of it is as it was.
-use Rattle.std.proofs.Common.{◌≡◌, ℕ, ℤ, List, [], ◌∷◌, ◌++◌, length, Some, refl, sym, ap, ◌∙◌}
-use Rattle.pfc_code.specs.declared.images.Block.{Block as CodeBlock}
+use Rattle.std.proofs.Common.{◌≡◌, ℕ, ℤ, List, [], ◌∷◌, ◌++◌, length}
 use Rattle.pfc_world.specs.Tables.{Table}
 use Rattle.pfc_semantics.specs.Configurations.{Activation}
 use Rattle.pfc_semantics.specs.Displays.{Display}
@@ -9,7 +8,7 @@ use Rattle.pfc_semantics.specs.Store.{Store}
 use Rattle.pfc_cells.specs.Homes.{Homes}
 use Rattle.pfc_cells.specs.Memory.{Entry, Entries}
 use Rattle.pfc_machines.specs.Communications.{Communicating}
-use Rattle.pfc_standing_code.specs.Settings.{View, Setting, IsBeside, same_block, both_mains}
+use Rattle.pfc_standing_code.specs.Settings.{View, IsBeside, same_block, both_mains}
 use Rattle.pfc_representation.specs.Levels.{Facts, LivingLevel, HasSetting, SeesWith, SeesThrough}
 use Rattle.pfc_representation.specs.Rooms.{HasRoom}
 use Rattle.pfc_representation.specs.Callers.{Linkage, StandsFor, IsMadeOver, is_unmade, IsWithin, IsFirst, IsCalled, AreCallers}

@@ -1,73 +1,51 @@
 -- The owner and all others, when an accept meets a caller that waits.
-use Rattle.std.proofs.Common.{◌≡◌, ◌≢◌, ℕ, zero, suc, ◌+◌, ◌^◌, ◌<◌, ◌≤◌, ◌==◌, ℤ, pos, Bool, true, false, List, [], ◌∷◌, ◌++◌, length, take, drop, reverse, set, get_or, slice_get, Option, Some, None, Ok, refl, sym, ap, ap₂, ◌∙◌, subst, arith, append_assoc, ◌⊎◌, inl, inr}
-use Rattle.std.proofs.lemmas.List.{get_or-set_same, get_or-set_other, length-set, length-reverse, reverse-reverse}
+use Rattle.std.proofs.Common.{◌≡◌, ◌≢◌, ℕ, zero, suc, ◌+◌, ◌<◌, ◌≤◌, ℤ, pos, true, List, [], ◌∷◌, ◌++◌, length, set, get_or, slice_get, Some, None, refl, sym, ap, ◌∙◌, subst, arith, ◌⊎◌, inl, inr}
+use Rattle.std.proofs.lemmas.List.{get_or-set_same, get_or-set_other, length-set}
 use Rattle.pfc_types.specs.declared.types.TypeId.{TypeId}
 use Rattle.pfc_types.specs.declared.scope.Meaning.TheVariants.{Variable}
-use Rattle.pfc_state.specs.Stands.{Stand, Is_idle, Is_ready, Waits, is_unfinished, ticket_at, ticket_of, due_of}
-use Rattle.pfc_state.specs.declared.waits.Arm.{Arm as WaitArm}
+use Rattle.pfc_state.specs.Stands.{Stand, Is_ready, Waits, is_unfinished, ticket_of, due_of}
 use Rattle.pfc_state.specs.declared.waits.Why.TheVariants.{Call, Meeting, Barred}
 use Rattle.pfc_world.specs.Partners.{caller}
-use Rattle.pfc_world.specs.Rendezvous.{taken}
 use Rattle.pfc_world.specs.Tables.{Table, at}
-use Rattle.pfc_world.specs.Transitions.{placed, ticked}
-use Rattle.pfc_semantics.specs.Values.{Value, Location, ordinal, points}
+use Rattle.pfc_world.specs.Transitions.{ticked}
+use Rattle.pfc_semantics.specs.Values.{Location, ordinal, points}
 use Rattle.pfc_semantics.specs.Programs.{Program, Block}
 use Rattle.pfc_semantics.specs.Remainders.{Context, Accepting, Open, Remainder}
 use Rattle.pfc_semantics.specs.Store.{Store, values_in}
 use Rattle.pfc_semantics.specs.Configurations.{empty_hand, Activity, Config, activity_of, nobody, at_work, Activation}
 use Rattle.pfc_translation.specs.Sites.{is_accept}
-use Rattle.pfc_translation.specs.Selects.{accept_cell, accept_cells}
 use Rattle.pfc_stacks.specs.declared.refs.Ref.{Ref}
-use Rattle.pfc_stacks.specs.Stacks.{Stack, Stacks, no_stack, stack_of, cells_of, operands_of, written, last_activation}
-use Rattle.pfc_stacks.specs.Effects.{moved}
-use Rattle.pfc_cells.specs.Memory.{AreCells, Lives, Entry, Entries, MemoryIs}
-use Rattle.pfc_cells.proofs.Blocks.{block_length}
-use Rattle.pfc_cells.proofs.Stores.{values_kept}
+use Rattle.pfc_stacks.specs.Stacks.{Stacks, stack_of, last_activation}
+use Rattle.pfc_cells.specs.Memory.{Entry}
 use Rattle.pfc_machines.specs.declared.machine.Machine.{Machine}
 use Rattle.pfc_machines.specs.declared.descriptors.Descriptor.{Descriptor}
-use Rattle.pfc_machines.specs.Descriptors.{descriptor_of, descriptor_by, met, meeting}
-use Rattle.pfc_meeting_actions.specs.Meetings.{parameter_cell}
-use Rattle.pfc_standing_code.specs.Settings.{of_own, site_of, View, Trial, Setting, of_turn, of_another}
+use Rattle.pfc_machines.specs.Descriptors.{descriptor_of, descriptor_by, meeting}
+use Rattle.pfc_standing_code.specs.Settings.{of_own, View, Trial}
 use Rattle.pfc_standing_code.specs.TypedStatements.{AcceptsEntry}
 use Rattle.pfc_standing_code.specs.Words.{IsChecked}
-use Rattle.pfc_views.specs.Keeping.{IsLike}
-use Rattle.pfc_representation.specs.Levels.{Facts, program_in, LivingLevel, is_met_by, MayKeep, block_of, DoesOn, SeesThrough, IsSeenBy}
-use Rattle.pfc_representation.specs.Hands.{laid_parameters, entry_formals, AreKept, shows_nothing}
-use Rattle.pfc_representation.specs.Holding.{Holders, holders_in, waits_for_monitor, waits_for_resource, Holds, is_quiet, waits_at_coend}
-use Rattle.pfc_representation.specs.Keeping.{IsSameStack, IsLender, IsUntouched, IsLeftAlone}
+use Rattle.pfc_representation.specs.Levels.{Facts, program_in, LivingLevel, is_met_by, block_of, DoesOn, SeesThrough, IsSeenBy}
+use Rattle.pfc_representation.specs.Hands.{shows_nothing}
+use Rattle.pfc_representation.specs.Holding.{Holders, holders_in, Holds, is_quiet, waits_at_coend}
+use Rattle.pfc_representation.specs.Keeping.{IsSameStack, IsUntouched}
 use Rattle.pfc_representation.specs.Processes.{RepresentsProcess, AreMet, IsAtLevel, IsUnderWay}
-use Rattle.pfc_representation.specs.Acting.{IsActing, IsActor}
-use Rattle.pfc_kept_object_actions.proofs.Change.{row_here, row_there, within_rows}
-use Rattle.pfc_kept_object_actions.proofs.Finding.{first_has}
-use Rattle.pfc_kept_messages.proofs.Held.{WaitsForNone}
-use Rattle.pfc_kept_messages.proofs.Passing.{LiesOver, lies_over}
-use Rattle.pfc_kept_messages.proofs.Stacks.{written_same, changed_cells, written_alike}
+use Rattle.pfc_representation.specs.Acting.{IsActing}
 use Rattle.pfc_kept_meetings.specs.Owners.{HasTypedEntries}
 use Rattle.pfc_kept_meetings.specs.Accepts.{HasProcesses, KeepsAccepts, AreApart}
-use Rattle.pfc_kept_meetings.proofs.Caller.{calling, IsAsking, is_asking, asked_is, met_kept}
-use Rattle.pfc_kept_meetings.proofs.Lenders.{ready_unmet, met_stand, met_by_one, HasNot, lenders_stay, seen_less, callers_less}
-use Rattle.pfc_kept_meetings.proofs.Untouched.{others_alike, main_lives, not_kept}
-use Rattle.std.proofs.lemmas.Option.{slice_get-get_or}
-use Rattle.pfc_semantics.specs.Displays.{Display}
+use Rattle.pfc_kept_meetings.proofs.Lenders.{ready_unmet}
+use Rattle.pfc_kept_meetings.proofs.Untouched.{not_kept}
 use Rattle.pfc_semantics.specs.Rewriting.{Doing, going}
 use Rattle.pfc_stacks.specs.Refs.{word_of}
-use Rattle.pfc_cells.specs.Homes.{Homes}
 use Rattle.pfc_machines.specs.Communications.{Communicating}
 use Rattle.pfc_standing_code.specs.Performs.{own_view, own_accepts, own_block, Performs}
-use Rattle.pfc_stack_laws.proofs.Moves.{hold_moved}
 use Rattle.pfc_representation.specs.Rooms.{own_address}
-use Rattle.pfc_representation.specs.Callers.{IsWithin, AreCallers, IsFirst, StandsFor}
+use Rattle.pfc_representation.specs.Callers.{IsWithin, AreCallers, IsFirst}
 use Rattle.pfc_representation.specs.Trials.{TrialIs, HasTried}
 use Rattle.pfc_representation.proofs.Kept.{process_still}
-use Rattle.pfc_representation.proofs.Quiet.{actor_moved, others_moved}
-use Rattle.pfc_kept_own_actions.proofs.Arrived.{has_setting, hold_store, stack_there}
-use Rattle.pfc_kept_object_actions.specs.Freed.{IsFreed, StandsStill}
-use Rattle.pfc_kept_object_actions.proofs.Freed.{process_freed}
 use Rattle.pfc_kept_messages.proofs.Others.{IsBarredStand, lender_waits}
 use Rattle.pfc_kept_messages.proofs.Waiting.{not_empty}
 use Rattle.pfc_kept_messages.proofs.Whole.{IsNewStand, IsBehind}
 use Rattle.pfc_kept_meetings.proofs.Tried.{tried_barred}
-use Rattle.pfc_kept_meetings.proofs.Settled.{settled, beside_back, through_then, callers_then, within_then, first_then, beside_then}
+use Rattle.pfc_kept_meetings.proofs.Settled.{settled, beside_back, through_then, within_then, first_then, beside_then}
 use Rattle.pfc_semantics.specs.Rendezvous.{meeting_of}
 use Rattle.pfc_following_source.specs.Behind.{BehindAccept}
 use Rattle.pfc_kept_meetings.proofs.Given.{may_lend}

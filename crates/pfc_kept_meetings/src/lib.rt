@@ -6,4 +6,6 @@
 
 mod laws;
 
-pub use laws::{accepts_are_kept, ends_of_accepts_are_kept, unmet_accepts_are_kept, unmet_calls_are_kept};
+pub use laws::{
+    accepts_are_kept, ends_of_accepts_are_kept, unmet_accepts_are_kept, unmet_calls_are_kept,
+};

@@ -24,3 +24,7 @@ pub mod Untouched
 pub mod Caller
 pub mod Meets
 pub mod Told
+pub mod Few
+pub mod Live
+pub mod Together
+pub mod Joining

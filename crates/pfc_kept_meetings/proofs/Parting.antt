@@ -14,7 +14,7 @@ use Rattle.pfc_semantics.specs.Programs.{Block, Program}
 use Rattle.pfc_semantics.specs.Rewriting.{Doing}
 use Rattle.pfc_semantics.specs.Configurations.{Activity, Config, nobody, activity_of, at_work}
 use Rattle.pfc_stacks.specs.Refs.{word_of}
-use Rattle.pfc_stacks.specs.Stacks.{Stack, Stacks, no_stack, stack_of, operands_of, last_activation}
+use Rattle.pfc_stacks.specs.Stacks.{Stack, Stacks, no_stack, stack_of, last_activation}
 use Rattle.pfc_stacks.specs.Effects.{moved}
 use Rattle.pfc_cells.specs.Homes.{Homes}
 use Rattle.pfc_cells.specs.Memory.{Entry, Entries, MemoryIs}
@@ -27,18 +27,18 @@ use Rattle.pfc_standing_code.specs.Performs.{own_view, own_accepts, own_block}
 use Rattle.pfc_stack_laws.proofs.Moves.{hold_moved}
 use Rattle.pfc_representation.specs.Levels.{Facts, program_in, LivingLevel, block_of, is_met_by, DoesOn, SeesThrough, IsSeenBy}
 use Rattle.pfc_representation.specs.Rooms.{own_address}
-use Rattle.pfc_representation.specs.Callers.{IsWithin, AreCallers}
+use Rattle.pfc_representation.specs.Callers.{IsWithin}
 use Rattle.pfc_representation.specs.Hands.{shows_nothing}
 use Rattle.pfc_representation.specs.Holding.{Holders, holders_in, Holds, waits_for_monitor, waits_for_resource, is_quiet, waits_at_coend}
 use Rattle.pfc_call_laws.proofs.Places.{or_right}
 use Rattle.pfc_representation.specs.Trials.{TrialIs, HasTried}
 use Rattle.pfc_representation.specs.Processes.{AreMet, IsAtLevel, IsUnderWay, RepresentsProcess}
-use Rattle.pfc_representation.specs.Keeping.{IsSameStack, IsLender, IsUntouched, IsLeftAlone}
+use Rattle.pfc_representation.specs.Keeping.{IsSameStack, IsLender, IsUntouched}
 use Rattle.pfc_representation.specs.Acting.{IsActor, IsActing}
 use Rattle.pfc_representation.proofs.Kept.{process_still}
 use Rattle.pfc_representation.proofs.Quiet.{actor_moved, others_moved}
 use Rattle.pfc_kept_own_actions.proofs.Arrived.{has_setting, hold_store, stack_there}
-use Rattle.pfc_kept_object_actions.specs.Freed.{IsFreed, StandsStill}
+use Rattle.pfc_kept_object_actions.specs.Freed.{IsFreed}
 use Rattle.pfc_kept_object_actions.proofs.Change.{row_here, row_there, within_rows}
 use Rattle.pfc_kept_object_actions.proofs.Freed.{process_freed}
 use Rattle.pfc_kept_messages.proofs.Others.{IsBarredStand}

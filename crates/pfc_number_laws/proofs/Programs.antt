@@ -12,10 +12,9 @@ use Rattle.pfc_types.specs.rules.Whole.{finished}
 use Rattle.pfc_semantics.specs.Layouts.{Layout, main_layout, sub_layout_at, process_layout}
 use Rattle.pfc_semantics.specs.Programs.{Block, Program, Guard, block_of, guard_of, part_blocks, parts_blocks, sub_blocks, module_blocks, process_blocks, init_block, module_inits, part_inits, parts_inits, env_of_main, program_of}
 use Rattle.pfc_run_invariants.specs.Fitting.{FitNames}
-use Rattle.pfc_run_invariants.specs.Written.{FitsBody}
-use Rattle.pfc_number_laws.specs.Written.{any, HasBody, FitsKind, FitsEnding, FitsPart, FitParts, FitsSub, FitsModule, FitsProcess, FitsTree}
+use Rattle.pfc_number_laws.specs.Written.{HasBody, FitsKind, FitsEnding, FitsPart, FitParts, FitsSub, FitsModule, FitsProcess, FitsTree}
 use Rattle.pfc_number_laws.specs.Objects.{AreFew}
-use Rattle.pfc_run_invariants.specs.Configurations.{FitsGuard, FitsBlock, FitsProgram}
+use Rattle.pfc_run_invariants.specs.Configurations.{FitsGuard, FitsBlock}
 use Rattle.pfc_number_laws.specs.Numbers.{numbers_of, KnowsConstants, HasNumbers}
 use Rattle.pfc_run_invariants.proofs.Lists.{all_append, all_push}
 use Rattle.pfc_number_laws.proofs.Objects.{firsts_fit, variables_fit}

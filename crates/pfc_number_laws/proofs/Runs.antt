@@ -1,7 +1,6 @@
 -- Wherever a run comes all numbers have 32 bits.
-use Rattle.std.proofs.Common.{◌≡◌, ℕ, ◌==◌, Bool, true, false, if◌then◌else◌, List, [], ◌∷◌}
+use Rattle.std.proofs.Common.{ℕ, ◌==◌, Bool, true, false, if◌then◌else◌, List, [], ◌∷◌}
 use Rattle.std.specs.List.{AllByRecursion}
-use Rattle.pfc_types.specs.Blocks.{State}
 use Rattle.pfc_semantics.specs.Programs.{Block, Program, found_block, block_at}
 use Rattle.pfc_semantics.specs.Remainders.{Action, initials, delays}
 use Rattle.pfc_semantics.specs.Configurations.{Config, start}
@@ -10,9 +9,8 @@ use Rattle.pfc_semantics.specs.Time.{settled_config}
 use Rattle.pfc_run_invariants.specs.Asked.{IsClosed}
 use Rattle.pfc_run_invariants.specs.Inputs.{AreBytes}
 use Rattle.pfc_run_invariants.specs.Remainders.{FitsAction}
-use Rattle.pfc_run_invariants.specs.Configurations.{IsStable, marks_of}
+use Rattle.pfc_run_invariants.specs.Configurations.{IsStable}
 use Rattle.pfc_run_invariants.proofs.Runs.{settled_fits, start_fits, next_of_fits, step_fits}
-use Rattle.pfc_run_invariants.proofs.Steps.{marks_at}
 use Rattle.pfc_number_laws.specs.Numbers.{numbers_of, KnowsConstants, HasNumbers, AreSmall}
 use Rattle.pfc_number_laws.specs.Runs.{ComesTo, at_first, acts, TakesSmall}
 

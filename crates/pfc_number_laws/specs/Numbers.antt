@@ -1,5 +1,4 @@
 -- That numbers have 32 bits, as an invariant of runs.
-use Rattle.std.specs.Prelude.{ℕ}
 use Rattle.std.specs.List.{AllByRecursion}
 use Rattle.pfc_semantics.specs.Programs.{Block, Program}
 use Rattle.pfc_semantics.specs.Configurations.{Config}

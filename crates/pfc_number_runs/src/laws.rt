@@ -8,7 +8,7 @@ ghost use Rattle.pfc_semantics.specs.Programs.{program_of};
 ghost use Rattle.pfc_semantics.specs.Configurations.{start};
 ghost use Rattle.pfc_simulation.specs.Reached.{TakeNumbers};
 ghost use Rattle.pfc_number_laws.specs.Written.{FitsTree};
-ghost use Rattle.pfc_number_laws.specs.Configurations.{AreBytes};
+ghost use Rattle.pfc_run_invariants.specs.Inputs.{AreBytes};
 
 /// From the start of a program in which no static rule is broken and whose text writes numbers of 32 bits, over an input of bytes, every action takes numbers
 /// of 32 bits as counts and as ranks.

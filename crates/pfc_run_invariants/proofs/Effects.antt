@@ -48,7 +48,6 @@ use Rattle.pfc_run_invariants.proofs.Steps.{FitsEffect, effect_either, tabled, w
 use Rattle.pfc_run_invariants.proofs.Communications.{FitsPartner, partner_fits, called_at_fits, meets_fits, decides_fits}
 use Rattle.pfc_run_invariants.specs.Inputs.{AreBytes}
 use Rattle.pfc_run_invariants.specs.Asked.{Asked, module_mark, IsClosed}
-use Rattle.pfc_state.specs.Stands.{Is_ready}
 
 -- behind a line there are bytes still
 line_bytes : (bytes : List ℕ) → AreBytes bytes → AreBytes (behind_line bytes)

@@ -1,9 +1,9 @@
 -- Wherever a run comes, it is so.
-use Rattle.std.proofs.Common.{◌≡◌, ℕ, ◌+◌, Bool, true, false, if◌then◌else◌, List, [], ◌∷◌, map, Some, Ok, Err, refl}
+use Rattle.std.proofs.Common.{ℕ, ◌+◌, Bool, true, false, if◌then◌else◌, List, [], ◌∷◌, map, Some, Ok, Err}
 use Rattle.std.specs.Prelude.{◌==◌, ◌&&◌}
 use Rattle.std.specs.List.{AllByRecursion}
-use Rattle.pfc_state.specs.Stands.{Stand, Is_ready, may_end}
-use Rattle.pfc_world.specs.Tables.{Table, at}
+use Rattle.pfc_state.specs.Stands.{Stand, may_end}
+use Rattle.pfc_world.specs.Tables.{Table}
 use Rattle.pfc_world.specs.Transitions.{ticked}
 use Rattle.pfc_world.specs.Settling.{may_all_end, settled}
 use Rattle.pfc_world.specs.Terminating.{wholly_settled}

@@ -105,7 +105,7 @@ module _ (g : Program) (scoped : IsScoped g) where
   named_at p ms b i place (Process n) same here = here
   named_at p ms b i place (Sub n) same here =
       λ child k monitor.
-          absurd (scoped.subs n k (subst (λ (blocks : Blocks). IsMonitor g (sub_at blocks n).scope k) same monitor))
+      absurd (scoped.subs n k (subst (λ (blocks : Blocks). IsMonitor g (sub_at blocks n).scope k) same monitor))
   named_at p ms b i place m same here = λ child n monitor. absurd (monitor.inner refl)
 
   found_at_scope :

@@ -67,7 +67,6 @@ line_fits true [] all = tt
 line_fits false [] all = tt
 line_fits whole (b ∷ rest) all = line_bytes (b ∷ rest) all
 
-
 same_or : (n p : ℕ) → (n ≡ p) ⊎ (n ≢ p)
 same_or n p = grind arith
 

@@ -97,7 +97,7 @@ module _ (law : Asked) (closed : IsClosed law) (program : FitsProgram law) where
         doing = λ lives. (
           closed.main,
           initialising_fits g.modules (in_names g.main.env (body_of g.main)) program.modules closed.inits
-          (closed.main, body_fits law closed program 0 (plain ∷ []) g.main program.main),
+              (closed.main, body_fits law closed program 0 (plain ∷ []) g.main program.main),
         );
         activations = (tt, tt);
         hand = tt;

@@ -19,13 +19,15 @@ use Rattle.pfc_semantics.specs.Displays.{Spot}
 use Rattle.pfc_semantics.specs.Configurations.{Mark, plain, Activation, Config, activity_of}
 use Rattle.pfc_semantics.specs.Monitors.{is_in, is_inside}
 use Rattle.pfc_semantics.specs.Steps.{next_of}
+use Rattle.pfc_state.specs.Stands.{Stand, Is_ready, is_unfinished}
+use Rattle.pfc_world.specs.Tables.{at}
 use Rattle.pfc_run_invariants.specs.Asked.{IsClosed}
 use Rattle.pfc_run_invariants.specs.Fitting.{FitNames}
 use Rattle.pfc_run_invariants.specs.Remainders.{FitsAction}
 use Rattle.pfc_run_invariants.specs.Written.{FitStmts}
-use Rattle.pfc_inside_laws.specs.Configurations.{FitsGuard, FitsBlock, FitsProgram, marks_of}
+use Rattle.pfc_run_invariants.specs.Configurations.{FitsGuard, FitsBlock, FitsProgram, marks_of, IsStable}
 use Rattle.pfc_inside_laws.specs.Inside.{IsMonitor, IsNoMonitor, IsOf, of_main, of_module, of_block, of_guard, in_accept, IsScoped, IsWithin, inside_of, FitsTest, HasText, AreInside, IsAlive}
-use Rattle.pfc_inside_laws.proofs.Runs.{next_of_fits}
+use Rattle.pfc_run_invariants.proofs.Runs.{next_of_fits}
 
 -- ## Names that are found
 
@@ -156,9 +158,27 @@ module _ (g : Program) (scoped : IsScoped g) where
         );
         guards = λ p ms env is. (is.0, λ child i n there monitor. absurd (is.1 i n there monitor));
         begins = λ p n. (block_of _, λ child i k there monitor. absurd (scoped.processes n i k there monitor));
+        idle = λ p n lives. absurd (lives refl);
+        nobody = λ p lives. absurd (lives refl);
+        living = λ c p acting. acting.1;
         main = (of_main, λ child. absurd (child refl));
         inits =
             all_from (λ (b : Block). Is 0 (plain ∷ []) b.env) g.modules (λ k b is. (of_module k b is, λ child. absurd (child refl)));
+      }
+
+  -- who is ready is not created anew
+  not_created : (s : Stand) → s ≡ Is_ready → is_unfinished s ≡ false → ⊥
+  not_created s ready h = no (sym (ap is_unfinished ready) ∙ h)
+    where
+      no : true ≡ false → ⊥
+      no e = cc
+
+  pub stable : IsStable (inside_of g)
+  stable =
+      record {
+        all = λ lives activations. absurd (lives refl);
+        ends = λ p ms doing lives fits. absurd (lives refl);
+        anew = λ c p old new env k acting finished known left. absurd (not_created (at c.table.rows p) acting.0 finished);
       }
 
   -- ## The program

@@ -1,5 +1,1 @@
-pub mod Steps
-pub mod Communications
-pub mod Effects
-pub mod Runs
 pub mod Inside

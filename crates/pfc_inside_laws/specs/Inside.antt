@@ -1,6 +1,8 @@
 -- Who performs the text of a monitor is inside it.
 use Rattle.std.specs.Prelude.{◌≡◌, ◌≢◌, ℕ, ◌==◌, ◌<◌, true, false, List, [], length, Option, Some, None}
 use Rattle.std.specs.List.{list_any, slice_get}
+use Rattle.pfc_state.specs.Stands.{Is_ready}
+use Rattle.pfc_world.specs.Tables.{at}
 use Rattle.pfc_tree.specs.Symbols.{Text}
 use Rattle.pfc_types.specs.Scopes.{Level, meaning_of, meaning_in, scope_at}
 use Rattle.pfc_types.specs.Blocks.{sub_at, module_at}
@@ -14,7 +16,7 @@ use Rattle.pfc_semantics.specs.Monitors.{is_in}
 use Rattle.pfc_run_invariants.specs.Asked.{Asked, module_mark}
 use Rattle.pfc_run_invariants.specs.Fitting.{FitNames, FitList}
 use Rattle.pfc_run_invariants.specs.Written.{FitsExpr, FitStmts}
-use Rattle.pfc_inside_laws.specs.Configurations.{FitsConfig}
+use Rattle.pfc_run_invariants.specs.Configurations.{FitsConfig}
 
 -- the scope i is that of a monitor, which has the number n among monitors
 pub record IsMonitor (g : Program) (i n : ℕ) : Type 0 where
@@ -71,6 +73,8 @@ inside_of g =
       spot = λ p ms i. (p ≢ 0) → (n : ℕ) → IsMonitor g i n → list_any (is_in n) ms ≡ true;
       accept = IsNoMonitor g;
       guard = λ env. IsOf g env × SeesNoMonitor g env;
+      alive = λ activations. activations ≢ [];
+      acts = λ c p. (at c.table.rows p ≡ Is_ready) × ((activity_of g c p).activations ≢ []);
     }
 
 -- ## The text

@@ -1,2 +1,1 @@
-pub mod Configurations
 pub mod Inside

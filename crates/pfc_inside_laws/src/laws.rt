@@ -17,7 +17,7 @@ ghost use Rattle.pfc_inside_laws.specs.Inside.{IsMonitor, IsScoped, HasText, Are
 /// performs. So it is inside the monitor whose condition it names where it resumes.
 pub fn who_performs_is_inside()
     ensures start { (g : Program) (input : List ℕ) (seed : ℕ) → IsScoped g → HasText g → AreBytes input → AreInside g (start g input seed) }
-    ensures settles { (g : Program) (c : Config) → AreInside g c → AreInside g (settled_config c) }
+    ensures settles { (g : Program) (c : Config) → IsScoped g → AreInside g c → AreInside g (settled_config c) }
     ensures steps { (g : Program) (c : Config) (p choice : ℕ) → IsScoped g → HasText g → AreInside g c → at c.table.rows p ≡ Is_ready → IsAlive g c p
         → AreInside g (step g c p choice).config }
     ensures resumes { (g : Program) (c : Config) (p n : ℕ) (x : Context) (v : Spot) (k : Remainder) → IsScoped g → HasText g → AreInside g c

@@ -5,3 +5,7 @@ pub mod Alternatives
 pub mod Statements
 pub mod Rewriting
 pub mod Stores
+pub mod Steps
+pub mod Communications
+pub mod Effects
+pub mod Runs

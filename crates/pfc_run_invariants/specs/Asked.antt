@@ -10,7 +10,7 @@ use Rattle.pfc_types.specs.rules.Statements.{within_accept}
 use Rattle.pfc_semantics.specs.Objects.{module_number}
 use Rattle.pfc_semantics.specs.Expressions.{spot_of}
 use Rattle.pfc_semantics.specs.Programs.{Block, Program, block_at}
-use Rattle.pfc_semantics.specs.Configurations.{Mark, plain, of_monitor, of_resource, declared_block}
+use Rattle.pfc_semantics.specs.Configurations.{Mark, plain, of_monitor, of_resource, Activation, Config, declared_block, activity_of}
 use Rattle.pfc_run_invariants.specs.Fitting.{FitNames}
 
 -- of a program: what is so of the names in view where process p performs them, in activations with these marks, innermost first, and of the scope of a variable
@@ -21,6 +21,9 @@ pub record Asked : Type 1 where
   pub spot : ℕ → List Mark → ℕ → Type 0
   pub accept : ℕ → Type 0
   pub guard : Env → Type 0
+  -- of whose activations it is asked at all, and of whom that acts
+  pub alive : List Activation → Type 0
+  pub acts : Config → ℕ → Type 0
 
 -- the mark of an activation that is called from outside the n-th module
 abbrev pub module_mark : Program → ℕ → Mark
@@ -42,5 +45,8 @@ pub record IsClosed (r : Asked) : Type 0 where
       → r.env p (module_mark r.program j ∷ ms) (block_at r.program (sub_at env.state.blocks n).scope).env
   pub guards : (p : ℕ) (ms : List Mark) (env : Env) → r.guard env → r.env p ms env
   pub begins : (p n : ℕ) → r.env p (plain ∷ []) (declared_block r.program n).env
+  pub idle : (p n : ℕ) → r.alive [] → r.env p [] (declared_block r.program n).env
+  pub nobody : (p : ℕ) → r.alive [] → r.env p [] r.program.main.env
   pub main : r.env 0 (plain ∷ []) r.program.main.env
   pub inits : AllByRecursion (λ (b : Block). r.env 0 (plain ∷ []) b.env) r.program.modules
+  pub living : (c : Config) (p : ℕ) → r.acts c p → r.alive (activity_of r.program c p).activations

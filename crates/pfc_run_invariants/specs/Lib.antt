@@ -3,3 +3,4 @@ pub mod Written
 pub mod Asked
 pub mod Remainders
 pub mod Inputs
+pub mod Configurations

@@ -1,7 +1,13 @@
-//! Laws of the numbers in a run of the source text. Each function does nothing: its contract is the law.
+//! Invariants of runs of the source text, by what each asks of the text.
 //!
-//! It promises that every number has 32 bits: in the store, in what is left of the text, and in what processes show to one another. So has what
-//! `initial` takes as a count, and `delay` as a rank. It knows no machine, and says nothing of what a number means.
+//! It promises that what an invariant asks is kept by rewriting and by every action, wherever the names that lead on keep it: of names in view, by who performs
+//! them; of accepts; of guards. With it goes that every number has 32 bits. Its law is that of operators and of what is read and drawn; the rest is given to the
+//! crates above, which say what they ask.
 #![tactic(auto)]
 
 mod laws;
+<<<<<<< HEAD
+=======
+
+pub use laws::operators_give_small_numbers;
+>>>>>>> 4284f4896f3e0edc1bb908786d6c4dedf3570fbc

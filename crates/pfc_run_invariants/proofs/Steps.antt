@@ -21,7 +21,7 @@ use Rattle.pfc_run_invariants.specs.Remainders.{FitsEnv, FitsArgument, FitArgume
 use Rattle.pfc_run_invariants.proofs.Lists.{all_mapped}
 use Rattle.pfc_run_invariants.proofs.Statements.{behind_fits}
 use Rattle.pfc_run_invariants.proofs.Stores.{value_at_fits, stored_fits, without_fits, new_values_fit}
-use Rattle.pfc_inside_laws.specs.Configurations.{FitsGuard, FitsBlock, FitsProgram, marks_of, FitsCaller, FitActivations, FitsHand, FitsActivity, FitFrom, FitsConfig}
+use Rattle.pfc_run_invariants.specs.Configurations.{FitsGuard, FitsBlock, FitsProgram, marks_of, FitsCaller, FitActivations, FitsHand, FitsActivity, FitFrom, FitsConfig}
 
 module _ (law : Asked) where
   abbrev pub FitsEffect : Effect → Type 0
@@ -108,12 +108,12 @@ module _ (law : Asked) (closed : IsClosed law) (program : FitsProgram law) where
   abbrev pub marks_at : Config → ℕ → List Mark
   marks_at c p = marks_of (activity_of g c p).activations
 
-  -- it has living activations
+  -- it is asked of it
   abbrev pub Lives : Config → ℕ → Type 0
-  Lives c p = (activity_of g c p).activations ≢ []
+  Lives c p = law.alive (activity_of g c p).activations
 
   nobody_fits : (q : ℕ) → FitsActivity law q (nobody g)
-  nobody_fits q = record { doing = λ lives. absurd (lives refl); activations = tt; hand = tt }
+  nobody_fits q = record { doing = λ lives. (closed.nobody q lives, tt); activations = tt; hand = tt }
 
   pub activity_fits : (c : Config) (p : ℕ) → FitsConfig law c → FitsActivity law p (activity_of g c p)
   activity_fits c p fits = from_get law (nobody g) nobody_fits c.activities 0 p p (omega arith) fits.activities

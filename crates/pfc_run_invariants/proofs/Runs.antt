@@ -1,9 +1,9 @@
 -- Wherever a run comes, it is so.
-use Rattle.std.proofs.Common.{◌≡◌, ℕ, ◌+◌, Bool, true, false, if◌then◌else◌, List, [], ◌∷◌, map, Some, Ok, Err, refl}
+use Rattle.std.proofs.Common.{ℕ, ◌+◌, Bool, true, false, if◌then◌else◌, List, [], ◌∷◌, map, Some, Ok, Err}
 use Rattle.std.specs.Prelude.{◌==◌, ◌&&◌}
 use Rattle.std.specs.List.{AllByRecursion}
-use Rattle.pfc_state.specs.Stands.{Stand, Is_ready, may_end}
-use Rattle.pfc_world.specs.Tables.{Table, at}
+use Rattle.pfc_state.specs.Stands.{Stand, may_end}
+use Rattle.pfc_world.specs.Tables.{Table}
 use Rattle.pfc_world.specs.Transitions.{ticked}
 use Rattle.pfc_world.specs.Settling.{may_all_end, settled}
 use Rattle.pfc_world.specs.Terminating.{wholly_settled}
@@ -23,20 +23,25 @@ use Rattle.pfc_run_invariants.specs.Remainders.{FitsRemainder, FitsAction}
 use Rattle.pfc_run_invariants.proofs.Statements.{behind_fits}
 use Rattle.pfc_run_invariants.proofs.Rewriting.{next_fits}
 use Rattle.pfc_run_invariants.proofs.Stores.{without_all_fits}
-use Rattle.pfc_inside_laws.specs.Configurations.{FitsBlock, FitsProgram, FitsActivity, FitFrom, FitsConfig}
-use Rattle.pfc_inside_laws.proofs.Steps.{FitsEffect, tabled, body_fits, marks_at, Lives, activity_fits, with_activity_fits}
-use Rattle.pfc_inside_laws.proofs.Effects.{effect_fits}
+use Rattle.pfc_run_invariants.specs.Configurations.{FitsBlock, FitsProgram, FitsActivity, FitFrom, marks_of, FitsConfig, IsStable}
+use Rattle.pfc_run_invariants.proofs.Steps.{FitsEffect, tabled, body_fits, marks_at, Lives, activity_fits, with_activity_fits}
+use Rattle.pfc_run_invariants.proofs.Effects.{effect_fits}
 
 -- ## Settling
 
 ended_fits :
-    (law : Asked) (p : ℕ) (rows : List Stand) (activities : List Activity) → FitFrom law p activities → FitFrom law p (ended_children rows activities)
-ended_fits law p [] activities all = all
-ended_fits law p (stand ∷ rows) [] all = tt
-ended_fits law p (stand ∷ rows) (a ∷ activities) all = (by (may_end stand), ended_fits law (p + 1) rows activities all.1)
+    (law : Asked) → IsStable law → (p : ℕ) (rows : List Stand) (activities : List Activity) → FitFrom law p activities → FitFrom law p (ended_children rows activities)
+ended_fits law stable p [] activities all = all
+ended_fits law stable p (stand ∷ rows) [] all = tt
+ended_fits law stable p (stand ∷ rows) (a ∷ activities) all = (by (may_end stand), ended_fits law stable (p + 1) rows activities all.1)
   where
     by : (b : Bool) → FitsActivity law p (if b then ended_activity a else a)
-    by true = record { doing = λ lives. absurd (lives refl); activations = tt; hand = tt }
+    by true =
+        record {
+          doing = λ lives. stable.ends p (marks_of a.activations) a.doing lives (all.0.doing (stable.all lives a.activations));
+          activations = tt;
+          hand = tt;
+        }
     by false = all.0
 
 rooms_fit : (rows : List Stand) (activities : List Activity) (store : Store) → FitsStore store → FitsStore (rooms_left rows activities store)
@@ -49,15 +54,15 @@ rooms_fit (stand ∷ rows) (a ∷ activities) store fits =
     by true = without_all_fits store a.activations fits
     by false = fits
 
-pub settled_fits : (law : Asked) (c : Config) → FitsConfig law c → FitsConfig law (settled_config c)
-settled_fits law c fits =
+pub settled_fits : (law : Asked) → IsStable law → (c : Config) → FitsConfig law c → FitsConfig law (settled_config c)
+settled_fits law stable c fits =
     let w = settled c.table in
     tabled law (if may_all_end w.rows then terminated_over w c else c) (wholly_settled c.table) (by w (may_all_end w.rows))
   where
     by : (w : Table) (b : Bool) → FitsConfig law (if b then terminated_over w c else c)
     by w true =
         record {
-          activities = ended_fits law 0 w.rows c.activities fits.activities;
+          activities = ended_fits law stable 0 w.rows c.activities fits.activities;
           store = rooms_fit w.rows c.activities c.store fits.store;
           input = fits.input;
         }
@@ -100,7 +105,7 @@ module _ (law : Asked) (closed : IsClosed law) (program : FitsProgram law) where
 
   idle_fit : (p : ℕ) (ns : List ℕ) → FitFrom law p (map (idle_activity g) ns)
   idle_fit p [] = tt
-  idle_fit p (n ∷ ns) = (record { doing = λ lives. absurd (lives refl); activations = tt; hand = tt }, idle_fit (p + 1) ns)
+  idle_fit p (n ∷ ns) = (record { doing = λ lives. (closed.idle p n lives, tt); activations = tt; hand = tt }, idle_fit (p + 1) ns)
 
   pub start_fits : (input : List ℕ) (seed : ℕ) → AreBytes input → FitsConfig law (start g input seed)
   start_fits input seed bytes =
@@ -129,9 +134,7 @@ module _ (law : Asked) (closed : IsClosed law) (program : FitsProgram law) where
   next_of_fits c p fits lives =
       next_fits law p (marks_at law closed program c p) closed (activity_of g c p).doing ((activity_fits law closed program c p fits).doing lives)
 
-  pub step_fits :
-      (c : Config) (p choice : ℕ) → FitsConfig law c → at c.table.rows p ≡ Is_ready → Lives law closed program c p
-      → FitsConfig law (step g c p choice).config
-  step_fits c p choice fits ready lives =
+  pub step_fits : IsStable law → (c : Config) (p choice : ℕ) → FitsConfig law c → law.acts c p → FitsConfig law (step g c p choice).config
+  step_fits stable c p choice fits acting =
       after_fits c p (line_of (next_of g c p)) (effect g c p choice (next_of g c p)) fits
-      (effect_fits law closed program c fits p ready choice (next_of g c p) (next_of_fits c p fits lives))
+      (effect_fits law closed program stable c fits p acting choice (next_of g c p) (next_of_fits c p fits (closed.living c p acting)))

@@ -19,10 +19,10 @@ use Rattle.pfc_semantics.specs.Rendezvous.{taken_from, parameters_taken, meeting
 use Rattle.pfc_semantics.specs.Selects.{communicates_by, communicates, partner_at, plainly, meets_or_waits, meets_at, matched_places, place_taken, open_at, takes, Timeout, timeout_at, or_timeout, open_timeout, may_terminate_at, latest, waits_until, waits_or_closed, times_out, goes_otherwise, decides_by}
 use Rattle.pfc_run_invariants.specs.Fitting.{FitsValue, FitList}
 use Rattle.pfc_run_invariants.specs.Remainders.{FitsEnv, FitsReplica, FitsOffer, FitsOpen, FitOpens, FitsOtherwise, FitsSelecting, FitsRemainder}
-use Rattle.pfc_inside_laws.specs.Configurations.{FitsProgram, FitsHand, FitsConfig}
+use Rattle.pfc_run_invariants.specs.Configurations.{FitsProgram, FitsHand, FitsConfig}
 use Rattle.pfc_run_invariants.proofs.Statements.{behind_fits}
 use Rattle.pfc_run_invariants.proofs.Stores.{values_in_fit, with_values_fit, taken_fit}
-use Rattle.pfc_inside_laws.proofs.Steps.{FitsEffect, effect_either, tabled, activity_fits, on_it_goes, it_shows, it_writes, marks_at, same_marks}
+use Rattle.pfc_run_invariants.proofs.Steps.{FitsEffect, effect_either, tabled, activity_fits, on_it_goes, it_shows, it_writes, marks_at, same_marks}
 use Rattle.pfc_semantics.specs.Configurations.{Mark}
 use Rattle.pfc_semantics.specs.Rewriting.{going}
 use Rattle.pfc_run_invariants.specs.Asked.{Asked, IsClosed}

@@ -1,8 +1,13 @@
 -- Programs and configurations of which this is so.
-use Rattle.std.specs.Prelude.{◌≢◌, ℕ, ◌+◌, List, [], ◌∷◌, map, Option, Some, None}
+use Rattle.std.specs.Prelude.{◌≡◌, ℕ, ◌+◌, false, List, [], ◌∷◌, map, Option, Some, None}
 use Rattle.std.specs.List.{AllByRecursion}
 use Rattle.pfc_semantics.specs.Programs.{Guard, Block}
 use Rattle.pfc_semantics.specs.Configurations.{Mark, Caller, of_nobody, of_remainder, of_value, Activation, Hand, empty_hand, offering, asking, barred_at, Activity, Config}
+use Rattle.pfc_state.specs.Stands.{is_unfinished}
+use Rattle.pfc_world.specs.Tables.{at}
+use Rattle.pfc_types.specs.rules.Expressions.{Env}
+use Rattle.pfc_semantics.specs.Remainders.{Remainder}
+use Rattle.pfc_semantics.specs.Rewriting.{Doing}
 use Rattle.pfc_run_invariants.specs.Asked.{Asked}
 use Rattle.pfc_run_invariants.specs.Fitting.{FitList, FitsStore}
 use Rattle.pfc_run_invariants.specs.Inputs.{AreBytes}
@@ -50,7 +55,7 @@ module _ (r : Asked) (p : ℕ) where
   FitsHand ms (barred_at b) = FitsBar r p ms b
 
   pub record FitsActivity (a : Activity) : Type 0 where
-    pub doing : a.activations ≢ [] → FitsDoing r p (marks_of a.activations) a.doing
+    pub doing : r.alive a.activations → FitsDoing r p (marks_of a.activations) a.doing
     pub activations : FitActivations a.activations
     pub hand : FitsHand (marks_of a.activations) a.hand
 
@@ -64,3 +69,11 @@ pub record FitsConfig (r : Asked) (c : Config) : Type 0 where
   pub activities : FitFrom r 0 c.activities
   pub store : FitsStore c.store
   pub input : AreBytes c.input.bytes
+
+-- Where it is asked of who has no activation any more, it is so of what it was at. And it is asked of nobody who acts and is created anew, or it is so whatever
+-- the marks.
+pub record IsStable (r : Asked) : Type 0 where
+  pub all : r.alive [] → (activations : List Activation) → r.alive activations
+  pub ends : (p : ℕ) (ms : List Mark) (doing : Doing) → r.alive [] → FitsDoing r p ms doing → FitsDoing r p [] doing
+  pub anew : (c : Config) (p : ℕ) (old new : List Mark) (env : Env) (k : Remainder) → r.acts c p → is_unfinished (at c.table.rows p) ≡ false
+      → FitsEnv r p old env → FitsRemainder r p old k → FitsEnv r p new env × FitsRemainder r p new k

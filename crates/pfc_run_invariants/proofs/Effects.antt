@@ -1,5 +1,5 @@
 -- Behind every action all numbers have 32 bits.
-use Rattle.std.proofs.Common.{subst, ◌∙◌, ap, sym, refl, ◌≢◌, ◌≡◌, ℕ, ℤ, pos, negsuc, zero, suc, ◌+◌, Bool, true, false, nat_le, if◌then◌else◌, List, [], ◌∷◌, ◌++◌, Option, Some, None, Result, Ok, Err}
+use Rattle.std.proofs.Common.{arith, inr, inl, ◌⊎◌, subst, ◌∙◌, ap, sym, refl, ◌≢◌, ◌≡◌, ℕ, ℤ, pos, negsuc, zero, suc, ◌+◌, Bool, true, false, nat_le, if◌then◌else◌, List, [], ◌∷◌, ◌++◌, Option, Some, None, Result, Ok, Err}
 use Rattle.std.specs.Prelude.{◌*◌, ◌/◌, ◌==◌}
 use Rattle.rand_pcg.specs.Lcg.{Lcg}
 use Rattle.pfc_base.specs.declared.faults.RunFault.{RunFault}
@@ -41,14 +41,13 @@ use Rattle.pfc_semantics.specs.Time.{slept, sleeps_for, clocked}
 use Rattle.pfc_semantics.specs.Steps.{enters_module, calls_by, returns_to, ends_for, ends_body, read_in, skipped_in, drawn_in, effect}
 use Rattle.pfc_run_invariants.specs.Fitting.{FitsOutcome, FitsValue, FitList}
 use Rattle.pfc_run_invariants.specs.Remainders.{FitsEnv, FitArguments, FitsBar, FitsWay, FitsRemainder, FitsAwaiting, FitsCall, FitsAction}
-use Rattle.pfc_inside_laws.specs.Configurations.{FitsGuard, FitsBlock, FitsProgram, FitsCaller, FitActivations, marks_of, FitsHand, FitsConfig}
+use Rattle.pfc_run_invariants.specs.Configurations.{FitsGuard, FitsBlock, FitsProgram, FitsCaller, FitActivations, marks_of, FitsHand, FitsConfig, IsStable}
 use Rattle.pfc_run_invariants.proofs.Numbers.{FitsItem, fitting_fits, truth_fits, item_fits, drawn_fits}
 use Rattle.pfc_run_invariants.proofs.Stores.{variable_fits, without_fits, without_all_fits, new_values_fit}
-use Rattle.pfc_inside_laws.proofs.Steps.{FitsEffect, effect_either, tabled, with_counts, with_monitor_holders, with_resource_holders, body_fits, guarded_fits, block_fits, activity_fits, with_activity_fits, on_it_goes, it_holds, it_shows, found_value, it_writes, all_pass, full_fits, activated_fits, left_fits, marks_at, same_marks, apart_marks}
-use Rattle.pfc_inside_laws.proofs.Communications.{FitsPartner, partner_fits, called_at_fits, meets_fits, decides_fits}
+use Rattle.pfc_run_invariants.proofs.Steps.{FitsEffect, effect_either, tabled, with_counts, with_monitor_holders, with_resource_holders, body_fits, guarded_fits, block_fits, activity_fits, with_activity_fits, on_it_goes, it_holds, it_shows, found_value, it_writes, all_pass, full_fits, activated_fits, left_fits, marks_at, same_marks, apart_marks}
+use Rattle.pfc_run_invariants.proofs.Communications.{FitsPartner, partner_fits, called_at_fits, meets_fits, decides_fits}
 use Rattle.pfc_run_invariants.specs.Inputs.{AreBytes}
 use Rattle.pfc_run_invariants.specs.Asked.{Asked, module_mark, IsClosed}
-use Rattle.pfc_state.specs.Stands.{Is_ready}
 
 -- behind a line there are bytes still
 line_bytes : (bytes : List ℕ) → AreBytes bytes → AreBytes (behind_line bytes)
@@ -68,8 +67,16 @@ line_fits true [] all = tt
 line_fits false [] all = tt
 line_fits whole (b ∷ rest) all = line_bytes (b ∷ rest) all
 
+<<<<<<< HEAD:crates/pfc_inside_laws/proofs/Effects.antt
 module _ (law : Asked) (closed : IsClosed law) (program : FitsProgram law) (c : Config) (fits : FitsConfig law c) (p : ℕ)
     (ready : at c.table.rows p ≡ Is_ready) where
+=======
+same_or : (n p : ℕ) → (n ≡ p) ⊎ (n ≢ p)
+same_or n p = grind arith
+
+module _ (law : Asked) (closed : IsClosed law) (program : FitsProgram law) (stable : IsStable law) (c : Config)
+    (fits : FitsConfig law c) (p : ℕ) (acting : law.acts c p) where
+>>>>>>> 4284f4896f3e0edc1bb908786d6c4dedf3570fbc:crates/pfc_run_invariants/proofs/Effects.antt
   abbrev g : Program
   g = law.program
 
@@ -170,19 +177,36 @@ module _ (law : Asked) (closed : IsClosed law) (program : FitsProgram law) (c : 
           else unless_full (number_for g c p s) (cells_above [] (process_block g (number_for g c p s)))
           (goes_on g (created g c (number_for g c p s) (process_block g (number_for g c p s)) (all_passed g c p args)) p x k))
       by true e = tt
-      by false e =
-          let n : ℕ = number_for g c p s in
-          let values = all_passed g c p args in
-          let new : Config = created g c n (process_block g n) values in
-          let apart : p ≢ n = λ same. no (sym (ap is_unfinished ready) ∙ ap (λ (q : ℕ). is_unfinished (at c.table.rows q)) same ∙ e) in
-          let still = apart_marks law closed program
-          (record c { store = with_room c.store (new_number c) (new_values g (process_block g n) values); table = placed c.table n Is_created }) n p _ apart in
-          full_fits law closed program n (cells_above [] (process_block g n)) (goes_on g new p x k)
-          (on_it_goes law closed program new p x k (created_fits n values (all_pass law closed program c p ms args given))
-          (subst (λ (m : List Mark). FitsEnv law p m x.env) (sym still) known) (subst (λ (m : List Mark). FitsRemainder law p m k) (sym still) left))
+      by false e = apart_or (same_or (number_for g c p s) p)
         where
-          no : true ≡ false → ⊥
-          no h = cc
+          n : ℕ
+          n = number_for g c p s
+
+          new : Config
+          new = created g c (number_for g c p s) (process_block g (number_for g c p s)) (all_passed g c p args)
+
+          goes : FitsEnv law p (marks_at law closed program new p) x.env → FitsRemainder law p (marks_at law closed program new p) k
+              → FitsEffect law
+              (unless_full (number_for g c p s) (cells_above [] (process_block g (number_for g c p s))) (goes_on g new p x k))
+          goes known left =
+              full_fits law closed program (number_for g c p s) (cells_above [] (process_block g (number_for g c p s))) (goes_on g new p x k)
+              (on_it_goes law closed program new p x k
+              (created_fits (number_for g c p s) (all_passed g c p args) (all_pass law closed program c p ms args given)) known left)
+
+          apart_or : (number_for g c p s ≡ p) ⊎ (number_for g c p s ≢ p)
+              → FitsEffect law
+              (unless_full (number_for g c p s) (cells_above [] (process_block g (number_for g c p s))) (goes_on g new p x k))
+          apart_or (inl same) =
+              let both = stable.anew c p ms (marks_at law closed program new p) x.env k acting
+              (sym (ap (λ (q : ℕ). is_unfinished (at c.table.rows q)) same) ∙ e) known left in goes both.0 both.1
+          apart_or (inr apart) =
+              let still = apart_marks law closed program
+              (record c {
+                store = with_room c.store (new_number c) (new_values g (process_block g (number_for g c p s)) (all_passed g c p args));
+                table = placed c.table (number_for g c p s) Is_created;
+              })
+              (number_for g c p s) p _ (λ same. apart (sym same)) in
+              goes (subst (λ (m : List Mark). FitsEnv law p m x.env) (sym still) known) (subst (λ (m : List Mark). FitsRemainder law p m k) (sym still) left)
 
   enters_fits :
       (x : Context) (s : Spot) (entry : ℕ) (args : List Argument) (k : Remainder) → FitsEnv law p ms x.env → FitArguments law p ms args
@@ -233,7 +257,11 @@ module _ (law : Asked) (closed : IsClosed law) (program : FitsProgram law) (c : 
       let a : Activity = activity_of g c p in
       with_activity_fits law closed program (record c { store = without_all c.store a.activations; table = finished c.table p }) p (ended_activity a)
       (record { activities = fits.activities; store = without_all_fits c.store a.activations fits.store; input = fits.input })
-      (record { doing = λ lives. absurd (lives refl); activations = tt; hand = tt })
+      (record {
+        doing = λ lives. stable.ends p ms a.doing lives ((activity_fits law closed program c p fits).doing (closed.living c p acting));
+        activations = tt;
+        hand = tt;
+      })
 
   module _ (a : Activation) (below : List Activation) (others : FitActivations law p below) where
     returns_fits :

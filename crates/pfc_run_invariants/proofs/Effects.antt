@@ -67,16 +67,11 @@ line_fits true [] all = tt
 line_fits false [] all = tt
 line_fits whole (b ∷ rest) all = line_bytes (b ∷ rest) all
 
-<<<<<<< HEAD:crates/pfc_inside_laws/proofs/Effects.antt
-module _ (law : Asked) (closed : IsClosed law) (program : FitsProgram law) (c : Config) (fits : FitsConfig law c) (p : ℕ)
-    (ready : at c.table.rows p ≡ Is_ready) where
-=======
 same_or : (n p : ℕ) → (n ≡ p) ⊎ (n ≢ p)
 same_or n p = grind arith
 
 module _ (law : Asked) (closed : IsClosed law) (program : FitsProgram law) (stable : IsStable law) (c : Config)
     (fits : FitsConfig law c) (p : ℕ) (acting : law.acts c p) where
->>>>>>> 4284f4896f3e0edc1bb908786d6c4dedf3570fbc:crates/pfc_run_invariants/proofs/Effects.antt
   abbrev g : Program
   g = law.program
 

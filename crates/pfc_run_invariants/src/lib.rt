@@ -6,8 +6,5 @@
 #![tactic(auto)]
 
 mod laws;
-<<<<<<< HEAD
-=======
 
 pub use laws::operators_give_small_numbers;
->>>>>>> 4284f4896f3e0edc1bb908786d6c4dedf3570fbc

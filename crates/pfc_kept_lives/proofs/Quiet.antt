@@ -65,6 +65,10 @@ IsOther i = Unit {0}
 pub record IsQuiet (c : Code) : Type 0 where
   pub each : (at n : ℕ) → Each (λ j i. IsOther i) at (instructions (c.put at n))
 
+pub moved : (at to : ℕ) (code : List Instr) → Each (λ j i. IsOther i) at code → Each (λ j i. IsOther i) to code
+moved at to [] h = tt
+moved at to (i ∷ code) h = (h.0, moved (at + 1) (to + 1) code h.1)
+
 infixr 60 ◌&◌
 pub ◌&◌ : {c d : Code} → IsQuiet c → IsQuiet d → IsQuiet (c ⨾ d)
 ◌&◌ {c} {d} p q =
@@ -72,10 +76,6 @@ pub ◌&◌ : {c d : Code} → IsQuiet c → IsQuiet d → IsQuiet (c ⨾ d)
       each = λ at n. each_append (λ j i. IsOther i) at (c.put at n) (d.put (at + c.size) (n + length c.texts)) (p.each at n)
           (moved (at + c.size) (at + length (c.put at n)) (instructions (d.put (at + c.size) (n + length c.texts))) (q.each (at + c.size) (n + length c.texts)))
     }
-  where
-    moved : (at to : ℕ) (code : List Instr) → Each (λ j i. IsOther i) at code → Each (λ j i. IsOther i) to code
-    moved at to [] h = tt
-    moved at to (i ∷ code) h = (h.0, moved (at + 1) (to + 1) code h.1)
 
 pub no_code : IsQuiet nothing
 no_code = record { each = λ at n. tt }

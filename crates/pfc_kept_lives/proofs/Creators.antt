@@ -1,10 +1,12 @@
 -- Processes are created in main's code alone: in the code of each other block what would activate one would break a rule.
-use Rattle.std.proofs.Common.{◌≡◌, ℕ, zero, suc, ◌+◌, ◌<◌, ◌≤◌, Bool, false, true, List, [], ◌∷◌, ◌++◌, length, length-append, slice_get, take, drop, get_or, Option, Some, None, refl, sym, ap, ◌∙◌, subst, arith}
+use Rattle.std.proofs.Common.{◌≡◌, ℕ, zero, suc, ◌+◌, ◌<◌, ◌≤◌, Bool, false, true, List, [], ◌∷◌, ◌++◌, length, length-append, slice_get, take, drop, get_or}
+use Rattle.std.proofs.Common.{Option, Some, None, refl, sym, ap, ◌∙◌, subst, arith}
 use Rattle.std.specs.List.{All}
 use Rattle.std.proofs.lemmas.List.{length-map}
 use Rattle.std.proofs.lemmas.List.Elements.{All-nil, All-cons, All-append}
 use Rattle.pfc_tree.specs.trees.Stmts.{body}
-use Rattle.pfc_tree.specs.trees.Parts.{PartTree, PartTrees, SubTree, ModuleTree, ProcessTree, ProgramTree, consts, types, vars, sub_part, monitor, resource, process_part, no_parts, more_parts, sub, the_module, process}
+use Rattle.pfc_tree.specs.trees.Parts.{PartTree, PartTrees, SubTree, ModuleTree, ProcessTree, ProgramTree, consts, types, vars, sub_part, monitor, resource}
+use Rattle.pfc_tree.specs.trees.Parts.{process_part, no_parts, more_parts, sub, the_module, process}
 use Rattle.pfc_tree.specs.forget.Parts.{forget_program}
 use Rattle.pfc_tree.specs.lawful.Parts.{IsLawful}
 use Rattle.pfc_types.specs.Scopes.{Level, scope_at, here}
@@ -13,18 +15,21 @@ use Rattle.pfc_types.specs.declared.heads.SubHead.{SubHead}
 use Rattle.pfc_types.specs.declared.heads.SubSort.{SubSort}
 use Rattle.pfc_types.specs.declared.heads.SubSort.TheVariants.{Procedure, Guarded, Function}
 use Rattle.pfc_types.specs.rules.Statements.{broken_stmts, body_scopes}
-use Rattle.pfc_types.specs.rules.Bodies.{env_at, around_guard, around_sub, around_process, level, passed, passed_part, passed_groups, passed_entries, part_scopes, parts_scopes}
+use Rattle.pfc_types.specs.rules.Bodies.{env_at, around_guard, around_sub, around_process, level, passed, passed_part, passed_groups, passed_entries}
+use Rattle.pfc_types.specs.rules.Bodies.{part_scopes, parts_scopes}
 use Rattle.pfc_types.specs.rules.Whole.{finished, broken, faults_in}
 use Rattle.pfc_code.specs.declared.instructions.Instr.{Instr}
 use Rattle.pfc_code.specs.declared.instructions.Instr.TheVariants.{NEW, GRD}
 use Rattle.pfc_code.specs.declared.images.Block.{Block as CodeBlock}
 use Rattle.pfc_semantics.specs.Layouts.{sub_with, sub_layout_at, process_layout}
-use Rattle.pfc_semantics.specs.Programs.{Block, Guard, Program, block_of, guard_of, part_blocks, parts_blocks, sub_blocks, module_blocks, process_blocks, program_of}
+use Rattle.pfc_semantics.specs.Programs.{Block, Guard, Program, block_of, guard_of, part_blocks, parts_blocks, sub_blocks, module_blocks, process_blocks}
+use Rattle.pfc_semantics.specs.Programs.{program_of}
 use Rattle.pfc_machines.specs.Rooms.{end_of as behind_block}
 use Rattle.pfc_translation.specs.Sites.{Site}
 use Rattle.pfc_translation.specs.Calls.{resource_of}
-use Rattle.pfc_translation.specs.Codes.{Lined, ◌⨾◌}
-use Rattle.pfc_translation.specs.Images.{Piece, a_body, an_initial, a_resource, pieces, Coded, coded, before_main, of_main, size_of, put_from, instructions, blocks_from, piece_blocks, block_from, main_block, strings_in, site_in, guard_code, statements_code, body_code, end_of, image_of}
+use Rattle.pfc_translation.specs.Images.{Piece, a_body, an_initial, a_resource, pieces, Coded, coded, before_main, of_main, size_of, put_from, instructions}
+use Rattle.pfc_translation.specs.Images.{blocks_from, piece_blocks, block_from, main_block, strings_in, site_in, guard_code, statements_code, body_code}
+use Rattle.pfc_translation.specs.Images.{end_of, image_of}
 use Rattle.pfc_image_laws.proofs.Layouts.{image_count, instructions-append}
 use Rattle.pfc_image_laws.specs.Instructions.{Each}
 use Rattle.pfc_image_laws.proofs.Holds.{each_append}
@@ -172,14 +177,16 @@ created_in_main t lawful whole k at n among before there =
     let all : length (bs ++ last ∷ []) ≡ length q.blocks + 1 = image_count t in
     let sum = length-append bs (last ∷ []) in omega (arith, all, sum) in
     let end : behind_block (image_of t).code (drop (suc k) (bs ++ last ∷ [])) ≤ entry =
-    end_before (image_of t).code bs last k (omega (arith, among, count)) (λ j c is. let less = entry_before q (before_main parts) 0 j c is in omega (arith, less)) in
+    end_before (image_of t).code bs last k (omega (arith, among, count))
+    (λ j c is. let less = entry_before q (before_main parts) 0 j c is in omega (arith, less)) in
     let next : k + 1 ≡ suc k = omega arith in
     let here : at < behind_block (image_of t).code (drop (suc k) (bs ++ last ∷ [])) =
     subst (λ j. at < behind_block (image_of t).code (drop j (bs ++ last ∷ []))) next before in
     let size : length (instructions outer) ≡ entry = length-map outer (λ c. c.0) ∙ size_put q ps 0 0 0 in
     let within : at < length (instructions outer) = omega (arith, here, end, size) in
     let found : slice_get (instructions outer) at ≡ Some (NEW n) =
-    sym (slice_front (instructions outer) (instructions inner) at within) ∙ ap (λ (is : List Instr). slice_get is at) (sym (instructions-append outer inner)) ∙ there in
+    sym (slice_front (instructions outer) (instructions inner) at within)
+    ∙ ap (λ (is : List Instr). slice_get is at) (sym (instructions-append outer inner)) ∙ there in
     other_at 0 at (instructions outer) (NEW n) (outer_quiet q ps 0 0 0 all_quiet) found
   where
     ruled : All (IsRuled (Unit {0}) (finished t)) (program_of t).blocks

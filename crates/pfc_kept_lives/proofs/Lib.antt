@@ -8,6 +8,7 @@ pub mod Ended
 pub mod Ending
 pub mod Quiet
 pub mod Outside
+pub mod Creators
 pub mod Makers
 pub mod Numbers
 pub mod Begun

@@ -1,56 +1,41 @@
 -- No process is created in the code of statements that stand outside the main body: each activation in it would break a rule.
-use Rattle.std.proofs.Common.{not, ◌&&◌, ◌≡◌, ℕ, ◌+◌, ◌<◌, ◌≤◌, suc, pos, ◌-◌, ℤ, ◌+ℤ◌, int_le, zero, nat_lt, Bool, true, false, List, [], ◌∷◌, ◌++◌, length, map, Option, Some, None, cond, if◌then◌else◌, drop, refl, sym, ◌∙◌, subst, arith}
+use Rattle.std.proofs.Common.{not, ◌&&◌, ◌≡◌, ℕ, ◌+◌, Bool, true, false, Option, Some, None, if◌then◌else◌, refl, sym, ◌∙◌, subst}
 use Rattle.pfc_tree.specs.Symbols.{Text}
 use Rattle.pfc_base.specs.declared.places.Place.{Place}
-use Rattle.pfc_tree.specs.declared.tree.Constant.{Constant}
-use Rattle.pfc_tree.specs.declared.tree.Spread.{Spread}
-use Rattle.pfc_tree.specs.declared.tree.Sign.{Sign}
-use Rattle.pfc_tree.specs.declared.tree.Sign.TheVariants.{Plus, Minus}
-use Rattle.pfc_tree.specs.declared.tree.Relation.{Relation}
-use Rattle.pfc_tree.specs.declared.tree.Relation.TheVariants.{Eq, Ne, Lt, Le, Gt, Ge}
-use Rattle.pfc_tree.specs.declared.tree.AddOp.{AddOp}
-use Rattle.pfc_tree.specs.declared.tree.AddOp.TheVariants.{Add, Sub as Minused, Or}
-use Rattle.pfc_tree.specs.declared.tree.MulOp.{MulOp}
-use Rattle.pfc_tree.specs.declared.tree.MulOp.TheVariants.{Mul, Div, Mod, And}
-use Rattle.pfc_tree.specs.trees.Exprs.{ExprTree, SimpleTree, SummandTrees, TermTree, MultiplierTrees, FactorTree, DesigTree, SelectorTrees, ExprTrees, ActualTree, ActualTrees, plain, related, sum, no_summands, more_summands, product, no_multipliers, more_multipliers, number, literal, negation, paren, applied, desig, index, field, no_selectors, more_selectors, no_exprs, more_exprs, actual, actual_width, no_actuals, more_actuals}
-use Rattle.pfc_tree.specs.trees.Stmts.{StmtTree, StmtTrees, ArmTrees, AcceptTree, AltTree, AltTrees, CommTree, empty, null, block, if_then, if_then_else, case_of, while_do, repeat_until, repeat_forever, for_do, cobegin, accepting as an_accept, requeue, select, select_else, assign, send, receive, call, no_stmts, more_stmts, body, arm, no_arms, more_arms, accept, accept_do, alt, no_alts, more_alts, comm_accept, comm_send, comm_receive, timeout, terminate}
-use Rattle.pfc_types.specs.rules.Constants.{Ordinal, constant_value}
-use Rattle.pfc_types.specs.rules.Statements.{cobegin_rule, names_any, any_rule, types_rule, only_any_rule, accept_rules, carried_by, broken_message, broken_receiver, broken_target, broken_assign, broken_send, broken_receive, broken_spread, broken_guard, scopes_in, stmts_scopes, arm_scopes, arms_scopes, accept_scopes, alt_scopes, alts_scopes, comm_scopes, broken_stmt, broken_stmts, broken_arms, broken_accept, broken_alts, broken_alt, broken_comm}
+use Rattle.pfc_tree.specs.trees.Exprs.{ExprTree, DesigTree, SelectorTrees, ActualTrees, desig, no_selectors}
+use Rattle.pfc_tree.specs.trees.Stmts.{StmtTree, StmtTrees, ArmTrees, AcceptTree, AltTree, AltTrees, empty, null, block, if_then, if_then_else, case_of}
+use Rattle.pfc_tree.specs.trees.Stmts.{while_do, repeat_until, repeat_forever, for_do, cobegin, accepting as an_accept, requeue, select, select_else, assign}
+use Rattle.pfc_tree.specs.trees.Stmts.{send, receive, call, no_stmts, more_stmts, body, arm, no_arms, more_arms, accept, accept_do, alt, no_alts, more_alts}
+use Rattle.pfc_tree.specs.trees.Stmts.{comm_accept, comm_send, comm_receive, timeout, terminate}
+use Rattle.pfc_types.specs.rules.Statements.{cobegin_rule, scopes_in, arm_scopes, accept_scopes, alt_scopes, alts_scopes, broken_stmt, broken_stmts}
+use Rattle.pfc_types.specs.rules.Statements.{broken_arms, broken_accept, broken_alts, broken_alt}
 use Rattle.pfc_types.specs.declared.types.TypeId.{TypeId}
-use Rattle.pfc_types.specs.declared.types.TypeForm.{TypeForm}
-use Rattle.pfc_types.specs.declared.types.TypeForm.TheVariants.{Channel, Array, Record, Process as ProcessForm}
 use Rattle.pfc_types.specs.declared.scope.Meaning.{Meaning}
 use Rattle.pfc_types.specs.declared.scope.Meaning.TheVariants.{Constant as AConstant, Named, Variable, Sub, Module, Process, Entry, Predeclared, Faulty}
-use Rattle.pfc_types.specs.declared.heads.Formal.{Formal}
 use Rattle.pfc_types.specs.declared.view.Found.{Found}
-use Rattle.pfc_types.specs.declared.view.Around.{Around}
-use Rattle.pfc_types.specs.Types.{extent, Forms, form_of, process_form}
-use Rattle.pfc_types.specs.Faults.{Faults}
-use Rattle.pfc_types.specs.Scopes.{Level, found_in, meaning_of, meaning_in, scope_at, here}
-use Rattle.pfc_types.specs.Blocks.{sub_at, module_at, process_at, entry_at}
-use Rattle.pfc_types.specs.rules.Expressions.{Env, find, first_type, field_type, selected, as_desig, as_literal, expr_place, desig_place, actual_count, expr_type, no_selector, no_actual, is_variable, use_rules, broken_expr, broken_simple, broken_summands, broken_term, broken_multipliers, broken_factor, broken_selectors, desig_type, broken_desig, broken_indexes, broken_actuals, broken_actual, broken_wanted}
-use Rattle.pfc_types.specs.rules.Calls.{last_field, before_last, broken_reads, written, broken_written, broken_writes, call_routine, activate, activate_variable, requeue_rules, call_entry_named, call_module, call_exported, call_part, broken_call}
-use Rattle.pfc_types.specs.rules.Kinds.{value_rule, variable_type}
-use Rattle.pfc_semantics.specs.Predeclared.{Function, abs, sqr, odd, ord, chr, succ, pred, eof, eoln, empty as emptied, clock, random, no_function, function_of, Procedure as AProcedure, reader, writer, initial, wait, signal, delay, resume, sleep, no_procedure, procedure_of}
-use Rattle.pfc_semantics.specs.Remainders.{Replica, Alternative}
-use Rattle.pfc_semantics.specs.Alternatives.{entry_number, message_of, receiver_of, replicas_from, replicas_between, replicas_by, replicas, alternative, spread_out, alternatives}
+use Rattle.pfc_types.specs.Scopes.{meaning_of, meaning_in, scope_at}
+use Rattle.pfc_types.specs.Blocks.{sub_at, module_at, entry_at}
+use Rattle.pfc_types.specs.rules.Expressions.{find, selected, expr_type}
+use Rattle.pfc_types.specs.rules.Calls.{last_field, before_last, activate, broken_call}
+use Rattle.pfc_semantics.specs.Predeclared.{procedure_of}
+use Rattle.pfc_semantics.specs.Alternatives.{alternatives}
 use Rattle.pfc_semantics.specs.Objects.{module_number}
-use Rattle.pfc_semantics.specs.Statements.{as_string, item_of, expr_of, behind_first, name_in_process, process_of_type}
-use Rattle.pfc_semantics.specs.Displays.{Spot}
-use Rattle.pfc_semantics.specs.Expressions.{spot_of, char_in, form_in}
-use Rattle.pfc_semantics.specs.Programs.{Program, Block, block_number}
-use Rattle.pfc_code.specs.declared.instructions.Instr.{Instr}
-use Rattle.pfc_code.specs.declared.instructions.Instr.TheVariants.{LIT, ADDR, REF, SINI, SWAIT, SSIG, DELAY, RESUME, SLEEP, WRNL, RDNL, REQ, NEW, ECALL, JMP, JF, TURN, FORB, FORW, FORT, CEQ, CERR, COEND, SEND, RECV, ACC, EACC, ARMS, ARMR, ARMA, ARMT, ARMX, SEL, FLD, LOAD, STORE, OBJ, WRS, NEG, ABS, SQR, ODD, CHR, SUCC, PRED, NOT, EMPTY, CLOCK, RAND, EOF, EOLN}
-use Rattle.pfc_translation.specs.Sites.{Site, at_line, in_accept, links_to, cell_of, refers, context_of, forms_of, blocks_of, type_cells}
-use Rattle.pfc_translation.specs.Codes.{Code, nothing, ◌⨾◌, one, over, back, string, unseen, with_arms}
-use Rattle.pfc_translation.specs.Addresses.{base_code, type_behind, element_in, index_instr, field_cell}
-use Rattle.pfc_translation.specs.Expressions.{expr_code, simple_code, summands_code, term_code, multipliers_code, factor_code, sign_code, first_value, first_address, actual_code, lent_code, variable_code, args_code, selectors_code, indices_code, name_code, function_code, relation_instr, add_instr, multiply_instr, simple_number, call_instr, address_code, desig_code, object_code}
-use Rattle.pfc_translation.specs.Calls.{sub_code, write_instr, plain_item, wide_item, item_code, writes_code, read_instr, input_code, reads_code, given_code, rank_code, first_object, procedure_code, enter_instr, exported_code, module_code, resource_of, requeue_code, activation_code, formals_cells, entry_code, process_code, field_code, called_variable, called_process, called_code, found_code, call_code}
-use Rattle.pfc_translation.specs.Selects.{entry_of, message_code, message_cells, receiver_code, receiver_cells, accept_cell, accept_cells, accept_code, replica_code, comm_code, guarded_code, alternative_code, alternatives_code, first_of}
-use Rattle.pfc_translation.specs.Statements.{assign_code, label_of, labels_code, label_count, spread_replicas, chosen_code, sel_code, select_code, stmt_code, stmts_code, tests_code, arms_code, accepted_code, branch_code, branches_code, distances}
-use Rattle.pfc_translation.specs.Images.{instructions}
-use Rattle.pfc_image_numbers.proofs.Rules.{IsClean, held, and_left, activated_type, field_process, selected_last, call_of, call_is, process_activated, variable_called, variable_part}
-use Rattle.pfc_kept_lives.proofs.Quiet.{IsOther, IsQuiet, ◌&◌, no_code, one_is, over_is, back_is, unseen_is, based, expr, arguments, address, designated, a_procedure, sent, received, a_select, chosen, labels}
+use Rattle.pfc_semantics.specs.Statements.{name_in_process, process_of_type}
+use Rattle.pfc_semantics.specs.Expressions.{spot_of}
+use Rattle.pfc_semantics.specs.Programs.{block_number}
+use Rattle.pfc_code.specs.declared.instructions.Instr.TheVariants.{REQ, ECALL, JMP, JF, TURN, FORB, FORW, FORT, CERR, ACC, EACC, STORE, OBJ, NOT}
+use Rattle.pfc_translation.specs.Sites.{Site, at_line, in_accept, context_of, forms_of, blocks_of, type_cells}
+use Rattle.pfc_translation.specs.Codes.{Code}
+use Rattle.pfc_translation.specs.Expressions.{expr_code, call_instr, address_code}
+use Rattle.pfc_translation.specs.Calls.{sub_code, enter_instr, exported_code, module_code, resource_of, requeue_code, formals_cells, entry_code, process_code}
+use Rattle.pfc_translation.specs.Calls.{field_code, called_variable, called_process, called_code, found_code, call_code}
+use Rattle.pfc_translation.specs.Selects.{entry_of, accept_cell, accept_cells}
+use Rattle.pfc_translation.specs.Statements.{assign_code, label_count, spread_replicas, stmt_code, stmts_code, tests_code, arms_code, accepted_code}
+use Rattle.pfc_translation.specs.Statements.{branch_code, branches_code, distances}
+use Rattle.pfc_image_numbers.proofs.Rules.{IsClean, held, and_left, activated_type, field_process, selected_last, call_of, call_is, process_activated}
+use Rattle.pfc_image_numbers.proofs.Rules.{variable_called, variable_part}
+use Rattle.pfc_kept_lives.proofs.Quiet.{IsOther, IsQuiet, ◌&◌, no_code, one_is, over_is, back_is, unseen_is, based, expr, arguments, address, designated}
+use Rattle.pfc_kept_lives.proofs.Quiet.{a_procedure, sent, received, a_select, chosen, labels}
 
 -- a phrase outside the main body
 pub record IsOutside (s : Site) : Type 0 where

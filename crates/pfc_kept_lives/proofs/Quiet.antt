@@ -1,9 +1,8 @@
 -- Code in which no process is created: that of expressions, of arguments, of input and output, of communication and of alternatives.
-use Rattle.std.proofs.Common.{◌≡◌, ℕ, ◌+◌, ◌-◌, suc, pos, drop, Bool, true, false, List, [], ◌∷◌, ◌++◌, length, map, Option, Some, None, cond, if◌then◌else◌, refl, arith}
+use Rattle.std.proofs.Common.{ℕ, ◌+◌, ◌-◌, pos, drop, Bool, true, false, List, [], ◌∷◌, length, Option, Some, None, cond, if◌then◌else◌}
 use Rattle.pfc_tree.specs.Symbols.{Text}
 use Rattle.pfc_base.specs.declared.places.Place.{Place}
 use Rattle.pfc_tree.specs.declared.tree.Constant.{Constant}
-use Rattle.pfc_tree.specs.declared.tree.Spread.{Spread}
 use Rattle.pfc_tree.specs.declared.tree.Sign.{Sign}
 use Rattle.pfc_tree.specs.declared.tree.Sign.TheVariants.{Plus, Minus}
 use Rattle.pfc_tree.specs.declared.tree.Relation.{Relation}
@@ -12,42 +11,48 @@ use Rattle.pfc_tree.specs.declared.tree.AddOp.{AddOp}
 use Rattle.pfc_tree.specs.declared.tree.AddOp.TheVariants.{Add, Sub as Minused, Or}
 use Rattle.pfc_tree.specs.declared.tree.MulOp.{MulOp}
 use Rattle.pfc_tree.specs.declared.tree.MulOp.TheVariants.{Mul, Div, Mod, And}
-use Rattle.pfc_tree.specs.trees.Exprs.{ExprTree, SimpleTree, SummandTrees, TermTree, MultiplierTrees, FactorTree, DesigTree, SelectorTrees, ExprTrees, ActualTree, ActualTrees, plain, related, sum, no_summands, more_summands, product, no_multipliers, more_multipliers, number, literal, negation, paren, applied, desig, index, field, no_selectors, more_selectors, no_exprs, more_exprs, actual, actual_width, no_actuals, more_actuals}
+use Rattle.pfc_tree.specs.trees.Exprs.{ExprTree, SimpleTree, SummandTrees, TermTree, MultiplierTrees, FactorTree, DesigTree, SelectorTrees, ExprTrees}
+use Rattle.pfc_tree.specs.trees.Exprs.{ActualTree, ActualTrees, plain, related, sum, no_summands, more_summands, product, no_multipliers, more_multipliers}
+use Rattle.pfc_tree.specs.trees.Exprs.{number, literal, negation, paren, applied, desig, index, field, no_selectors, more_selectors, no_exprs, more_exprs}
+use Rattle.pfc_tree.specs.trees.Exprs.{actual, actual_width, no_actuals, more_actuals}
 use Rattle.pfc_types.specs.declared.types.TypeId.{TypeId}
 use Rattle.pfc_types.specs.declared.types.TypeForm.{TypeForm}
 use Rattle.pfc_types.specs.declared.types.TypeForm.TheVariants.{Channel, Array, Record, Process as ProcessForm}
 use Rattle.pfc_types.specs.declared.scope.Meaning.{Meaning}
 use Rattle.pfc_types.specs.declared.scope.Meaning.TheVariants.{Constant as AConstant, Named, Variable, Sub, Module, Process, Entry, Predeclared, Faulty}
 use Rattle.pfc_types.specs.declared.heads.Formal.{Formal}
-use Rattle.pfc_types.specs.declared.heads.SubHead.{SubHead}
 use Rattle.pfc_types.specs.declared.view.Found.{Found}
 use Rattle.pfc_types.specs.Types.{Forms}
-use Rattle.pfc_types.specs.Scopes.{meaning_of, meaning_in, scope_at}
-use Rattle.pfc_types.specs.Blocks.{sub_at, module_at, process_at, entry_at}
-use Rattle.pfc_types.specs.rules.Calls.{last_field, before_last}
+use Rattle.pfc_types.specs.Scopes.{meaning_of}
+use Rattle.pfc_types.specs.Blocks.{sub_at}
 use Rattle.pfc_types.specs.rules.Constants.{constant_value}
 use Rattle.pfc_types.specs.rules.Expressions.{find, first_type, field_type, selected, as_desig, expr_type, desig_type}
-use Rattle.pfc_types.specs.rules.Statements.{scopes_in, arm_scopes, comm_scopes, alt_scopes, alts_scopes}
 use Rattle.pfc_values.specs.declared.simple.Simple.{Simple}
 use Rattle.pfc_values.specs.declared.simple.Simple.TheVariants.{Integer, Boolean, Char}
 use Rattle.pfc_semantics.specs.Operators.{simple_of}
 use Rattle.pfc_semantics.specs.Displays.{Spot}
-use Rattle.pfc_semantics.specs.Objects.{module_number}
-use Rattle.pfc_semantics.specs.Programs.{Program, Block, block_number}
-use Rattle.pfc_semantics.specs.Predeclared.{Function, Procedure, abs, sqr, odd, ord, chr, succ, pred, eof, eoln, empty as emptied, clock, random, no_function, function_of, reader, writer, initial, wait, signal, delay, resume, sleep, no_procedure, procedure_of}
+use Rattle.pfc_semantics.specs.Predeclared.{Function, Procedure, abs, sqr, odd, ord, chr, succ, pred, eof, eoln, empty as emptied, clock, random, no_function}
+use Rattle.pfc_semantics.specs.Predeclared.{function_of, reader, writer, initial, wait, signal, delay, resume, sleep, no_procedure}
 use Rattle.pfc_semantics.specs.Expressions.{spot_of, char_in, form_in}
-use Rattle.pfc_semantics.specs.Statements.{as_string, item_of, expr_of, behind_first, name_in_process, process_of_type}
+use Rattle.pfc_semantics.specs.Statements.{as_string, item_of, expr_of, behind_first}
 use Rattle.pfc_semantics.specs.Remainders.{Replica, Alternative}
-use Rattle.pfc_semantics.specs.Alternatives.{message_of, receiver_of, replicas, alternative, spread_out, alternatives}
+use Rattle.pfc_semantics.specs.Alternatives.{message_of, receiver_of}
 use Rattle.pfc_code.specs.declared.instructions.Instr.{Instr}
-use Rattle.pfc_code.specs.declared.instructions.Instr.TheVariants.{LIT, FLD, LOAD, STORE, OBJ, NEG, ABS, SQR, ODD, CHR, SUCC, PRED, NOT, JMP, JF, TURN, FORB, FORW, FORT, CEQ, CERR, COEND, SINI, SWAIT, SSIG, SEND, RECV, ECALL, ACC, EACC, ARMS, ARMR, ARMA, ARMT, ARMX, SEL, DELAY, RESUME, EMPTY, SLEEP, CLOCK, RAND, WRNL, RDNL, EOF, EOLN, REQ, NEW}
-use Rattle.pfc_translation.specs.Sites.{Site, at_line, in_accept, context_of, forms_of, blocks_of, type_cells}
+use Rattle.pfc_code.specs.declared.instructions.Instr.TheVariants.{LIT, FLD, LOAD, STORE, OBJ, NEG, ABS, SQR, ODD, CHR, SUCC, PRED, NOT, JMP, JF, CEQ, SINI}
+use Rattle.pfc_code.specs.declared.instructions.Instr.TheVariants.{SWAIT, SSIG, SEND, RECV, ARMS, ARMR, ARMA, ARMT, ARMX, SEL, DELAY, RESUME, EMPTY, SLEEP}
+use Rattle.pfc_code.specs.declared.instructions.Instr.TheVariants.{CLOCK, RAND, WRNL, RDNL, EOF, EOLN, NEW}
+use Rattle.pfc_translation.specs.Sites.{Site, context_of, forms_of, blocks_of, type_cells}
 use Rattle.pfc_translation.specs.Codes.{Code, nothing, ◌⨾◌, one, over, back, string, unseen, with_arms}
 use Rattle.pfc_translation.specs.Addresses.{base_code, type_behind, element_in, index_instr, field_cell}
-use Rattle.pfc_translation.specs.Expressions.{expr_code, simple_code, summands_code, term_code, multipliers_code, factor_code, sign_code, first_value, first_address, actual_code, lent_code, variable_code, args_code, selectors_code, indices_code, name_code, function_code, relation_instr, add_instr, multiply_instr, simple_number, call_instr, address_code, desig_code, object_code}
-use Rattle.pfc_translation.specs.Calls.{write_instr, plain_item, wide_item, item_code, writes_code, read_instr, input_code, reads_code, given_code, rank_code, first_object, procedure_code, sub_code, enter_instr, exported_code, module_code, resource_of, requeue_code, activation_code, formals_cells, entry_code, process_code, field_code, called_variable, called_process, called_code, found_code, call_code}
-use Rattle.pfc_translation.specs.Selects.{message_code, message_cells, receiver_code, receiver_cells, send_code, receive_code, entry_of, accept_cell, accept_cells, accept_code, replica_code, comm_code, guarded_code, alternative_code, alternatives_code}
-use Rattle.pfc_translation.specs.Statements.{assign_code, label_of, labels_code, label_count, spread_replicas, chosen_code, replica_branches, branches_from, sel_code, select_code, stmt_code, stmts_code, tests_code, arms_code, accepted_code, met_code, branch_code, branches_code, distances}
+use Rattle.pfc_translation.specs.Expressions.{expr_code, simple_code, summands_code, term_code, multipliers_code, factor_code, sign_code, first_value}
+use Rattle.pfc_translation.specs.Expressions.{first_address, actual_code, lent_code, variable_code, args_code, selectors_code, indices_code, name_code}
+use Rattle.pfc_translation.specs.Expressions.{function_code, relation_instr, add_instr, multiply_instr, simple_number, call_instr, address_code, desig_code}
+use Rattle.pfc_translation.specs.Expressions.{object_code}
+use Rattle.pfc_translation.specs.Calls.{write_instr, plain_item, wide_item, item_code, writes_code, read_instr, input_code, reads_code, given_code, rank_code}
+use Rattle.pfc_translation.specs.Calls.{first_object, procedure_code}
+use Rattle.pfc_translation.specs.Selects.{message_code, message_cells, receiver_code, receiver_cells, send_code, receive_code, entry_of, accept_cell}
+use Rattle.pfc_translation.specs.Selects.{accept_cells, replica_code, comm_code, guarded_code, alternatives_code}
+use Rattle.pfc_translation.specs.Statements.{label_of, labels_code, chosen_code, sel_code, select_code}
 use Rattle.pfc_tree.specs.trees.Stmts.{CommTree, comm_accept, comm_send, comm_receive, timeout, terminate}
 use Rattle.pfc_code.specs.declared.instructions.Instr.TheVariants.{ADDR, REF}
 use Rattle.pfc_translation.specs.Sites.{links_to, cell_of, refers}
@@ -65,17 +70,18 @@ IsOther i = Unit {0}
 pub record IsQuiet (c : Code) : Type 0 where
   pub each : (at n : ℕ) → Each (λ j i. IsOther i) at (instructions (c.put at n))
 
+pub moved : (at to : ℕ) (code : List Instr) → Each (λ j i. IsOther i) at code → Each (λ j i. IsOther i) to code
+moved at to [] h = tt
+moved at to (i ∷ code) h = (h.0, moved (at + 1) (to + 1) code h.1)
+
 infixr 60 ◌&◌
 pub ◌&◌ : {c d : Code} → IsQuiet c → IsQuiet d → IsQuiet (c ⨾ d)
 ◌&◌ {c} {d} p q =
     record {
       each = λ at n. each_append (λ j i. IsOther i) at (c.put at n) (d.put (at + c.size) (n + length c.texts)) (p.each at n)
-          (moved (at + c.size) (at + length (c.put at n)) (instructions (d.put (at + c.size) (n + length c.texts))) (q.each (at + c.size) (n + length c.texts)));
+          (moved (at + c.size) (at + length (c.put at n)) (instructions (d.put (at + c.size) (n + length c.texts)))
+          (q.each (at + c.size) (n + length c.texts)));
     }
-  where
-    moved : (at to : ℕ) (code : List Instr) → Each (λ j i. IsOther i) at code → Each (λ j i. IsOther i) to code
-    moved at to [] h = tt
-    moved at to (i ∷ code) h = (h.0, moved (at + 1) (to + 1) code h.1)
 
 pub no_code : IsQuiet nothing
 no_code = record { each = λ at n. tt }
@@ -142,7 +148,9 @@ based s v = one_is s _ (by (refers s v))
     by true = tt
     by false = tt
 
-a_function : (s : Site) (f : Function) (t : Option TypeId) {value address : Code} → IsQuiet value → IsQuiet address → IsQuiet (function_code s f t value address)
+a_function :
+    (s : Site) (f : Function) (t : Option TypeId) {value address : Code} → IsQuiet value → IsQuiet address
+    → IsQuiet (function_code s f t value address)
 a_function s abs t v a = v & one_is s ABS tt
 a_function s sqr t v a = v & one_is s SQR tt
 a_function s odd t v a = v & one_is s ODD tt

@@ -81,7 +81,8 @@ module _ (P : Action → Type 0) (other : (n : Action) → IsOther n → P n) (t
     value c (while_true n e s p k) v =
         phrase.either P other _ _ _ (statement.stmt P other c.env n s _ _ (other (turns c (again n (while_do e s p) k)) tt)) (remainder c.env k)
     value c (until_true n ss e p k) v = statement.tested P other c n (repeat_until ss e p) k _ (remainder c.env k) v
-    value c (count_from n at down b s k) a = phrase.expr P other c b _ _ (λ last. statement.bounded P other c (counting c n at a last down s) k _ (remainder c.env k))
+    value c (count_from n at down b s k) a =
+        phrase.expr P other c b _ _ (λ last. statement.bounded P other c (counting c n at a last down s) k _ (remainder c.env k))
     value c (count_to n at a down s k) last = statement.bounded P other c (counting c n at (ordinal a) last down s) k _ (remainder c.env k)
     value c (show t k) v = other (prints c _ k) tt
     value c (show_wide t w k) v = phrase.expr P other c w _ _ (statement.width P other c _ k)

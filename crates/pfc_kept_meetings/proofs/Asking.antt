@@ -214,7 +214,8 @@ module _ (facts : Facts) (m : Machine) (c : Config) (p choice : ℕ) (level : Li
       waits_same : ComeToSame facts m c p x.line (silent (machine_by false false q0 world)) (source_by false false)
       waits_same =
           comes_then facts m c p level acting x.line
-          (stopping.activities facts m c p level acting own (Call q0 entry) undue (here + 1) ops doing (asking values) x.line within shows) m.descriptors c.store
+          (stopping.activities facts m c p level acting own (Call q0 entry) undue (here + 1) ops doing (asking values) x.line within shows) m.descriptors
+          c.store
           (moved m.stacks p (here + 1) ops) waiting
           (stops_behind facts m c p level acting own (Call q0 entry) undue (here + 1) ops doing (asking values) x.line within shows)
           (blocked world p (Call q0 entry) []) refl

@@ -49,25 +49,41 @@ module _ (facts : Facts) (m : Machine) (c : Config) (homes : Homes) (entries : E
   abbrev z : ℕ
   z = layout_cells g.state.forms (laid_parameters (entry_formals g q acc.entry))
 
-  pub live : AreLive m.stacks (parameter_cell q (giving.d facts m c homes entries alike q level stands own there processes b x checked acc accepts typed runs of_block)) z
-  live = by_entries (entries q) (only facts m c homes entries alike q level stands own there processes b x checked acc.entry acc.scope accepts).entries_are (alike.holds.memory q)
+  pub live : AreLive m.stacks (parameter_cell q (giving.d facts m c homes entries alike q level stands own there processes b x checked acc accepts typed runs
+      of_block)) z
+  live = by_entries (entries q) (only facts m c homes entries alike q level stands own there processes b x checked acc.entry acc.scope accepts).entries_are
+      (alike.holds.memory q)
     where
       fits : (n l j k r f d w u y v : ℕ) → n ≡ l + r → r ≡ j + k → j ≡ 8 → k ≡ f → f ≡ w + u → u ≡ y + v → d ≡ w → 8 + d + y ≤ n
       fits n l j k r f d w u y v one two three four five six seven = omega (arith, one, two, three, four, five, six, seven)
 
-      by_entries : (es : List Entry) → es ≡ giving.e facts m c homes entries alike q level stands own there processes b x checked acc accepts typed runs of_block ∷ [] → ProcessIs g homes c.store q es (cells_of m.stacks q) → 8 + giving.d facts m c homes entries alike q level stands own there processes b x checked acc accepts typed runs of_block + z ≤ length (cells_of m.stacks q)
+      by_entries : (es : List Entry) → es ≡ giving.e facts m c homes entries alike q level stands own there processes b x checked acc accepts typed runs
+          of_block ∷ [] → ProcessIs g homes c.store q es (cells_of m.stacks q) → 8 + giving.d facts m c homes entries alike q level stands own there processes
+          b x checked acc accepts typed runs of_block + z ≤ length (cells_of m.stacks q)
       by_entries es same_entries is =
           let (lower, none, over) = subst (λ (xs : List Entry). ProcessIs g homes c.store q xs (cells_of m.stacks q)) same_entries is in
           let stand = giving.stand_home facts m c homes entries alike q level stands own there processes b x checked acc accepts typed runs of_block in
-          let its_home : over.home ≡ home = some_same over.home home (sym over.at ∙ ap homes (first facts m c homes entries alike q level stands own there processes b x checked acc.entry acc.scope accepts).stands.number ∙ giving.at_home facts m c homes entries alike q level stands own there processes b x checked acc accepts typed runs of_block) in
-          fits (length (cells_of m.stacks q)) (length lower) (length (giving.e facts m c homes entries alike q level stands own there processes b x checked acc accepts typed runs of_block).own) (length over.block) (length ((giving.e facts m c homes entries alike q level stands own there processes b x checked acc accepts typed runs of_block).own ++ over.block))
-          (layout_cells g.state.forms (layout_at g home)) (giving.d facts m c homes entries alike q level stands own there processes b x checked acc accepts typed runs of_block) (layout_cells g.state.forms stand.before)
-          (layout_cells g.state.forms (giving.parameters facts m c homes entries alike q level stands own there processes b x checked acc accepts typed runs of_block ++ stand.behind)) z (layout_cells g.state.forms stand.behind)
-          (ap (λ (ws : List ℤ). length ws) over.is ∙ length-append lower ((giving.e facts m c homes entries alike q level stands own there processes b x checked acc accepts typed runs of_block).own ++ over.block))
-          (length-append (giving.e facts m c homes entries alike q level stands own there processes b x checked acc accepts typed runs of_block).own over.block) over.size
-          (block_length g alike.program.types.counted homes (layout_at g over.home) (values_in c.store (giving.e facts m c homes entries alike q level stands own there processes b x checked acc accepts typed runs of_block).activation) over.block over.holds
+          let its_home : over.home ≡ home = some_same over.home home (sym over.at ∙ ap homes (first facts m c homes entries alike q level stands own there
+          processes b x checked acc.entry acc.scope accepts).stands.number ∙ giving.at_home facts m c homes entries alike q level stands own there
+          processes b x checked acc accepts typed runs of_block) in
+          fits (length (cells_of m.stacks q)) (length lower) (length (giving.e facts m c homes entries alike q level stands own there processes b x checked acc
+          accepts typed runs of_block).own) (length over.block) (length ((giving.e facts m c homes entries alike q level stands own there processes b x
+          checked acc accepts typed runs of_block).own ++ over.block))
+          (layout_cells g.state.forms (layout_at g home)) (giving.d facts m c homes entries alike q level stands own there processes b x checked acc accepts
+          typed runs of_block) (layout_cells g.state.forms stand.before)
+          (layout_cells g.state.forms (giving.parameters facts m c homes entries alike q level stands own there processes b x checked acc accepts typed runs
+          of_block ++ stand.behind)) z (layout_cells g.state.forms stand.behind)
+          (ap (λ (ws : List ℤ). length ws) over.is ∙ length-append lower ((giving.e facts m c homes entries alike q level stands own there processes b x
+          checked acc accepts typed runs of_block).own ++ over.block))
+          (length-append (giving.e facts m c homes entries alike q level stands own there processes b x checked acc accepts typed runs of_block).own
+          over.block) over.size
+          (block_length g alike.program.types.counted homes (layout_at g over.home) (values_in c.store (giving.e facts m c homes entries alike q level stands
+          own there processes b x checked acc accepts typed runs of_block).activation) over.block over.holds
           ∙ ap (λ (y : Home). layout_cells g.state.forms (layout_at g y)) its_home)
-          (ap (λ (l : Layout). layout_cells g.state.forms l) stand.is ∙ layout_joined g stand.before (giving.parameters facts m c homes entries alike q level stands own there processes b x checked acc accepts typed runs of_block ++ stand.behind))
-          (layout_joined g (giving.parameters facts m c homes entries alike q level stands own there processes b x checked acc accepts typed runs of_block) stand.behind
-          ∙ ap (λ (l : Layout). layout_cells g.state.forms l + layout_cells g.state.forms stand.behind) (giving.parameters_are facts m c homes entries alike q level stands own there processes b x checked acc accepts typed runs of_block))
+          (ap (λ (l : Layout). layout_cells g.state.forms l) stand.is ∙ layout_joined g stand.before (giving.parameters facts m c homes entries alike q level
+          stands own there processes b x checked acc accepts typed runs of_block ++ stand.behind))
+          (layout_joined g (giving.parameters facts m c homes entries alike q level stands own there processes b x checked acc accepts typed runs of_block)
+          stand.behind
+          ∙ ap (λ (l : Layout). layout_cells g.state.forms l + layout_cells g.state.forms stand.behind) (giving.parameters_are facts m c homes entries alike q
+          level stands own there processes b x checked acc accepts typed runs of_block))
           (giving.d_is facts m c homes entries alike q level stands own there processes b x checked acc accepts typed runs of_block)

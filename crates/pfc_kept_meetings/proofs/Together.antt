@@ -95,7 +95,18 @@ module _ (facts : Facts) (m : Machine) (c : Config) (p : ℕ) (level : LivingLev
   new_store = meets.new_store facts m c p level acting own b x checked acc accepts processes typed runs of_block apart q is_first to ops
 
   abbrev view' : View
-  view' = begins.view facts m c acting.homes acting.entries acting.alike p level acting.actor.stands own acting.actor.process processes b x checked acc accepts typed runs of_block apart (meets.values facts m c p level acting own b x checked acc accepts processes typed runs of_block apart q is_first to ops) (meets.words facts m c p level acting own b x checked acc accepts processes typed runs of_block apart q is_first to ops) (meets.hold facts m c p level acting own b x checked acc accepts processes typed runs of_block apart q is_first to ops) (meets.given facts m c p level acting own b x checked acc accepts processes typed runs of_block apart q is_first to ops) (meets.stacks' facts m c p level acting own b x checked acc accepts processes typed runs of_block apart q is_first to ops) (meets.same facts m c p level acting own b x checked acc accepts processes typed runs of_block apart q is_first to ops) (meets.size facts m c p level acting own b x checked acc accepts processes typed runs of_block apart q is_first to ops) q (meets.lenders facts m c p level acting own b x checked acc accepts processes typed runs of_block apart q is_first to ops) (meets.kept facts m c p level acting own b x checked acc accepts processes typed runs of_block apart q is_first to ops) (meets.table' facts m c p level acting own b x checked acc accepts processes typed runs of_block apart q is_first to ops) (meets.stay facts m c p level acting own b x checked acc accepts processes typed runs of_block apart q is_first to ops) (meets.met facts m c p level acting own b x checked acc accepts processes typed runs of_block apart q is_first to ops) (meets.main facts m c p level acting own b x checked acc accepts processes typed runs of_block apart q is_first to ops)
+  view' = begins.view facts m c acting.homes acting.entries acting.alike p level acting.actor.stands own acting.actor.process processes b x checked acc accepts
+      typed runs of_block apart (meets.values facts m c p level acting own b x checked acc accepts processes typed runs of_block apart q is_first to ops)
+      (meets.words facts m c p level acting own b x checked acc accepts processes typed runs of_block apart q is_first to ops) (meets.hold facts m c p level
+      acting own b x checked acc accepts processes typed runs of_block apart q is_first to ops) (meets.given facts m c p level acting own b x checked acc
+      accepts processes typed runs of_block apart q is_first to ops) (meets.stacks' facts m c p level acting own b x checked acc accepts processes typed runs
+      of_block apart q is_first to ops) (meets.same facts m c p level acting own b x checked acc accepts processes typed runs of_block apart q is_first to ops)
+      (meets.size facts m c p level acting own b x checked acc accepts processes typed runs of_block apart q is_first to ops) q (meets.lenders facts m c p
+      level acting own b x checked acc accepts processes typed runs of_block apart q is_first to ops) (meets.kept facts m c p level acting own b x checked acc
+      accepts processes typed runs of_block apart q is_first to ops) (meets.table' facts m c p level acting own b x checked acc accepts processes typed runs
+      of_block apart q is_first to ops) (meets.stay facts m c p level acting own b x checked acc accepts processes typed runs of_block apart q is_first to ops)
+      (meets.met facts m c p level acting own b x checked acc accepts processes typed runs of_block apart q is_first to ops) (meets.main facts m c p level
+      acting own b x checked acc accepts processes typed runs of_block apart q is_first to ops)
 
   abbrev accepts' : List ℕ
   accepts' = i ∷ level.setting.accepts
@@ -121,7 +132,8 @@ module _ (facts : Facts) (m : Machine) (c : Config) (p : ℕ) (level : LivingLev
   off : q ≢ p
   off = meets.off facts m c p level acting own b x checked acc accepts processes typed runs of_block apart q is_first to ops
 
-  calls : at c.table.rows q ≡ Waits (Call p acc.entry) (meets.calls_so facts m c p level acting own b x checked acc accepts processes typed runs of_block apart q is_first to ops).0 (meets.calls_so facts m c p level acting own b x checked acc accepts processes typed runs of_block apart q is_first to ops).1
+  calls : at c.table.rows q ≡ Waits (Call p acc.entry) (meets.calls_so facts m c p level acting own b x checked acc accepts processes typed runs of_block apart
+      q is_first to ops).0 (meets.calls_so facts m c p level acting own b x checked acc accepts processes typed runs of_block apart q is_first to ops).1
   calls = meets.calls facts m c p level acting own b x checked acc accepts processes typed runs of_block apart q is_first to ops
 
   stack_p : IsSameStack (record (stack_of m.stacks p) { at = to; operands = ops }) (stack_of stacks' p)
@@ -149,22 +161,38 @@ module _ (facts : Facts) (m : Machine) (c : Config) (p : ℕ) (level : LivingLev
             (λ (t : Trial). SeesThrough facts acting.homes acting.entries new_store table' p (acting.entries p) w a.display level'.setting
             (own_block t level.setting.block) (own_view t view') old.others (own_accepts t accepts') meetings') (sym own)
             (through_then level view' accepts' meetings' facts acting.homes acting.entries new_store table' p (acting.entries p) w a.display level.setting.block
-            view' old.others accepts' meetings' (begins.then_seen facts m c acting.homes acting.entries acting.alike p level acting.actor.stands own acting.actor.process processes b x checked acc accepts typed runs of_block apart (meets.values facts m c p level acting own b x checked acc accepts processes typed runs of_block apart q is_first to ops) (meets.words facts m c p level acting own b x checked acc accepts processes typed runs of_block apart q is_first to ops) (meets.hold facts m c p level acting own b x checked acc accepts processes typed runs of_block apart q is_first to ops) (meets.given facts m c p level acting own b x checked acc accepts processes typed runs of_block apart q is_first to ops) (meets.stacks' facts m c p level acting own b x checked acc accepts processes typed runs of_block apart q is_first to ops) (meets.same facts m c p level acting own b x checked acc accepts processes typed runs of_block apart q is_first to ops) (meets.size facts m c p level acting own b x checked acc accepts processes typed runs of_block apart q is_first to ops) q (meets.lenders facts m c p level acting own b x checked acc accepts processes typed runs of_block apart q is_first to ops) (meets.kept facts m c p level acting own b x checked acc accepts processes typed runs of_block apart q is_first to ops) (meets.table' facts m c p level acting own b x checked acc accepts processes typed runs of_block apart q is_first to ops) (meets.stay facts m c p level acting own b x checked acc accepts processes typed runs of_block apart q is_first to ops) (meets.met facts m c p level acting own b x checked acc accepts processes typed runs of_block apart q is_first to ops) (meets.main facts m c p level acting own b x checked acc accepts processes typed runs of_block apart q is_first to ops)));
+            view' old.others accepts' meetings' (begins.then_seen facts m c acting.homes acting.entries acting.alike p level acting.actor.stands own
+            acting.actor.process processes b x checked acc accepts typed runs of_block apart (meets.values facts m c p level acting own b x checked acc
+            accepts processes typed runs of_block apart q is_first to ops) (meets.words facts m c p level acting own b x checked acc accepts processes
+            typed runs of_block apart q is_first to ops) (meets.hold facts m c p level acting own b x checked acc accepts processes typed runs of_block
+            apart q is_first to ops) (meets.given facts m c p level acting own b x checked acc accepts processes typed runs of_block apart q is_first to
+            ops) (meets.stacks' facts m c p level acting own b x checked acc accepts processes typed runs of_block apart q is_first to ops) (meets.same
+            facts m c p level acting own b x checked acc accepts processes typed runs of_block apart q is_first to ops) (meets.size facts m c p level
+            acting own b x checked acc accepts processes typed runs of_block apart q is_first to ops) q (meets.lenders facts m c p level acting own b x
+            checked acc accepts processes typed runs of_block apart q is_first to ops) (meets.kept facts m c p level acting own b x checked acc accepts
+            processes typed runs of_block apart q is_first to ops) (meets.table' facts m c p level acting own b x checked acc accepts processes typed runs
+            of_block apart q is_first to ops) (meets.stay facts m c p level acting own b x checked acc accepts processes typed runs of_block apart q
+            is_first to ops) (meets.met facts m c p level acting own b x checked acc accepts processes typed runs of_block apart q is_first to ops)
+            (meets.main facts m c p level acting own b x checked acc accepts processes typed runs of_block apart q is_first to ops)));
         around = λ y beside. old.around y (beside_back level view' accepts' meetings' (block_of level) y beside);
       }
 
   abbrev act : Activation
-  act = owner.a facts m c acting.homes acting.entries acting.alike p level acting.actor.stands own acting.actor.process processes b x checked acc.entry i accepts
+  act = owner.a facts m c acting.homes acting.entries acting.alike p level acting.actor.stands own acting.actor.process processes b x checked acc.entry i
+      accepts
 
   abbrev e : Entry
   e = owner.e facts m c acting.homes acting.entries acting.alike p level acting.actor.stands own acting.actor.process processes b x checked acc.entry i accepts
 
   abbrev before : IsFirst facts acting.homes c.store p (stack_of m.stacks p).room level w d.communications act e
-  before = owner.first facts m c acting.homes acting.entries acting.alike p level acting.actor.stands own acting.actor.process processes b x checked acc.entry i accepts
+  before = owner.first facts m c acting.homes acting.entries acting.alike p level acting.actor.stands own acting.actor.process processes b x checked acc.entry
+      i accepts
 
   references : (n : ℕ) (t : TypeId) (l : Location) → slice_get (block_of level).layout n ≡ Some (Variable t true)
       → get_or (values_in new_store act.number) n (ordinal (pos 0)) ≡ points l → l.activation ≢ act.number
-  references n t l laid is = by (either_way (giving.from facts m c acting.homes acting.entries acting.alike p level acting.actor.stands own acting.actor.process processes b x checked acc accepts typed runs of_block) (giving.to facts m c acting.homes acting.entries acting.alike p level acting.actor.stands own acting.actor.process processes b x checked acc accepts typed runs of_block) n)
+  references n t l laid is = by (either_way (giving.from facts m c acting.homes acting.entries acting.alike p level acting.actor.stands own
+      acting.actor.process processes b x checked acc accepts typed runs of_block) (giving.to facts m c acting.homes acting.entries acting.alike p level
+      acting.actor.stands own acting.actor.process processes b x checked acc accepts typed runs of_block) n)
     where
       either_way : (f u n : ℕ) → ((f ≤ n) × (n < u)) ⊎ ((f ≤ n → n < u → ⊥))
       either_way f u n = split (grind arith)
@@ -180,15 +208,53 @@ module _ (facts : Facts) (m : Machine) (c : Config) (p : ℕ) (level : LivingLev
       same_location : (y l : Location) → points y ≡ points l → y ≡ l
       same_location y l is = cc
 
-      by : ((giving.from facts m c acting.homes acting.entries acting.alike p level acting.actor.stands own acting.actor.process processes b x checked acc accepts typed runs of_block ≤ n) × (n < giving.to facts m c acting.homes acting.entries acting.alike p level acting.actor.stands own acting.actor.process processes b x checked acc accepts typed runs of_block)) ⊎ ((giving.from facts m c acting.homes acting.entries acting.alike p level acting.actor.stands own acting.actor.process processes b x checked acc accepts typed runs of_block ≤ n → n < giving.to facts m c acting.homes acting.entries acting.alike p level acting.actor.stands own acting.actor.process processes b x checked acc accepts typed runs of_block → ⊥)) → l.activation ≢ act.number
+      by : ((giving.from facts m c acting.homes acting.entries acting.alike p level acting.actor.stands own acting.actor.process processes b x checked acc
+          accepts typed runs of_block ≤ n) × (n < giving.to facts m c acting.homes acting.entries acting.alike p level acting.actor.stands own
+          acting.actor.process processes b x checked acc accepts typed runs of_block)) ⊎ ((giving.from facts m c acting.homes acting.entries acting.alike p
+          level acting.actor.stands own acting.actor.process processes b x checked acc accepts typed runs of_block ≤ n → n < giving.to facts m c acting.homes
+          acting.entries acting.alike p level acting.actor.stands own acting.actor.process processes b x checked acc accepts typed runs of_block → ⊥)) →
+          l.activation ≢ act.number
       by (inl inside) =
-          let one = shown.given_at facts m c acting.homes acting.entries acting.alike p level acting.actor.stands own acting.actor.process processes b x checked acc accepts typed runs of_block apart (meets.values facts m c p level acting own b x checked acc accepts processes typed runs of_block apart q is_first to ops) (meets.words facts m c p level acting own b x checked acc accepts processes typed runs of_block apart q is_first to ops) (meets.hold facts m c p level acting own b x checked acc accepts processes typed runs of_block apart q is_first to ops) (meets.given facts m c p level acting own b x checked acc accepts processes typed runs of_block apart q is_first to ops) (meets.stacks' facts m c p level acting own b x checked acc accepts processes typed runs of_block apart q is_first to ops) (meets.same facts m c p level acting own b x checked acc accepts processes typed runs of_block apart q is_first to ops) (meets.size facts m c p level acting own b x checked acc accepts processes typed runs of_block apart q is_first to ops) q (meets.lenders facts m c p level acting own b x checked acc accepts processes typed runs of_block apart q is_first to ops) (meets.kept facts m c p level acting own b x checked acc accepts processes typed runs of_block apart q is_first to ops) (meets.table' facts m c p level acting own b x checked acc accepts processes typed runs of_block apart q is_first to ops) (meets.stay facts m c p level acting own b x checked acc accepts processes typed runs of_block apart q is_first to ops) (meets.met facts m c p level acting own b x checked acc accepts processes typed runs of_block apart q is_first to ops) (meets.main facts m c p level acting own b x checked acc accepts processes typed runs of_block apart q is_first to ops) n t inside.0 inside.1 (ap (λ (y : Block). slice_get y.layout n) (sym (owner.block_is facts m c acting.homes acting.entries acting.alike p level acting.actor.stands own acting.actor.process processes b x checked acc.entry i accepts)) ∙ laid) in
+          let one = shown.given_at facts m c acting.homes acting.entries acting.alike p level acting.actor.stands own acting.actor.process processes b x
+          checked acc accepts typed runs of_block apart (meets.values facts m c p level acting own b x checked acc accepts processes typed runs of_block
+          apart q is_first to ops) (meets.words facts m c p level acting own b x checked acc accepts processes typed runs of_block apart q is_first to ops)
+          (meets.hold facts m c p level acting own b x checked acc accepts processes typed runs of_block apart q is_first to ops) (meets.given facts m c p
+          level acting own b x checked acc accepts processes typed runs of_block apart q is_first to ops) (meets.stacks' facts m c p level acting own b x
+          checked acc accepts processes typed runs of_block apart q is_first to ops) (meets.same facts m c p level acting own b x checked acc accepts
+          processes typed runs of_block apart q is_first to ops) (meets.size facts m c p level acting own b x checked acc accepts processes typed runs
+          of_block apart q is_first to ops) q (meets.lenders facts m c p level acting own b x checked acc accepts processes typed runs of_block apart q
+          is_first to ops) (meets.kept facts m c p level acting own b x checked acc accepts processes typed runs of_block apart q is_first to ops)
+          (meets.table' facts m c p level acting own b x checked acc accepts processes typed runs of_block apart q is_first to ops) (meets.stay facts m c p
+          level acting own b x checked acc accepts processes typed runs of_block apart q is_first to ops) (meets.met facts m c p level acting own b x
+          checked acc accepts processes typed runs of_block apart q is_first to ops) (meets.main facts m c p level acting own b x checked acc accepts
+          processes typed runs of_block apart q is_first to ops) n t inside.0 inside.1 (ap (λ (y : Block). slice_get y.layout n) (sym (owner.block_is facts
+          m c acting.homes acting.entries acting.alike p level acting.actor.stands own acting.actor.process processes b x checked acc.entry i accepts)) ∙
+          laid) in
           let same : one.0 ≡ l = same_location one.0 l (sym one.1 ∙ is) in
           subst (λ (y : Location). y.activation ≢ act.number) same
-          (not_kept facts m c acting.homes acting.entries acting.alike p act.number (owner.home facts m c acting.homes acting.entries acting.alike p level acting.actor.stands own acting.actor.process processes b x checked acc.entry i accepts) (giving.at_home facts m c acting.homes acting.entries acting.alike p level acting.actor.stands own acting.actor.process processes b x checked acc accepts typed runs of_block) before.stands.process (owner.child facts m c acting.homes acting.entries acting.alike p level acting.actor.stands own acting.actor.process processes b x checked acc.entry i accepts)
-          (λ s met_by. ready_unmet (at c.table.rows p) s acting.actor.ready met_by) q (meets.lenders facts m c p level acting own b x checked acc accepts processes typed runs of_block apart q is_first to ops) (acting.entries q) one.0.activation off refl
-          (may_lend c.table acting.entries q (meets.lenders facts m c p level acting own b x checked acc accepts processes typed runs of_block apart q is_first to ops) (meets.values facts m c p level acting own b x checked acc accepts processes typed runs of_block apart q is_first to ops) one.0.activation (meets.kept facts m c p level acting own b x checked acc accepts processes typed runs of_block apart q is_first to ops) one.2))
-      by (inr out) = before.stands.apart n t l laid (sym (shown.places facts m c acting.homes acting.entries acting.alike p level acting.actor.stands own acting.actor.process processes b x checked acc accepts typed runs of_block apart (meets.values facts m c p level acting own b x checked acc accepts processes typed runs of_block apart q is_first to ops) (meets.words facts m c p level acting own b x checked acc accepts processes typed runs of_block apart q is_first to ops) (meets.hold facts m c p level acting own b x checked acc accepts processes typed runs of_block apart q is_first to ops) (meets.given facts m c p level acting own b x checked acc accepts processes typed runs of_block apart q is_first to ops) (meets.stacks' facts m c p level acting own b x checked acc accepts processes typed runs of_block apart q is_first to ops) (meets.same facts m c p level acting own b x checked acc accepts processes typed runs of_block apart q is_first to ops) (meets.size facts m c p level acting own b x checked acc accepts processes typed runs of_block apart q is_first to ops) q (meets.lenders facts m c p level acting own b x checked acc accepts processes typed runs of_block apart q is_first to ops) (meets.kept facts m c p level acting own b x checked acc accepts processes typed runs of_block apart q is_first to ops) (meets.table' facts m c p level acting own b x checked acc accepts processes typed runs of_block apart q is_first to ops) (meets.stay facts m c p level acting own b x checked acc accepts processes typed runs of_block apart q is_first to ops) (meets.met facts m c p level acting own b x checked acc accepts processes typed runs of_block apart q is_first to ops) (meets.main facts m c p level acting own b x checked acc accepts processes typed runs of_block apart q is_first to ops) n out) ∙ is)
+          (not_kept facts m c acting.homes acting.entries acting.alike p act.number (owner.home facts m c acting.homes acting.entries acting.alike p level
+          acting.actor.stands own acting.actor.process processes b x checked acc.entry i accepts) (giving.at_home facts m c acting.homes acting.entries
+          acting.alike p level acting.actor.stands own acting.actor.process processes b x checked acc accepts typed runs of_block) before.stands.process
+          (owner.child facts m c acting.homes acting.entries acting.alike p level acting.actor.stands own acting.actor.process processes b x checked
+          acc.entry i accepts)
+          (λ s met_by. ready_unmet (at c.table.rows p) s acting.actor.ready met_by) q (meets.lenders facts m c p level acting own b x checked acc accepts
+          processes typed runs of_block apart q is_first to ops) (acting.entries q) one.0.activation off refl
+          (may_lend c.table acting.entries q (meets.lenders facts m c p level acting own b x checked acc accepts processes typed runs of_block apart q is_first
+          to ops) (meets.values facts m c p level acting own b x checked acc accepts processes typed runs of_block apart q is_first to ops)
+          one.0.activation (meets.kept facts m c p level acting own b x checked acc accepts processes typed runs of_block apart q is_first to ops) one.2))
+      by (inr out) = before.stands.apart n t l laid (sym (shown.places facts m c acting.homes acting.entries acting.alike p level acting.actor.stands own
+          acting.actor.process processes b x checked acc accepts typed runs of_block apart (meets.values facts m c p level acting own b x checked acc accepts
+          processes typed runs of_block apart q is_first to ops) (meets.words facts m c p level acting own b x checked acc accepts processes typed runs
+          of_block apart q is_first to ops) (meets.hold facts m c p level acting own b x checked acc accepts processes typed runs of_block apart q is_first to
+          ops) (meets.given facts m c p level acting own b x checked acc accepts processes typed runs of_block apart q is_first to ops) (meets.stacks' facts m
+          c p level acting own b x checked acc accepts processes typed runs of_block apart q is_first to ops) (meets.same facts m c p level acting own b x
+          checked acc accepts processes typed runs of_block apart q is_first to ops) (meets.size facts m c p level acting own b x checked acc accepts processes
+          typed runs of_block apart q is_first to ops) q (meets.lenders facts m c p level acting own b x checked acc accepts processes typed runs of_block
+          apart q is_first to ops) (meets.kept facts m c p level acting own b x checked acc accepts processes typed runs of_block apart q is_first to ops)
+          (meets.table' facts m c p level acting own b x checked acc accepts processes typed runs of_block apart q is_first to ops) (meets.stay facts m c p
+          level acting own b x checked acc accepts processes typed runs of_block apart q is_first to ops) (meets.met facts m c p level acting own b x checked
+          acc accepts processes typed runs of_block apart q is_first to ops) (meets.main facts m c p level acting own b x checked acc accepts processes typed
+          runs of_block apart q is_first to ops) n out) ∙ is)
 
   first_new : IsFirst facts acting.homes new_store p (stack_of m.stacks p).room level w d.communications act e
   first_new =
@@ -230,23 +296,30 @@ module _ (facts : Facts) (m : Machine) (c : Config) (p : ℕ) (level : LivingLev
 
   callers_first : IsFirst facts acting.homes new_store p (stack_of m.stacks p).room level' w latest act e
   callers_first =
-      first_then level view' accepts' meetings' d.communications latest.callers fewer facts acting.homes new_store p (stack_of m.stacks p).room w act e first_new
+      first_then level view' accepts' meetings' d.communications latest.callers fewer facts acting.homes new_store p (stack_of m.stacks p).room w act e
+      first_new
 
   callers_so : AreCallers facts acting.homes acting.entries new_store table' p (stack_of m.stacks p).room level' w latest a.activations (acting.entries p)
   callers_so =
-      subst (λ (xs : List Activation). AreCallers facts acting.homes acting.entries new_store table' p (stack_of m.stacks p).room level' w latest xs (acting.entries p))
-      (sym (owner.only facts m c acting.homes acting.entries acting.alike p level acting.actor.stands own acting.actor.process processes b x checked acc.entry i accepts).activations)
+      subst (λ (xs : List Activation). AreCallers facts acting.homes acting.entries new_store table' p (stack_of m.stacks p).room level' w latest xs
+      (acting.entries p))
+      (sym (owner.only facts m c acting.homes acting.entries acting.alike p level acting.actor.stands own acting.actor.process processes b x checked acc.entry
+      i accepts).activations)
       (subst (λ (es : List Entry). AreCallers facts acting.homes acting.entries new_store table' p (stack_of m.stacks p).room level' w latest (act ∷ []) es)
-      (sym (owner.only facts m c acting.homes acting.entries acting.alike p level acting.actor.stands own acting.actor.process processes b x checked acc.entry i accepts).entries_are) callers_first)
+      (sym (owner.only facts m c acting.homes acting.entries acting.alike p level acting.actor.stands own acting.actor.process processes b x checked acc.entry
+      i accepts).entries_are) callers_first)
 
-  callers_now : AreCallers facts acting.homes acting.entries new_store table' p (stack_of stacks' p).room level' (word_of (last_activation stacks' p)) latest a.activations
+  callers_now : AreCallers facts acting.homes acting.entries new_store table' p (stack_of stacks' p).room level' (word_of (last_activation stacks' p)) latest
+      a.activations
       (acting.entries p)
   callers_now =
       subst
-      (λ n. AreCallers facts acting.homes acting.entries new_store table' p n level' (word_of (last_activation stacks' p)) latest a.activations (acting.entries p))
+      (λ n. AreCallers facts acting.homes acting.entries new_store table' p n level' (word_of (last_activation stacks' p)) latest a.activations (acting.entries
+      p))
       (sym stack_p.room)
       (subst
-      (λ (y : Ref). AreCallers facts acting.homes acting.entries new_store table' p (stack_of m.stacks p).room level' (word_of y) latest a.activations (acting.entries p))
+      (λ (y : Ref). AreCallers facts acting.homes acting.entries new_store table' p (stack_of m.stacks p).room level' (word_of y) latest a.activations
+      (acting.entries p))
       (sym same_place) callers_so)
 
   are_met : AreMet table' p latest.callers
@@ -256,7 +329,8 @@ module _ (facts : Facts) (m : Machine) (c : Config) (p : ℕ) (level : LivingLev
       waiting zero y inside = meets.met facts m c p level acting own b x checked acc accepts processes typed runs of_block apart q is_first to ops
       waiting (suc n) y inside =
           let old = acting.actor.stands.met.waiting n y (less n (length d.communications.callers) inside) in
-          subst (λ (s : Stand). is_met_by s p) (sym (meets.stay facts m c p level acting own b x checked acc accepts processes typed runs of_block apart q is_first to ops (get_or d.communications.callers n y) p old)) old
+          subst (λ (s : Stand). is_met_by s p) (sym (meets.stay facts m c p level acting own b x checked acc accepts processes typed runs of_block apart q
+          is_first to ops (get_or d.communications.callers n y) p old)) old
         where
           less : (n k : ℕ) → suc n < suc k → n < k
           less n k inside = grind (arith, inside)
@@ -264,7 +338,9 @@ module _ (facts : Facts) (m : Machine) (c : Config) (p : ℕ) (level : LivingLev
       not_there : (n : ℕ) → slice_get d.communications.callers n ≡ Some q → ⊥
       not_there n there =
           let found = found_at d.communications.callers n q 0 there in
-          calls_unmet (at c.table.rows q) p acc.entry (meets.calls_so facts m c p level acting own b x checked acc accepts processes typed runs of_block apart q is_first to ops).0 p (meets.calls_so facts m c p level acting own b x checked acc accepts processes typed runs of_block apart q is_first to ops).1 calls
+          calls_unmet (at c.table.rows q) p acc.entry (meets.calls_so facts m c p level acting own b x checked acc accepts processes typed runs of_block apart
+          q is_first to ops).0 p (meets.calls_so facts m c p level acting own b x checked acc accepts processes typed runs of_block apart q is_first to
+          ops).1 calls
           (subst (λ j. is_met_by (at c.table.rows j) p) found.1 (acting.actor.stands.met.waiting n 0 found.0))
 
       once : (j n r : ℕ) → slice_get latest.callers j ≡ Some r → slice_get latest.callers n ≡ Some r → j ≡ n
@@ -282,7 +358,8 @@ module _ (facts : Facts) (m : Machine) (c : Config) (p : ℕ) (level : LivingLev
       record {
         count = old.count;
         seen =
-            subst (λ (y : Ref). IsSeenBy facts acting.homes acting.entries new_store table' p latest.callers (acting.entries p) (word_of y) a.display level') (sym same_place)
+            subst (λ (y : Ref). IsSeenBy facts acting.homes acting.entries new_store table' p latest.callers (acting.entries p) (word_of y) a.display level')
+            (sym same_place)
             seen_then;
         callers = callers_now;
         room = subst (λ n. level.setting.room ≤ n) (sym stack_p.room) old.room;
@@ -305,7 +382,19 @@ module _ (facts : Facts) (m : Machine) (c : Config) (p : ℕ) (level : LivingLev
     arms,
     b,
     beside_then level view' accepts' meetings' level.setting.block b checked.beside,
-    subst (λ (made : List Arm). DoesIn level'.setting b to ops made doing) (sym none) (begins.goes_then facts m c acting.homes acting.entries acting.alike p level acting.actor.stands own acting.actor.process processes b x checked acc accepts typed runs of_block apart (meets.values facts m c p level acting own b x checked acc accepts processes typed runs of_block apart q is_first to ops) (meets.words facts m c p level acting own b x checked acc accepts processes typed runs of_block apart q is_first to ops) (meets.hold facts m c p level acting own b x checked acc accepts processes typed runs of_block apart q is_first to ops) (meets.given facts m c p level acting own b x checked acc accepts processes typed runs of_block apart q is_first to ops) (meets.stacks' facts m c p level acting own b x checked acc accepts processes typed runs of_block apart q is_first to ops) (meets.same facts m c p level acting own b x checked acc accepts processes typed runs of_block apart q is_first to ops) (meets.size facts m c p level acting own b x checked acc accepts processes typed runs of_block apart q is_first to ops) q (meets.lenders facts m c p level acting own b x checked acc accepts processes typed runs of_block apart q is_first to ops) (meets.kept facts m c p level acting own b x checked acc accepts processes typed runs of_block apart q is_first to ops) (meets.table' facts m c p level acting own b x checked acc accepts processes typed runs of_block apart q is_first to ops) (meets.stay facts m c p level acting own b x checked acc accepts processes typed runs of_block apart q is_first to ops) (meets.met facts m c p level acting own b x checked acc accepts processes typed runs of_block apart q is_first to ops) (meets.main facts m c p level acting own b x checked acc accepts processes typed runs of_block apart q is_first to ops) k o to ops end rest behind).1,
+    subst (λ (made : List Arm). DoesIn level'.setting b to ops made doing) (sym none) (begins.goes_then facts m c acting.homes acting.entries acting.alike p
+        level acting.actor.stands own acting.actor.process processes b x checked acc accepts typed runs of_block apart (meets.values facts m c p level acting
+        own b x checked acc accepts processes typed runs of_block apart q is_first to ops) (meets.words facts m c p level acting own b x checked acc accepts
+        processes typed runs of_block apart q is_first to ops) (meets.hold facts m c p level acting own b x checked acc accepts processes typed runs of_block
+        apart q is_first to ops) (meets.given facts m c p level acting own b x checked acc accepts processes typed runs of_block apart q is_first to ops)
+        (meets.stacks' facts m c p level acting own b x checked acc accepts processes typed runs of_block apart q is_first to ops) (meets.same facts m c p
+        level acting own b x checked acc accepts processes typed runs of_block apart q is_first to ops) (meets.size facts m c p level acting own b x checked
+        acc accepts processes typed runs of_block apart q is_first to ops) q (meets.lenders facts m c p level acting own b x checked acc accepts processes
+        typed runs of_block apart q is_first to ops) (meets.kept facts m c p level acting own b x checked acc accepts processes typed runs of_block apart q
+        is_first to ops) (meets.table' facts m c p level acting own b x checked acc accepts processes typed runs of_block apart q is_first to ops) (meets.stay
+        facts m c p level acting own b x checked acc accepts processes typed runs of_block apart q is_first to ops) (meets.met facts m c p level acting own b x
+        checked acc accepts processes typed runs of_block apart q is_first to ops) (meets.main facts m c p level acting own b x checked acc accepts processes
+        typed runs of_block apart q is_first to ops) k o to ops end rest behind).1,
   )
 
   under_way : IsUnderWay facts acting.homes acting.entries new_store stacks' table' h p a' d'
@@ -334,7 +423,8 @@ module _ (facts : Facts) (m : Machine) (c : Config) (p : ℕ) (level : LivingLev
         line = refl;
         spare = stack_p.spare ∙ acting.actor.spare;
         activations =
-            not_empty facts acting.homes acting.entries new_store stacks' table' h p (stack_of stacks' p).room level' (word_of (last_activation stacks' p)) latest a.activations
+            not_empty facts acting.homes acting.entries new_store stacks' table' h p (stack_of stacks' p).room level' (word_of (last_activation stacks' p))
+            latest a.activations
             (acting.entries p) a' d' level_then.callers under_way;
       }
 
@@ -346,7 +436,9 @@ module _ (facts : Facts) (m : Machine) (c : Config) (p : ℕ) (level : LivingLev
         (let no : Waits (Barred barred.resource barred.procedure) barred.ticket [] ≡ Is_ready =
         sym barred.is ∙ ap (λ n. at c.table.rows n) is ∙ acting.actor.ready in cc),
     λ is.
-        (let no : Waits (Barred barred.resource barred.procedure) barred.ticket [] ≡ Waits (Call p acc.entry) (meets.calls_so facts m c p level acting own b x checked acc accepts processes typed runs of_block apart q is_first to ops).0 (meets.calls_so facts m c p level acting own b x checked acc accepts processes typed runs of_block apart q is_first to ops).1 =
+        (let no : Waits (Barred barred.resource barred.procedure) barred.ticket [] ≡ Waits (Call p acc.entry) (meets.calls_so facts m c p level acting own b x
+        checked acc accepts processes typed runs of_block apart q is_first to ops).0 (meets.calls_so facts m c p level acting own b x checked acc accepts
+        processes typed runs of_block apart q is_first to ops).1 =
         sym barred.is ∙ ap (λ n. at c.table.rows n) is ∙ calls in cc),
   )
 
@@ -354,8 +446,13 @@ module _ (facts : Facts) (m : Machine) (c : Config) (p : ℕ) (level : LivingLev
       → IsUntouched facts r acting.homes acting.homes acting.entries acting.entries c.store new_store m.stacks stacks' c.table table'
   untouched r away other =
       record {
-        like = λ keeps these. meets.like_of facts m c p level acting own b x checked acc accepts processes typed runs of_block apart q is_first to ops r away keeps these;
-        lenders = λ s lender. (let waits = lender_waits c.table r s lender in (meets.stay facts m c p level acting own b x checked acc accepts processes typed runs of_block apart q is_first to ops s waits.0 waits.1, refl));
+        like = λ keeps these. meets.like_of facts m c p level acting own b x checked acc accepts processes typed runs of_block apart q is_first to ops r away
+            keeps these;
+        lenders = λ s lender. (let waits = lender_waits c.table r s lender in (
+          meets.stay facts m c p level acting own b x checked acc accepts processes typed
+              runs of_block apart q is_first to ops s waits.0 waits.1,
+          refl,
+        ));
         stack = meets.stack_other facts m c p level acting own b x checked acc accepts processes typed runs of_block apart q is_first to ops r away other;
         entries_same = refl;
         row = meets.row_other facts m c p level acting own b x checked acc accepts processes typed runs of_block apart q is_first to ops r other;
@@ -405,7 +502,8 @@ module _ (facts : Facts) (m : Machine) (c : Config) (p : ℕ) (level : LivingLev
 
   activity_caller : get_or activities q (nobody g) ≡ record (activity_of g c q) { hand = empty_hand }
   activity_caller =
-      get_or-set_same once q shows (nobody g) (subst (λ n. q < n) (sym once_size) (meets.inside facts m c p level acting own b x checked acc accepts processes typed runs of_block apart q is_first to ops))
+      get_or-set_same once q shows (nobody g) (subst (λ n. q < n) (sym once_size) (meets.inside facts m c p level acting own b x checked acc accepts processes
+      typed runs of_block apart q is_first to ops))
       ∙ ap (λ (y : Activity). record y { hand = empty_hand }) (get_or-set_other c.activities p q working (nobody g) off)
 
   activity_there : (r : ℕ) → r ≢ p → r ≢ q → get_or activities r (nobody g) ≡ activity_of g c r
@@ -422,13 +520,21 @@ module _ (facts : Facts) (m : Machine) (c : Config) (p : ℕ) (level : LivingLev
   others_kept : (r : ℕ) → r ≢ p → (r ≡ q) ⊎ (r ≢ q) → r < length c.activities
       → RepresentsProcess facts acting.homes acting.entries new_store stacks' table' h r (get_or activities r (nobody g)) (descriptor_of descriptors r)
   others_kept r away (inl is) inside =
-      subst (λ n. RepresentsProcess facts acting.homes acting.entries new_store stacks' table' h n (get_or activities n (nobody g)) (descriptor_of descriptors n)) (sym is)
-      (subst (λ (y : Activity). RepresentsProcess facts acting.homes acting.entries new_store stacks' table' h q y (descriptor_of descriptors q)) (sym activity_caller)
-      (subst (λ (y : Descriptor). RepresentsProcess facts acting.homes acting.entries new_store stacks' table' h q (record (activity_of g c q) { hand = empty_hand }) y)
-      (sym (descriptor_there q off)) (meets.caller_then facts m c p level acting own b x checked acc accepts processes typed runs of_block apart q is_first to ops)))
+      subst (λ n. RepresentsProcess facts acting.homes acting.entries new_store stacks' table' h n (get_or activities n (nobody g)) (descriptor_of descriptors
+      n)) (sym is)
+      (subst (λ (y : Activity). RepresentsProcess facts acting.homes acting.entries new_store stacks' table' h q y (descriptor_of descriptors q)) (sym
+      activity_caller)
+      (subst (λ (y : Descriptor). RepresentsProcess facts acting.homes acting.entries new_store stacks' table' h q (record (activity_of g c q) {
+        hand =
+            empty_hand;
+      }) y)
+      (sym (descriptor_there q off)) (meets.caller_then facts m c p level acting own b x checked acc accepts processes typed runs of_block apart q is_first to
+      ops)))
   others_kept r away (inr other) inside =
-      subst (λ (y : Activity). RepresentsProcess facts acting.homes acting.entries new_store stacks' table' h r y (descriptor_of descriptors r)) (sym (activity_there r away other))
-      (subst (λ (y : Descriptor). RepresentsProcess facts acting.homes acting.entries new_store stacks' table' h r (activity_of g c r) y) (sym (descriptor_there r away))
+      subst (λ (y : Activity). RepresentsProcess facts acting.homes acting.entries new_store stacks' table' h r y (descriptor_of descriptors r)) (sym
+      (activity_there r away other))
+      (subst (λ (y : Descriptor). RepresentsProcess facts acting.homes acting.entries new_store stacks' table' h r (activity_of g c r) y) (sym
+      (descriptor_there r away))
       (other_kept r away other inside))
 
   -- ## All of it
@@ -454,11 +560,17 @@ module _ (facts : Facts) (m : Machine) (c : Config) (p : ℕ) (level : LivingLev
 
   stands_as : (r : ℕ) → (r ≡ q) ⊎ (r ≢ q) → (at table.rows r ≡ at c.table.rows r) ⊎ IsNewStand c (at c.table.rows r) (at table.rows r)
   stands_as r (inl is) = inr (subst (λ n. IsNewStand c (at c.table.rows n) (at table.rows n)) (sym is) new_stand)
-  stands_as r (inr other) = inl (meets.row_other facts m c p level acting own b x checked acc accepts processes typed runs of_block apart q is_first to ops r other)
+  stands_as r (inr other) = inl (meets.row_other facts m c p level acting own b x checked acc accepts processes typed runs of_block apart q is_first to ops r
+      other)
 
   pub begins_behind : IsBehind facts m c p level acting line activities descriptors new_store stacks' table
   begins_behind =
-      let held = giving.holds_then facts m c acting.homes acting.entries acting.alike p level acting.actor.stands own acting.actor.process processes b x checked acc accepts typed runs of_block (meets.values facts m c p level acting own b x checked acc accepts processes typed runs of_block apart q is_first to ops) (meets.words facts m c p level acting own b x checked acc accepts processes typed runs of_block apart q is_first to ops) (meets.hold facts m c p level acting own b x checked acc accepts processes typed runs of_block apart q is_first to ops) stacks' (meets.same facts m c p level acting own b x checked acc accepts processes typed runs of_block apart q is_first to ops) (meets.size facts m c p level acting own b x checked acc accepts processes typed runs of_block apart q is_first to ops) in
+      let held = giving.holds_then facts m c acting.homes acting.entries acting.alike p level acting.actor.stands own acting.actor.process processes b x
+      checked acc accepts typed runs of_block (meets.values facts m c p level acting own b x checked acc accepts processes typed runs of_block apart q
+      is_first to ops) (meets.words facts m c p level acting own b x checked acc accepts processes typed runs of_block apart q is_first to ops) (meets.hold
+      facts m c p level acting own b x checked acc accepts processes typed runs of_block apart q is_first to ops) stacks' (meets.same facts m c p level
+      acting own b x checked acc accepts processes typed runs of_block apart q is_first to ops) (meets.size facts m c p level acting own b x checked acc
+      accepts processes typed runs of_block apart q is_first to ops) in
       record {
         activity_count = length-set once q shows ∙ once_size;
         descriptor_count = length-set m.descriptors p (meeting q d);
@@ -472,7 +584,9 @@ module _ (facts : Facts) (m : Machine) (c : Config) (p : ℕ) (level : LivingLev
         moment = refl;
         stands = λ r. stands_as r (either r q);
         mine =
-            subst (λ (y : Activity). RepresentsProcess facts acting.homes acting.entries new_store stacks' table' h p y (record (descriptor_of descriptors p) { line = line }))
+            subst (λ (y : Activity). RepresentsProcess facts acting.homes acting.entries new_store stacks' table' h p y (record (descriptor_of descriptors p) {
+              line = line;
+            }))
             (sym activity_here)
             (subst (λ (y : Descriptor). RepresentsProcess facts acting.homes acting.entries new_store stacks' table' h p a' y) (sym descriptor_here) mine);
         others = λ r away inside. others_kept r away (either r q) inside;

@@ -1,12 +1,12 @@
 -- What the text tells of the block of a process: it stands in the program, has no guard, and sees its own names and the program's.
-use Rattle.std.proofs.Common.{◌≡◌, ℕ, zero, suc, ◌+◌, ◌<◌, ◌==◌, ◌||◌, Bool, true, false, if◌then◌else◌, List, [], ◌∷◌, ◌++◌, length, slice_get, Some, None, refl}
+use Rattle.std.proofs.Common.{◌≡◌, ℕ, suc, ◌+◌, ◌==◌, ◌||◌, Bool, true, false, if◌then◌else◌, List, [], ◌∷◌, ◌++◌, length, slice_get, Some, None, refl}
 use Rattle.std.proofs.Common.{sym, ap, ◌∙◌, subst, arith}
 use Rattle.std.specs.List.{list_any}
 use Rattle.std.proofs.lemmas.Option.{slice_get_within}
 use Rattle.pfc_tree.specs.trees.Stmts.{body}
-use Rattle.pfc_tree.specs.trees.Parts.{PartTree, PartTrees, ProcessTree, consts, types, vars, sub_part, monitor, resource, process_part, no_parts, more_parts, process}
+use Rattle.pfc_tree.specs.trees.Parts.{PartTrees, ProcessTree, consts, types, vars, sub_part, monitor, resource, process_part, no_parts, more_parts, process}
 use Rattle.pfc_types.specs.Scopes.{Level, scope_at, all_names}
-use Rattle.pfc_types.specs.Blocks.{State, Blocks}
+use Rattle.pfc_types.specs.Blocks.{State}
 use Rattle.pfc_types.specs.rules.Bodies.{level, passed, passed_part, passed_groups, passed_entries, part_scopes}
 use Rattle.pfc_semantics.specs.Programs.{Block, Program, part_blocks, parts_blocks, process_blocks}
 use Rattle.pfc_name_laws.specs.Processes.{processes_from}

@@ -58,8 +58,8 @@ use Rattle.pfc_representation.specs.Holding.{holders_in}
 use Rattle.pfc_representation.specs.Processes.{ActivationsAre}
 use Rattle.pfc_representation.specs.Acting.{IsActing}
 use Rattle.pfc_kept_own_actions.proofs.Arrived.{has_setting}
-use Rattle.pfc_kept_calls.proofs.Called.{g, w, outer, hold, hand, is_free}
-use Rattle.pfc_kept_calls.proofs.Calling.{first_values}
+use Rattle.pfc_kept_calls.proofs.Caller.{g, w, outer, hold, hand, is_free}
+use Rattle.pfc_kept_calls.proofs.Sizes.{first_values}
 use Rattle.pfc_kept_lives.proofs.Callees.{IsProcessBlock}
 use Rattle.pfc_kept_lives.proofs.Makers.{IsMaker}
 

@@ -30,7 +30,7 @@ use Rattle.pfc_representation.specs.Holding.{is_quiet, waits_at_coend}
 use Rattle.pfc_representation.specs.Machines.{machine_table, SharesWords, HoldsStore, IsBetweenActions, AreAlike, Represents}
 use Rattle.pfc_representation.specs.Acting.{IsActing}
 use Rattle.pfc_kept_object_actions.proofs.Tests.{either}
-use Rattle.pfc_kept_calls.proofs.Called.{home_here, home_there, ticks, kinds_still}
+use Rattle.pfc_kept_calls.proofs.Caller.{home_here, home_there, ticks, kinds_still}
 use Rattle.pfc_kept_lives.proofs.Begun.{IsCreation, code, number, home, homes, entries, store, stacks, table, new_hold}
 use Rattle.pfc_kept_lives.proofs.Newborn.{d', stack, row_is}
 use Rattle.pfc_kept_lives.proofs.Others.{main_apart, like, row_stays, m', c', activity_count, processes}

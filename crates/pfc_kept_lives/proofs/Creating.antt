@@ -52,8 +52,8 @@ use Rattle.pfc_representation.specs.Acting.{IsActing}
 use Rattle.pfc_representation.specs.Actions.{ComeToSame, IsKept, AreKept}
 use Rattle.pfc_kept_own_actions.proofs.Alone.{refuse, can_go}
 use Rattle.pfc_kept_own_actions.proofs.Arrived.{has_setting, stack_there, code_there, code_line, acts_now, next_within}
-use Rattle.pfc_kept_calls.proofs.Called.{w, outer, hold, hand}
-use Rattle.pfc_kept_calls.proofs.Calling.{first_values}
+use Rattle.pfc_kept_calls.proofs.Caller.{w, outer, hold, hand}
+use Rattle.pfc_kept_calls.proofs.Sizes.{first_values}
 use Rattle.pfc_kept_lives.specs.Creatable.{AreCreatable}
 use Rattle.pfc_kept_lives.proofs.Callees.{IsProcessBlock, is_process_block}
 use Rattle.pfc_kept_lives.proofs.Singles.{SinglesAreNumbered, singles_numbered}

@@ -43,7 +43,7 @@ use Rattle.pfc_representation.specs.Callers.{first_block, IsWithin, AreCallers}
 use Rattle.pfc_representation.specs.Holding.{is_quiet, waits_at_coend}
 use Rattle.pfc_representation.specs.Acting.{IsActing}
 use Rattle.pfc_kept_own_actions.proofs.Arrived.{has_setting, code_there}
-use Rattle.pfc_kept_calls.proofs.Called.{g, a, w, outer, seen_here, hand, shows}
+use Rattle.pfc_kept_calls.proofs.Caller.{g, a, w, outer, seen_here, hand, shows}
 use Rattle.pfc_kept_lives.proofs.Creators.{created_in_main}
 use Rattle.pfc_kept_lives.proofs.Callees.{process_is_not_main}
 use Rattle.pfc_kept_lives.proofs.Only.{IsOnly, only_of}

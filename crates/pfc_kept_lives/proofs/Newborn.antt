@@ -38,7 +38,7 @@ use Rattle.pfc_representation.specs.Processes.{IsAtLevel, IsUnderWay, Represents
 use Rattle.pfc_representation.specs.Acting.{IsActing}
 use Rattle.pfc_kept_object_actions.proofs.Change.{row_here}
 use Rattle.pfc_kept_calls.proofs.Beginnings.{entry_before, room_from_entry}
-use Rattle.pfc_kept_calls.proofs.Called.{entries_here, home_here}
+use Rattle.pfc_kept_calls.proofs.Caller.{entries_here, home_here}
 use Rattle.pfc_kept_lives.proofs.Begun.{IsCreation, code, number, new_entry, home, homes, entries, store, stacks, display, table}
 use Rattle.pfc_kept_lives.proofs.Begun.{inner_level, other, idle, inner_seen, inner_setting, inner_block, does, is_block, references_apart}
 

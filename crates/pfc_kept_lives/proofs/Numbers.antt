@@ -36,7 +36,7 @@ use Rattle.pfc_call_laws.specs.Calls.{first_home}
 use Rattle.pfc_nesting_laws.proofs.Programs.{main_found}
 use Rattle.pfc_representation.specs.Levels.{Facts, program_in, LivingLevel}
 use Rattle.pfc_representation.specs.Acting.{IsActing}
-use Rattle.pfc_kept_calls.proofs.Called.{w, outer, hand}
+use Rattle.pfc_kept_calls.proofs.Caller.{w, outer, hand}
 use Rattle.pfc_kept_calls.proofs.Ended.{number_back}
 use Rattle.pfc_kept_lives.proofs.Singles.{SinglesAreNumbered}
 

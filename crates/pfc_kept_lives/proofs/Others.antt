@@ -37,7 +37,7 @@ use Rattle.pfc_representation.specs.Acting.{IsActor, IsActing}
 use Rattle.pfc_representation.proofs.Kept.{process_still}
 use Rattle.pfc_representation.proofs.Quiet.{others_moved, actor_moved}
 use Rattle.pfc_kept_object_actions.proofs.Change.{row_there}
-use Rattle.pfc_kept_calls.proofs.Called.{top, is_free, entries_there}
+use Rattle.pfc_kept_calls.proofs.Caller.{top, is_free, entries_there}
 use Rattle.pfc_kept_lives.proofs.Bound.{lender_bound, tried_bound, bound_living}
 use Rattle.pfc_kept_lives.proofs.Begun.{IsCreation, code, number, new_entry, home, homes, entries, values, store, stacks, table, other}
 use Rattle.pfc_kept_lives.proofs.Newborn.{a', d', stack, newborn}

@@ -165,30 +165,28 @@ module _ (t : ProgramTree) (lawful : IsLawful (forget_program t)) (clean : broke
 
   pub requeued_from : (b : Block) (scope : ℕ) (formals : List Formal) → IsBody t b → IsCalledFrom t b scope formals (ByRequeue b)
       → IsRequeuedFrom t b (block_at g scope)
-  requeued_from b scope formals body is = by body is.as_asked.1
-    where
-      none_guarded : b.env.around.guarded ≡ false → b.env.around.guarded ≡ true → IsRequeuedFrom t b (block_at g scope)
-      none_guarded none some = absurd (let both : true ≡ false = sym some ∙ none in cc)
-
-      by : IsBody t b → b.env.around.guarded ≡ true → IsRequeuedFrom t b (block_at g scope)
-      by (of_block k c at) inside =
-          let to = requeued_in_resource b scope formals is in
-          let (own, guarded) = guard_there b.guard (its_module k b at inside).0 in
-          let head = its_head k b at inside in
-          let (sort, within, near) = is.as_asked in
-          let outer = its_outer k b at inside (block_number g scope) (block_at g scope) to.n (callee_there t lawful clean b scope formals (ByRequeue b) is)
-          to.of_module.inside near in
-          record {
-            k = k;
-            there = at;
-            own = own;
-            guarded = guarded;
-            alone = (its_module k b at inside).1;
-            head = head.0;
-            headed = head.1;
-            sort = head.2;
-            to = to;
-            inside = ap (λ (i : ℕ). module_of bs i) outer ∙ to.of_module.inside;
-          }
-      by (of_initial i c at) inside = none_guarded (of_mains t lawful (suc i) b at).unguarded inside
-      by of_main inside = none_guarded (of_mains t lawful 0 b refl).unguarded inside
+  requeued_from b scope formals (of_block k c at) is =
+      let (sort, inside, near) = is.as_asked in
+      let to = requeued_in_resource b scope formals is in
+      let (own, guarded) = guard_there b.guard (its_module k b at inside).0 in
+      let head = its_head k b at inside in
+      let outer = its_outer k b at inside (block_number g scope) (block_at g scope) to.n (callee_there t lawful clean b scope formals (ByRequeue b) is)
+      to.of_module.inside near in
+      record {
+        k = k;
+        there = at;
+        own = own;
+        guarded = guarded;
+        alone = (its_module k b at inside).1;
+        head = head.0;
+        headed = head.1;
+        sort = head.2;
+        to = to;
+        inside = ap (λ (i : ℕ). module_of bs i) outer ∙ to.of_module.inside;
+      }
+  requeued_from b scope formals (of_initial i c at) is =
+      absurd (let (sort, inside, near) = is.as_asked in
+      let both : true ≡ false = sym inside ∙ (of_mains t lawful (suc i) b at).unguarded in cc)
+  requeued_from b scope formals of_main is =
+      absurd (let (sort, inside, near) = is.as_asked in
+      let both : true ≡ false = sym inside ∙ (of_mains t lawful 0 b refl).unguarded in cc)

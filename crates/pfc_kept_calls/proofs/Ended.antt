@@ -11,6 +11,7 @@ use Rattle.pfc_semantics.specs.Programs.{Program, block_at}
 use Rattle.pfc_semantics.specs.Store.{Store, values_in, without}
 use Rattle.pfc_semantics.specs.Configurations.{Activation}
 use Rattle.pfc_code.specs.declared.instructions.Instr.TheVariants.{END}
+use Rattle.pfc_stacks.specs.declared.refs.Ref.{Ref}
 use Rattle.pfc_stacks.specs.Refs.{number_of}
 use Rattle.pfc_stacks.specs.Stacks.{Stacks, stack_of, cells_of, own_cells, own_word}
 use Rattle.pfc_cells.specs.Homes.{Home, Homes, layout_at, laid_type, cells_before}
@@ -23,7 +24,7 @@ use Rattle.pfc_machines.specs.declared.rooms.Room.{Room}
 use Rattle.pfc_machines.specs.Communications.{Communicating}
 use Rattle.pfc_standing_code.specs.Shapes.{is_object_type}
 use Rattle.pfc_standing_code.specs.Effects.{Arm}
-use Rattle.pfc_views.specs.Views.{IsLiving, latest}
+use Rattle.pfc_views.specs.Views.{own_place, IsLiving, latest}
 use Rattle.pfc_views.specs.Keeping.{IsLike}
 use Rattle.pfc_views.proofs.Changes.{ended}
 use Rattle.pfc_views.proofs.Living.{own_of}
@@ -205,6 +206,27 @@ module _ (facts : Facts) (homes : Homes) (entries : Entries) (store : Store) (st
       let found = has_home g homes entries store stacks q e.activation holds.memory among in
       let one : found.0 ≡ home = (let both : Some found.0 ≡ Some home = sym found.1 ∙ home_at in cc) in
       apart (sym found.2 ∙ ap (λ (x : Home). x.process) one ∙ ap (λ (x : Home). x.process) (sym home_is) ∙ cells.2.process)
+
+  -- and what stands where it stands is this one
+  pub only_there : (a q : ℕ) (there : Home) → IsAmong a (entries q) → homes a ≡ Some there → own_place there ≡ own_place home → e.activation ≡ a
+  only_there a q there among at same = by (subst (λ (es : List Entry). IsAmong a es) living (subst (λ n. IsAmong a (entries n)) process among))
+    where
+      process : q ≡ p
+      process =
+          let found = has_home g homes entries store stacks q a holds.memory among in
+          let one : found.0 ≡ there = (let both : Some found.0 ≡ Some there = sym found.1 ∙ at in cc) in
+          sym found.2 ∙ ap (λ (x : Home). x.process) one ∙ ap (λ (r : Ref). r.process) same ∙ ap (λ (x : Home). x.process) (sym home_is)
+          ∙ cells.2.process
+
+      by : IsAmong a (e ∷ (f ∷ below)) → e.activation ≡ a
+      by (inl is) = is
+      by (inr lower) =
+          let found = home_below g homes store p (f ∷ below) cells.0 a cells.1 lower in
+          let one : found.0 ≡ there = (let both : Some found.0 ≡ Some there = sym found.1 ∙ at in cc) in
+          let its : found.0.cell ≡ home.cell = ap (λ (x : Home). x.cell) one ∙ ap (λ (r : Ref). r.cell) same in
+          let less = found.2 in
+          let here = place in
+          absurd (omega (arith, its, less, here))
 
   -- no object is among its variables
   pub no_objects : HasNoObjects g (block_at g home.scope)

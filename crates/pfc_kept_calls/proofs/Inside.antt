@@ -275,6 +275,7 @@ module _ (facts : Facts) (m : Machine) (c : Config) (p : ℕ) (level : LivingLev
       laid = ap (λ (x : Block). x.layout) is.by_scope;
       apart = λ j t l laid holds. is.references j t l laid (ap (λ (vs : List Value). get_or vs j (ordinal (pos 0))) (sym own_values) ∙ holds);
       guarded = is.guarded;
+      accepts = λ j none. absurd (let both : false ≡ true = none in cc);
     }
 
     -- ## Its room

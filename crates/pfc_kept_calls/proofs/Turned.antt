@@ -89,6 +89,7 @@ module _ (facts : Facts) (homes : Homes) (entries : Entries) (store : Store) (ta
     laid = h.laid;
     apart = h.apart;
     guarded = h.guarded;
+    accepts = h.accepts;
   }
 
   pub callers_turned : (room : ℕ) (w : ℤ) (last : Communicating) (xs : List Activation) (es : List Entry)

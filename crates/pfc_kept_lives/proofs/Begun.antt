@@ -1,41 +1,39 @@
 -- A process is created: what it sees in its first activation, and where its code stands.
-use Rattle.std.proofs.Common.{◌≡◌, ◌≢◌, ℕ, zero, suc, ◌+◌, ◌-◌, ◌^◌, ◌<◌, ◌≤◌, max, ◌==◌, ◌||◌, if◌then◌else◌, ℤ, pos, Bool, true, false, List, []}
-use Rattle.std.proofs.Common.{◌∷◌, ◌++◌, length, map, take, drop, reverse, set, slice_get, get_or, All, Option, Some, None, refl, sym, ap, ap₂, ◌∙◌, subst, arith, ◌⊎◌, inl, inr}
-use Rattle.std.proofs.lemmas.List.{get_or-set_same, get_or-set_other, length-set, get_or_append_left, get_or-append-add, get_or-drop, get_or-map}
+use Rattle.std.proofs.Common.{◌≡◌, ◌≢◌, ℕ, suc, ◌+◌, ◌-◌, ◌<◌, ◌≤◌, ◌==◌, ◌||◌, if◌then◌else◌, ℤ, pos, Bool, true, false, List, []}
+use Rattle.std.proofs.Common.{◌∷◌, ◌++◌, length, map, take, drop, reverse, slice_get, get_or, Option, Some, None, refl, sym, ap, ◌∙◌, subst, arith, ◌⊎◌, inl}
+use Rattle.std.proofs.Common.{inr}
+use Rattle.std.proofs.lemmas.List.{get_or_append_left, get_or-append-add, get_or-drop, get_or-map}
 use Rattle.std.proofs.lemmas.Option.{get_or_from_slice_get, slice_get_within}
 use Rattle.pfc_types.specs.declared.types.TypeId.{TypeId}
-use Rattle.pfc_types.specs.declared.scope.Meaning.{Meaning}
 use Rattle.pfc_types.specs.declared.scope.Meaning.TheVariants.{Variable}
 use Rattle.pfc_types.specs.declared.heads.Formal.{Formal}
 use Rattle.pfc_code.specs.declared.images.Block.{Block as CodeBlock}
 use Rattle.pfc_code.specs.declared.instructions.Instr.TheVariants.{END}
-use Rattle.pfc_state.specs.Stands.{Stand, Is_created, Is_ready, is_unfinished}
+use Rattle.pfc_state.specs.Stands.{Is_created, is_unfinished}
 use Rattle.pfc_world.specs.Tables.{Table, at}
 use Rattle.pfc_world.specs.Transitions.{placed, ticked}
 use Rattle.pfc_semantics.specs.Displays.{Display}
 use Rattle.pfc_semantics.specs.Values.{Value, Location, ordinal, points}
 use Rattle.pfc_semantics.specs.Store.{Store, with_room, values_in}
-use Rattle.pfc_semantics.specs.Layouts.{Layout, sub_with}
+use Rattle.pfc_semantics.specs.Layouts.{Layout}
 use Rattle.pfc_semantics.specs.Objects.{first_laid, first_of}
 use Rattle.pfc_semantics.specs.Programs.{Block, Guard, Program}
 use Rattle.pfc_semantics.specs.Remainders.{Context, Argument}
 use Rattle.pfc_semantics.specs.Rewriting.{going}
-use Rattle.pfc_semantics.specs.Configurations.{plain, of_nobody, Activation, Activity, Config, activity_of, all_passed, body_of}
-use Rattle.pfc_semantics.specs.Calls.{new_number, new_values, new_activation}
+use Rattle.pfc_semantics.specs.Configurations.{Activation, Config, activity_of, all_passed, body_of}
+use Rattle.pfc_semantics.specs.Calls.{new_number, new_values}
 use Rattle.pfc_semantics.specs.Processes.{process_block, process_display}
 use Rattle.pfc_translation.specs.Images.{image_of, end_of, guard_code}
-use Rattle.pfc_stacks.specs.declared.marks.Mark.TheVariants.{Plain}
 use Rattle.pfc_stacks.specs.Refs.{word_of}
-use Rattle.pfc_stacks.specs.Stacks.{Stack, Stacks, no_stack, stack_of}
-use Rattle.pfc_stacks.specs.Activations.{has_place, own_words, main_link, first_own, block_cells, arguments, created}
-use Rattle.pfc_cells.specs.Shapes.{Fits, is_number, is_array, is_record, IsOf}
-use Rattle.pfc_cells.specs.Homes.{Home, Homes, layout_at}
-use Rattle.pfc_cells.specs.Memory.{Entry, Entries, IsAmong, AreCells}
+use Rattle.pfc_stacks.specs.Stacks.{Stacks, stack_of}
+use Rattle.pfc_stacks.specs.Activations.{has_place, own_words, first_own, block_cells, arguments, created}
+use Rattle.pfc_cells.specs.Shapes.{is_number, is_array, is_record, IsOf}
+use Rattle.pfc_cells.specs.Homes.{Home, Homes}
+use Rattle.pfc_cells.specs.Memory.{Entry, Entries, AreCells}
 use Rattle.pfc_cells.specs.Activations.{with_home, with_entries}
 use Rattle.pfc_machines.specs.declared.machine.Machine.{Machine}
-use Rattle.pfc_machines.specs.declared.descriptors.Descriptor.{Descriptor}
 use Rattle.pfc_machines.specs.Descriptors.{descriptor_of}
-use Rattle.pfc_standing_code.specs.Settings.{View, Trial, Setting, of_own, site_of, IsBeside, same_block, both_mains}
+use Rattle.pfc_standing_code.specs.Settings.{View, Setting, of_own, site_of, IsBeside, same_block, both_mains}
 use Rattle.pfc_standing_code.specs.Words.{AreHeld, AreKnown, IsChecked}
 use Rattle.pfc_standing_code.specs.Performs.{Performs}
 use Rattle.pfc_standing_code.proofs.Checked.{checked_for}
@@ -57,12 +55,12 @@ use Rattle.pfc_typed_programs.specs.Bodies.{of_block}
 use Rattle.pfc_typed_programs.proofs.Bodies.{body_ready, body_state}
 use Rattle.pfc_representation.specs.Levels.{Facts, program_in, LivingLevel, HasSetting, DoesOn, MayKeep, of_main, of_own as of_own_stack, IsSeenBy, IsBlockAt}
 use Rattle.pfc_representation.specs.Holding.{holders_in}
-use Rattle.pfc_representation.specs.Processes.{IsAtRest, ActivationsAre}
+use Rattle.pfc_representation.specs.Processes.{ActivationsAre}
 use Rattle.pfc_representation.specs.Acting.{IsActing}
 use Rattle.pfc_kept_own_actions.proofs.Arrived.{has_setting}
-use Rattle.pfc_kept_calls.proofs.Called.{g, s, w, outer, hold, seen_here, hand, is_free, home_here}
-use Rattle.pfc_kept_calls.proofs.Calling.{first_values}
-use Rattle.pfc_kept_lives.specs.Creatable.{IsCreatable}
+use Rattle.pfc_kept_calls.proofs.Caller.{g, w, outer, hold, hand, is_free}
+use Rattle.pfc_kept_calls.proofs.Sizes.{first_values}
+use Rattle.pfc_kept_lives.proofs.Callees.{IsProcessBlock}
 use Rattle.pfc_kept_lives.proofs.Makers.{IsMaker}
 
 -- ## References
@@ -98,7 +96,7 @@ module _ (facts : Facts) (m : Machine) (c : Config) (p : ℕ) (level : LivingLev
     pub block : Block
     pub beside : IsBeside level.setting level.setting.block block
     pub known : AreKnown (program_in facts) block level.setting.accepts x.env
-    pub can : IsCreatable facts.tree callee k formals
+    pub can : IsProcessBlock facts.tree callee k formals
     pub held : AreHeld level.setting.view (site_of (outer facts m c p level acting) block x) formals given (stack_of m.stacks p).operands below
     pub process : callee ≡ process_block (program_in facts) n
     pub some : 1 ≤ n

@@ -1,15 +1,14 @@
 -- Behind the creation of a process the machine represents what the source text has come to.
-use Rattle.std.proofs.Common.{◌≡◌, ◌≢◌, ℕ, ◌+◌, ◌^◌, ◌<◌, ◌≤◌, ℤ, Bool, true, false, List, [], ◌∷◌, length, drop, set, slice_get, get_or, Option, Some, None}
+use Rattle.std.proofs.Common.{◌≡◌, ◌≢◌, ℕ, ◌+◌, ◌<◌, ◌≤◌, ℤ, true, false, List, length, drop, set, slice_get, Option, Some, None}
 use Rattle.std.proofs.Common.{refl, sym, ap, ◌∙◌, subst, arith, ◌⊎◌, inl, inr}
 use Rattle.std.proofs.lemmas.List.{length-set}
 use Rattle.pfc_code.specs.declared.images.Block.{Block as CodeBlock}
 use Rattle.pfc_types.specs.declared.types.TypeId.{TypeId}
 use Rattle.pfc_types.specs.declared.heads.Formal.{Formal}
-use Rattle.pfc_state.specs.Stands.{Stand, Is_created, is_unfinished, ticket_of, due_of}
+use Rattle.pfc_state.specs.Stands.{Is_created, is_unfinished, ticket_of, due_of}
 use Rattle.pfc_world.specs.Tables.{Table, at}
 use Rattle.pfc_world.specs.Transitions.{placed, rested, ticked}
 use Rattle.pfc_semantics.specs.Values.{Location, path_of}
-use Rattle.pfc_semantics.specs.Layouts.{Layout}
 use Rattle.pfc_semantics.specs.Programs.{Block, Program}
 use Rattle.pfc_semantics.specs.Remainders.{Context, Argument, Remainder}
 use Rattle.pfc_semantics.specs.Rewriting.{going}
@@ -20,7 +19,6 @@ use Rattle.pfc_stacks.specs.Stacks.{Stack, Stacks, stack_of}
 use Rattle.pfc_cells.specs.Homes.{Home, Homes, Lies, layout_at}
 use Rattle.pfc_cells.specs.Memory.{Entries}
 use Rattle.pfc_machines.specs.declared.machine.Machine.{Machine}
-use Rattle.pfc_machines.specs.declared.descriptors.Descriptor.{Descriptor}
 use Rattle.pfc_machines.specs.Descriptors.{descriptor_of}
 use Rattle.pfc_standing_code.specs.Shapes.{is_object_type}
 use Rattle.pfc_call_laws.specs.Calls.{first_home}
@@ -32,9 +30,9 @@ use Rattle.pfc_representation.specs.Holding.{is_quiet, waits_at_coend}
 use Rattle.pfc_representation.specs.Machines.{machine_table, SharesWords, HoldsStore, IsBetweenActions, AreAlike, Represents}
 use Rattle.pfc_representation.specs.Acting.{IsActing}
 use Rattle.pfc_kept_object_actions.proofs.Tests.{either}
-use Rattle.pfc_kept_calls.proofs.Called.{home_here, home_there, ticks, kinds_still}
+use Rattle.pfc_kept_calls.proofs.Caller.{home_here, home_there, ticks, kinds_still}
 use Rattle.pfc_kept_lives.proofs.Begun.{IsCreation, code, number, home, homes, entries, store, stacks, table, new_hold}
-use Rattle.pfc_kept_lives.proofs.Newborn.{a', d', stack, row_is}
+use Rattle.pfc_kept_lives.proofs.Newborn.{d', stack, row_is}
 use Rattle.pfc_kept_lives.proofs.Others.{main_apart, like, row_stays, m', c', activity_count, processes}
 
 module _ (facts : Facts) (m : Machine) (c : Config) (p : ℕ) (level : LivingLevel) (acting : IsActing facts m c p level) (n k : ℕ) (callee : Block)
@@ -152,7 +150,9 @@ module _ (facts : Facts) (m : Machine) (c : Config) (p : ℕ) (level : LivingLev
       acting.few
 
   main_stays : at its_table.rows 0 ≡ at c.table.rows 0
-  main_stays = row_stays facts m c p level acting n k callee formals x given below new 0 (main_apart facts m c p level acting n k callee formals x given below new)
+  main_stays =
+      row_stays facts m c p level acting n k callee formals x given below new 0
+      (main_apart facts m c p level acting n k callee formals x given below new)
 
   quiet_then : waits_at_coend (at its_table.rows 0) ≡ false → (r : ℕ) → 0 < r → is_quiet (at its_table.rows r) ≡ true
   quiet_then away r child = by (either r n)
@@ -189,7 +189,8 @@ module _ (facts : Facts) (m : Machine) (c : Config) (p : ℕ) (level : LivingLev
         let old = acting.alike.words in
         record {
           processes = count ∙ old.processes;
-          stacks = length-set (set m.stacks p on) n (stack facts m c p level acting n k callee formals x given below new) ∙ length-set m.stacks p on ∙ old.stacks
+          stacks = length-set (set m.stacks p on) n (stack facts m c p level acting n k callee formals x given below new)
+              ∙ length-set m.stacks p on ∙ old.stacks
               ∙ sym count;
           descriptors = length-set (set m.descriptors n (d' facts m c p level acting n k callee formals x given below new)) p
               (record (descriptor_of (set m.descriptors n (d' facts m c p level acting n k callee formals x given below new)) p) { line = line })

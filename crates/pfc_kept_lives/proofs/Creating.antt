@@ -20,11 +20,12 @@ use Rattle.pfc_semantics.specs.Processes.{process_block, created, creates}
 use Rattle.pfc_semantics.specs.Remainders.{Context, Argument, Remainder, calls, to_process}
 use Rattle.pfc_semantics.specs.Rewriting.{going}
 use Rattle.pfc_semantics.specs.Calls.{cells_above, most_cells, unless_full}
-use Rattle.pfc_semantics.specs.Configurations.{Config, Effect, activity_of, goes_on, number_for, all_passed, declared_block}
+use Rattle.pfc_semantics.specs.Configurations.{Config, Effect, goes_on, all_passed, declared_block}
 use Rattle.pfc_translation.specs.Sites.{Site}
+use Rattle.pfc_translation.specs.Objects.{objects_of}
 use Rattle.pfc_translation.specs.Images.{image_of}
 use Rattle.pfc_stacks.specs.Refs.{number_of}
-use Rattle.pfc_stacks.specs.Stacks.{stack_of, operand, operands_of}
+use Rattle.pfc_stacks.specs.Stacks.{stack_of, operands_of}
 use Rattle.pfc_stacks.specs.Activations.{has_place, size_of, params_of}
 use Rattle.pfc_machines.specs.declared.machine.Machine.{Machine}
 use Rattle.pfc_machines.specs.Actions.{at_rest, Effect as MachineEffect}
@@ -32,7 +33,7 @@ use Rattle.pfc_machines.specs.Descriptors.{descriptor_of}
 use Rattle.pfc_machine_acts.specs.Performing.{silent, with_block}
 use Rattle.pfc_machine_acts.specs.Conditions.{CanCreate}
 use Rattle.pfc_own_actions.specs.Creating.{creation, created_by, IsProcess, creates as machine_creates}
-use Rattle.pfc_standing_code.specs.Settings.{Setting, of_own, site_of, IsBeside, IsAt}
+use Rattle.pfc_standing_code.specs.Settings.{of_own, site_of, IsBeside, IsAt}
 use Rattle.pfc_standing_code.specs.Effects.{Arm}
 use Rattle.pfc_standing_code.specs.TypedStatements.{IsProcessType}
 use Rattle.pfc_standing_code.specs.Words.{AreHeld, AreKnown, IsWord, IsObject, IsChecked}
@@ -40,23 +41,25 @@ use Rattle.pfc_standing_code.specs.Performs.{Performs}
 use Rattle.pfc_standing_code.proofs.Checked.{checked_for}
 use Rattle.pfc_standing_images.specs.Images.{IsOfImage}
 use Rattle.pfc_standing_images.proofs.Wholes.{block_stands}
+use Rattle.pfc_object_laws.specs.Objects.{number_at}
 use Rattle.pfc_call_laws.proofs.Layouts.{layout_joined}
 use Rattle.pfc_call_laws.proofs.Passing.{left}
 use Rattle.pfc_representation.specs.Levels.{Facts, program_in, LivingLevel, DoesOn}
 use Rattle.pfc_representation.specs.Rooms.{own_address}
 use Rattle.pfc_representation.specs.Callers.{IsWithin}
 use Rattle.pfc_representation.specs.Machines.{goes_on as both_go_on}
-use Rattle.pfc_representation.specs.Acting.{IsActing, HasArrived}
+use Rattle.pfc_representation.specs.Acting.{IsActing}
 use Rattle.pfc_representation.specs.Actions.{ComeToSame, IsKept, AreKept}
 use Rattle.pfc_kept_own_actions.proofs.Alone.{refuse, can_go}
 use Rattle.pfc_kept_own_actions.proofs.Arrived.{has_setting, stack_there, code_there, code_line, acts_now, next_within}
-use Rattle.pfc_kept_calls.proofs.Called.{w, outer, hold, hand}
-use Rattle.pfc_kept_calls.proofs.Calling.{first_values}
-use Rattle.pfc_kept_lives.specs.Creatable.{IsCreatable, AreCreatable, SinglesAreNumbered}
+use Rattle.pfc_kept_calls.proofs.Caller.{w, outer, hold, hand}
+use Rattle.pfc_kept_calls.proofs.Sizes.{first_values}
+use Rattle.pfc_kept_lives.specs.Creatable.{AreCreatable}
+use Rattle.pfc_kept_lives.proofs.Callees.{IsProcessBlock, is_process_block}
+use Rattle.pfc_kept_lives.proofs.Singles.{SinglesAreNumbered, singles_numbered}
 use Rattle.pfc_kept_lives.specs.Groups.{MayCreate, CreatesProcess}
 use Rattle.pfc_kept_lives.proofs.Makers.{IsMaker, is_maker}
 use Rattle.pfc_kept_lives.proofs.Numbers.{IsProcessNumber, process_number}
-use Rattle.pfc_kept_lives.proofs.Begun.{IsCreation}
 use Rattle.pfc_kept_lives.proofs.Created.{represents_created}
 
 -- ## What is created, and with what
@@ -64,7 +67,7 @@ use Rattle.pfc_kept_lives.proofs.Created.{represents_created}
 module _ (facts : Facts) (m : Machine) (c : Config) (p : ℕ) (level : LivingLevel) (acting : IsActing facts m c p level) (own : level.setting.trial ≡ of_own)
     (b : Block) (beside : IsBeside level.setting level.setting.block b) (x : Context) (known : AreKnown (program_in facts) b level.setting.accepts x.env)
     (v : Spot) (i : ℤ) (given : List Argument) (below : List ℤ) (declaration : ℕ) (k : ℕ) (callee : Block) (formals : List Formal)
-    (can : IsCreatable facts.tree callee k formals) (is_callee : callee ≡ declared_block (program_in facts) declaration)
+    (can : IsProcessBlock facts.tree callee k formals) (is_callee : callee ≡ declared_block (program_in facts) declaration)
     (held : AreHeld level.setting.view (site_of (outer facts m c p level acting) b x) formals given (stack_of m.stacks p).operands (i ∷ below))
     (maker : IsMaker facts m c p level acting own) (its : IsProcessNumber facts m c p level acting own b beside x known v i declaration) where
   abbrev q : Program
@@ -237,11 +240,16 @@ module _ (facts : Facts) (m : Machine) (c : Config) (p choice : ℕ) (level : Li
   all_can = may.creatable facts.tree same acting.alike.program
 
   singles : SinglesAreNumbered facts.tree facts.number
-  singles = subst (λ (f : ℤ → Option ℤ). SinglesAreNumbered facts.tree f) (has_setting facts m c p level acting).number
-      (may.singles facts.tree same acting.alike.program)
+  singles =
+      subst (λ (f : ℤ → Option ℤ). SinglesAreNumbered facts.tree f)
+      (sym (may.objects ∙ ap (λ (z : Program). number_at (objects_of z)) same) ∙ (has_setting facts m c p level acting).number)
+      (singles_numbered facts.tree acting.alike.program.lawful)
 
-  can : IsCreatable facts.tree (block_at g0 head.scope) number head.formals
-  can = all_can.each n (subst (λ (z : Program). n < length z.state.blocks.processes) same among)
+  among_all : n < length g0.state.blocks.processes
+  among_all = subst (λ (z : Program). n < length z.state.blocks.processes) same among
+
+  can : IsProcessBlock facts.tree (block_at g0 head.scope) number head.formals
+  can = is_process_block facts.tree acting.alike.program.lawful acting.alike.program.unbroken n among_all (all_can n among_all)
 
   known : AreKnown g0 b level.setting.accepts x.env
   known = subst (λ (z : Program). AreKnown z b level.setting.accepts x.env) same checked.known
@@ -270,7 +278,7 @@ module _ (facts : Facts) (m : Machine) (c : Config) (p choice : ℕ) (level : Li
   is_there = subst (λ (z : Program). IsAt level.setting (stack_of m.stacks p).at (NEW (block_number z (process_at z.state.blocks n).scope)) x.line) same there
 
   maker : IsMaker facts m c p level acting own
-  maker = is_maker facts m c p level acting own all_can number x.line is_there goes
+  maker = is_maker facts m c p level acting own number x.line is_there goes
 
   its : IsProcessNumber facts m c p level acting own b checked.beside x known v i n
   its = process_number facts m c p level acting own b checked.beside x known v i singles n t is_process is_object

@@ -1,9 +1,9 @@
 -- Behind the end of a child the machine represents what the source text has come to.
-use Rattle.std.proofs.Common.{◌≡◌, ◌≢◌, ℕ, ◌+◌, ◌^◌, ◌<◌, ◌≤◌, true, false, List, [], ◌∷◌, length, set, get_or, Some, None, refl, sym, ap, ◌∙◌, subst}
+use Rattle.std.proofs.Common.{◌≡◌, ◌≢◌, ℕ, ◌+◌, ◌^◌, ◌<◌, ◌≤◌, true, false, List, [], length, set, get_or, Some, None, refl, sym, ap, ◌∙◌, subst}
 use Rattle.std.proofs.Common.{Bool, arith, ◌⊎◌, inl, inr}
 use Rattle.std.proofs.lemmas.List.{get_or-set_same, get_or-set_other, length-set}
 use Rattle.pfc_code.specs.declared.instructions.Instr.TheVariants.{END}
-use Rattle.pfc_state.specs.Stands.{Stand, Is_ready, Is_done, Waits, is_unfinished, ticket_of, due_of}
+use Rattle.pfc_state.specs.Stands.{is_unfinished, ticket_of, due_of}
 use Rattle.pfc_world.specs.Tables.{Table, at}
 use Rattle.pfc_world.specs.Transitions.{finished, ticked}
 use Rattle.pfc_semantics.specs.Programs.{Program}
@@ -17,13 +17,12 @@ use Rattle.pfc_machines.specs.declared.descriptors.Descriptor.{Descriptor}
 use Rattle.pfc_machines.specs.Descriptors.{descriptor_by, descriptor_of}
 use Rattle.pfc_machines.specs.Quiet.{tried_in}
 use Rattle.pfc_machine_acts.specs.Acting.{acted}
-use Rattle.pfc_own_actions.specs.Doing.{finishes as machine_finishes}
 use Rattle.pfc_standing_code.specs.Settings.{Trial, of_own}
 use Rattle.pfc_views.specs.Views.{AreObjects}
 use Rattle.pfc_representation.specs.Levels.{Facts, program_in, LivingLevel}
 use Rattle.pfc_representation.specs.Holding.{Holders, holders_in, is_quiet, waits_at_coend}
 use Rattle.pfc_representation.specs.Trials.{TrialIs, HasTried}
-use Rattle.pfc_representation.specs.Processes.{IsAtRest, ActivationsAre, RepresentsProcess}
+use Rattle.pfc_representation.specs.Processes.{RepresentsProcess}
 use Rattle.pfc_representation.specs.Keeping.{IsSameStack, IsUntouched, IsLeftAlone, IsLender}
 use Rattle.pfc_representation.specs.Machines.{machine_table, SharesWords, HoldsStore, IsBetweenActions, AreAlike, Represents}
 use Rattle.pfc_representation.specs.Acting.{IsActing}
@@ -32,10 +31,10 @@ use Rattle.pfc_kept_own_actions.proofs.Steps.{same_kinds}
 use Rattle.pfc_kept_object_actions.specs.Freed.{IsFreed}
 use Rattle.pfc_kept_object_actions.proofs.Freed.{process_freed}
 use Rattle.pfc_kept_object_actions.proofs.Tests.{either}
-use Rattle.pfc_kept_lives.proofs.Bound.{IsBound, lender_bound, tried_bound, bound_apart}
-use Rattle.pfc_kept_lives.proofs.Finished.{HasFinished, IsReleased, IsSameOrReleased, child_finished, finished_alike, bound_stays}
+use Rattle.pfc_kept_lives.proofs.Bound.{lender_bound, tried_bound, bound_apart}
+use Rattle.pfc_kept_lives.proofs.Finished.{HasFinished, IsSameOrReleased, child_finished, finished_alike, bound_stays}
 use Rattle.pfc_kept_lives.proofs.Finished.{coend_unfinished, coend_shows, coend_turn}
-use Rattle.pfc_kept_lives.proofs.Only.{entries_here, entries_there, only, number, number_is, entries', store', like, memory', objects'}
+use Rattle.pfc_kept_lives.proofs.Only.{entries_here, entries_there, only, number_is, entries', store', like, memory', objects'}
 
 same_stack : (s : Stack) → IsSameStack s s
 same_stack s = record { at = refl; base = refl; operands = refl; room = refl; spare = refl; looks_from = refl }

@@ -1,5 +1,5 @@
 -- The end of the body of a process.
-use Rattle.std.proofs.Common.{◌≡◌, ◌≢◌, ℕ, ◌<◌, List, [], ◌∷◌, length, Some, None, Ok, refl, sym, ap, ◌∙◌, subst, arith, append-nil, ◌⊎◌, inl, inr}
+use Rattle.std.proofs.Common.{◌≡◌, ◌≢◌, ℕ, ◌<◌, List, [], length, Ok, refl, sym, ap, ◌∙◌, subst, arith, append-nil, ◌⊎◌, inl, inr}
 use Rattle.std.proofs.lemmas.List.{length-set}
 use Rattle.pfc_code.specs.declared.instructions.Instr.TheVariants.{END}
 use Rattle.pfc_state.specs.Stands.{Is_done}
@@ -10,7 +10,7 @@ use Rattle.pfc_semantics.specs.Remainders.{finishes}
 use Rattle.pfc_semantics.specs.Configurations.{Caller, Activation, Activity, Config, Effect, activity_of}
 use Rattle.pfc_semantics.specs.Processes.{ended_process}
 use Rattle.pfc_semantics.specs.Steps.{ends_for, ends_body}
-use Rattle.pfc_stacks.specs.Stacks.{stack_of, operands_of}
+use Rattle.pfc_stacks.specs.Stacks.{stack_of}
 use Rattle.pfc_machines.specs.declared.machine.Machine.{Machine}
 use Rattle.pfc_machines.specs.declared.descriptors.Descriptor.{Descriptor}
 use Rattle.pfc_machines.specs.Descriptors.{descriptor_of}
@@ -19,8 +19,8 @@ use Rattle.pfc_own_actions.specs.Doing.{finishes as machine_finishes}
 use Rattle.pfc_standing_code.specs.Settings.{of_own, IsAt}
 use Rattle.pfc_representation.specs.Levels.{Facts, program_in, LivingLevel}
 use Rattle.pfc_representation.specs.Machines.{Reports, Agrees, goes_on, has_ended}
-use Rattle.pfc_representation.specs.Acting.{IsActing, HasArrived}
-use Rattle.pfc_representation.specs.Actions.{ComeToSame, IsKept, AreKept}
+use Rattle.pfc_representation.specs.Acting.{IsActing}
+use Rattle.pfc_representation.specs.Actions.{ComeToSame, AreKept}
 use Rattle.pfc_kept_own_actions.proofs.Alone.{can_go}
 use Rattle.pfc_kept_own_actions.proofs.Arrived.{stack_there, code_there, code_line, acts_now}
 use Rattle.pfc_kept_object_actions.proofs.Change.{row_here}

@@ -1,21 +1,20 @@
 -- Who creates a process is main, in its only activation, in no meeting: it sees main's variables alone.
-use Rattle.std.proofs.Common.{◌≡◌, ◌≢◌, ℕ, zero, suc, ◌+◌, ◌<◌, ◌≤◌, ◌||◌, Bool, true, false, ℤ, List, [], ◌∷◌, ◌++◌, length, drop, get_or, slice_get}
-use Rattle.std.proofs.Common.{All, ◌==◌, Option, Some, None, refl, sym, ap, ◌∙◌, subst, arith, ◌⊎◌, inl, inr}
+use Rattle.std.proofs.Common.{◌≡◌, ℕ, zero, suc, ◌+◌, ◌<◌, ◌||◌, Bool, true, false, ℤ, List, [], ◌∷◌, ◌++◌, length, slice_get}
+use Rattle.std.proofs.Common.{All, ◌==◌, Some, None, refl, sym, ap, ◌∙◌, subst, arith, ◌⊎◌, inl, inr}
 use Rattle.std.specs.List.{list_any}
 use Rattle.std.proofs.lemmas.Option.{slice_get_within}
-use Rattle.pfc_code.specs.declared.images.Block.{Block as CodeBlock}
 use Rattle.pfc_code.specs.declared.instructions.Instr.TheVariants.{NEW, END}
 use Rattle.pfc_types.specs.declared.scope.Meaning.{Meaning}
 use Rattle.pfc_state.specs.Stands.{Stand, Is_ready, Waits}
 use Rattle.pfc_state.specs.declared.waits.Why.TheVariants.{Meeting}
 use Rattle.pfc_world.specs.Tables.{Table, at}
-use Rattle.pfc_semantics.specs.Displays.{Spot, Display, frame_of, main_frame, own_location}
-use Rattle.pfc_semantics.specs.Layouts.{sub_with, is_laid}
+use Rattle.pfc_semantics.specs.Displays.{Spot, Display, frame_of}
+use Rattle.pfc_semantics.specs.Layouts.{sub_with}
 use Rattle.pfc_semantics.specs.Programs.{Block, Program}
 use Rattle.pfc_semantics.specs.Processes.{process_block}
 use Rattle.pfc_semantics.specs.Store.{Store, variable}
-use Rattle.pfc_semantics.specs.Configurations.{Activation, Activity, Config, activity_of}
-use Rattle.pfc_translation.specs.Sites.{is_mains, linked}
+use Rattle.pfc_semantics.specs.Configurations.{Activation, Config, activity_of}
+use Rattle.pfc_translation.specs.Sites.{is_mains}
 use Rattle.pfc_translation.specs.Images.{image_of, end_of}
 use Rattle.pfc_stacks.specs.Refs.{word_of}
 use Rattle.pfc_stacks.specs.Stacks.{stack_of, last_activation}
@@ -28,25 +27,25 @@ use Rattle.pfc_machines.specs.Communications.{Communicating}
 use Rattle.pfc_machines.specs.Descriptors.{descriptor_of}
 use Rattle.pfc_standing_code.specs.Settings.{View, Trial, Setting, of_own, IsBeside, same_block, IsAt}
 use Rattle.pfc_standing_code.specs.Words.{is_known}
-use Rattle.pfc_standing_code.specs.Performs.{own_view, own_accepts, own_block, own_again}
-use Rattle.pfc_standing_images.specs.Images.{IsOfBlock}
+use Rattle.pfc_standing_code.specs.Performs.{own_view, own_accepts, own_block}
 use Rattle.pfc_views.specs.Views.{own_place, IsNamed, Sees}
 use Rattle.pfc_stack_laws.specs.Standing.{IsAtHand}
-use Rattle.pfc_call_laws.specs.Around.{scopes_around, ShowsAround}
+use Rattle.pfc_call_laws.specs.Around.{scopes_around}
 use Rattle.pfc_call_laws.specs.Calls.{first_home}
 use Rattle.pfc_call_laws.proofs.Displays.{no_frame}
 use Rattle.pfc_call_laws.proofs.Inside.{mains_not_shown}
-use Rattle.pfc_nesting_laws.proofs.Programs.{main_alone, main_found}
+use Rattle.pfc_nesting_laws.proofs.Programs.{main_alone}
 use Rattle.pfc_represented_start.proofs.Setting.{main_end}
 use Rattle.pfc_representation.specs.Levels.{Facts, program_in, LivingLevel, block_of, is_met_by, MayKeep, of_main, of_own as of_own_stack, lent}
-use Rattle.pfc_representation.specs.Levels.{SeesThrough, SeesWith}
-use Rattle.pfc_representation.specs.Rooms.{own_address}
-use Rattle.pfc_representation.specs.Callers.{first_block, IsFirst, IsWithin, AreCallers}
+use Rattle.pfc_representation.specs.Levels.{SeesThrough}
+use Rattle.pfc_representation.specs.Rooms.{end_in, own_address}
+use Rattle.pfc_representation.specs.Callers.{first_block, IsWithin, AreCallers}
 use Rattle.pfc_representation.specs.Holding.{is_quiet, waits_at_coend}
 use Rattle.pfc_representation.specs.Acting.{IsActing}
 use Rattle.pfc_kept_own_actions.proofs.Arrived.{has_setting, code_there}
-use Rattle.pfc_kept_calls.proofs.Called.{g, a, d, w, outer, seen_here, hand, shows}
-use Rattle.pfc_kept_lives.specs.Creatable.{AreCreatable}
+use Rattle.pfc_kept_calls.proofs.Caller.{g, a, w, outer, seen_here, hand, shows}
+use Rattle.pfc_kept_lives.proofs.Creators.{created_in_main}
+use Rattle.pfc_kept_lives.proofs.Callees.{process_is_not_main}
 use Rattle.pfc_kept_lives.proofs.Only.{IsOnly, only_of}
 
 -- ## Another display
@@ -54,38 +53,37 @@ use Rattle.pfc_kept_lives.proofs.Only.{IsOnly, only_of}
 -- in which the scopes that are known have the same frames
 module _ (g : Program) (homes : Homes) (entries : Entries) (store : Store) (keeps : ℕ → Bool) (b : Block) (accepts : List ℕ) (w : ℤ) (chain : List ℕ)
     (view : View) (display other : Display) (alike : (i : ℕ) → is_known g.state.blocks b accepts i ≡ true → frame_of display i ≡ frame_of other i)
-    where
-  named_alike : (v : Spot) (meaning : Meaning) → frame_of display v.scope ≡ frame_of other v.scope
-      → IsNamed g homes store keeps display b chain view v meaning → IsNamed g homes store keeps other b chain view v meaning
-  named_alike v meaning same is = record {
-    linked = is.linked ∙ ap (λ f. Some f.activation) same;
-    home = is.home;
-    at = ap (λ f. homes f.activation) (sym same) ∙ is.at;
-    place = ap (λ f. f.first + v.variable) (sym same) ∙ is.place;
-    layout = is.layout;
-    reached = is.reached;
-    refers = is.refers;
-    target = λ t reference. (let its = is.target t reference in
-        (
-          its.0,
-          its.1,
-          ap (λ f. variable store (record { activation = f.activation; variable = f.first + v.variable; selectors = [] })) (sym same) ∙ its.2,
-          its.3,
-          its.4,
-          its.5,
-        ));
-  }
+  where
+    named_alike : (v : Spot) (meaning : Meaning) → frame_of display v.scope ≡ frame_of other v.scope
+        → IsNamed g homes store keeps display b chain view v meaning → IsNamed g homes store keeps other b chain view v meaning
+    named_alike v meaning same is = record {
+      linked = is.linked ∙ ap (λ f. Some f.activation) same;
+      home = is.home;
+      at = ap (λ f. homes f.activation) (sym same) ∙ is.at;
+      place = ap (λ f. f.first + v.variable) (sym same) ∙ is.place;
+      layout = is.layout;
+      reached = is.reached;
+      refers = is.refers;
+      target = λ t reference. (let its = is.target t reference in (
+        its.0,
+        its.1,
+        ap (λ f. variable store (record { activation = f.activation; variable = f.first + v.variable; selectors = [] })) (sym same) ∙ its.2,
+        its.3,
+        its.4,
+        its.5,
+      ));
+    }
 
-  pub sees_alike : Sees g homes entries store keeps display b accepts w chain view → Sees g homes entries store keeps other b accepts w chain view
-  sees_alike is = record {
-    live = is.live;
-    links = is.links;
-    firsts = is.firsts;
-    cells = is.cells;
-    references = is.references;
-    names = λ v meaning known own laid variable_laid.
-        named_alike v meaning (alike v.scope known) (is.names v meaning known own laid variable_laid);
-  }
+    pub sees_alike : Sees g homes entries store keeps display b accepts w chain view → Sees g homes entries store keeps other b accepts w chain view
+    sees_alike is = record {
+      live = is.live;
+      links = is.links;
+      firsts = is.firsts;
+      cells = is.cells;
+      references = is.references;
+      names = λ v meaning known own laid variable_laid.
+          named_alike v meaning (alike v.scope known) (is.names v meaning known own laid variable_laid);
+    }
 
 -- ## Nobody meets main while it acts
 
@@ -143,7 +141,7 @@ pub record IsMaker (facts : Facts) (m : Machine) (c : Config) (p : ℕ) (level :
   pub main_alone : (y : ℕ) → hand.keeps y ≡ true → y ≡ 0
 
 module _ (facts : Facts) (m : Machine) (c : Config) (p : ℕ) (level : LivingLevel) (acting : IsActing facts m c p level) (own : level.setting.trial ≡ of_own)
-    (can : AreCreatable facts.tree) (n line : ℕ) (there : IsAt level.setting (stack_of m.stacks p).at (NEW n) line)
+    (n line : ℕ) (there : IsAt level.setting (stack_of m.stacks p).at (NEW n) line)
     (goes : IsWithin facts level (own_address level.setting.trial (stack_of m.stacks p).at) (descriptor_of m.descriptors p).communications) where
   abbrev q : Program
   q = program_in facts
@@ -156,16 +154,14 @@ module _ (facts : Facts) (m : Machine) (c : Config) (p : ℕ) (level : LivingLev
 
   block_is_main : block_of level ≡ q.main
   block_is_main =
-      let (k, code, is, on) = subst (λ (t : Trial). IsWithin facts level (own_address t here) its.communications) own goes in
-      let last : k ≡ length q.blocks = can.in_main k here n code is.0 on.entry on.before (code_there facts m c p level acting here (NEW n) line there) in
-      by is.2 last
+      let (k, code, is, on) = subst (λ (t : Trial). IsWithin facts level (own_address t here) its.communications) own goes in by k is.2 on.before
     where
-      by : {k : ℕ} → (slice_get q.blocks k ≡ Some (block_of level)) ⊎ ((k ≡ length q.blocks) × (block_of level ≡ q.main)) → k ≡ length q.blocks
-          → block_of level ≡ q.main
-      by {k} (inl among) last =
-          let less : k < length q.blocks = slice_get_within q.blocks k (block_of level) among in
-          absurd (omega (arith, less, last))
-      by {k} (inr is) last = is.1
+      by : (k : ℕ) → (slice_get q.blocks k ≡ Some (block_of level)) ⊎ ((k ≡ length q.blocks) × (block_of level ≡ q.main))
+          → here < end_in facts k → block_of level ≡ q.main
+      by k (inl among) before =
+          absurd (created_in_main facts.tree acting.alike.program.lawful acting.alike.program.unbroken k here n
+          (slice_get_within q.blocks k (block_of level) among) before (code_there facts m c p level acting here (NEW n) line there))
+      by k (inr is) before = is.1
 
   setting_block : level.setting.block ≡ q.main
   setting_block = ap (λ (t : Trial). own_block t level.setting.block) (sym own) ∙ block_is_main
@@ -183,7 +179,8 @@ module _ (facts : Facts) (m : Machine) (c : Config) (p : ℕ) (level : LivingLev
       its.communications (activity_of q c p).activations (acting.entries p) ends acting.actor.stands.callers
 
   is_main : p ≡ 0
-  is_main = first_is_main q p (length (image_of facts.tree).processes) can.apart
+  is_main = first_is_main q p (length (image_of facts.tree).processes)
+      (process_is_not_main facts.tree acting.alike.program.lawful acting.alike.program.unbroken)
       (subst (λ k. p < k) acting.alike.words.processes acting.actor.process) (sym only.first.block ∙ block_is_main)
 
   number_zero : only.top.number ≡ 0

@@ -1,20 +1,19 @@
 -- The clause of a process that was created, and has not yet begun.
-use Rattle.std.proofs.Common.{◌≡◌, ◌≢◌, ℕ, zero, suc, ◌+◌, ◌<◌, ◌≤◌, max, ℤ, Bool, true, false, List, [], ◌∷◌, length, set, get_or, All, Some, None, drop, ◌-◌}
+use Rattle.std.proofs.Common.{◌≡◌, ℕ, zero, suc, ◌+◌, ◌<◌, ◌≤◌, ℤ, true, false, List, [], ◌∷◌, length, set, get_or, All, Some, None, drop, ◌-◌}
 use Rattle.std.proofs.Common.{refl, sym, ap, ◌∙◌, subst, arith}
 use Rattle.std.proofs.lemmas.List.{get_or-set_same, length-set}
 use Rattle.pfc_code.specs.declared.images.Block.{Block as CodeBlock}
 use Rattle.pfc_types.specs.declared.heads.Formal.{Formal}
-use Rattle.pfc_state.specs.Stands.{Stand, Is_created, is_unfinished}
+use Rattle.pfc_state.specs.Stands.{Is_created, is_unfinished}
 use Rattle.pfc_world.specs.Tables.{Table, at}
 use Rattle.pfc_semantics.specs.Displays.{Display}
 use Rattle.pfc_semantics.specs.Store.{Store}
-use Rattle.pfc_semantics.specs.Programs.{Block, Guard, Program}
+use Rattle.pfc_semantics.specs.Programs.{Block, Program}
 use Rattle.pfc_semantics.specs.Remainders.{Context, Argument}
 use Rattle.pfc_semantics.specs.Rewriting.{going}
 use Rattle.pfc_semantics.specs.Configurations.{plain, of_nobody, Activation, Activity, Config, activity_of, at_work, body_of}
 use Rattle.pfc_semantics.specs.Calls.{new_activation}
 use Rattle.pfc_semantics.specs.Processes.{process_block}
-use Rattle.pfc_translation.specs.Images.{image_of}
 use Rattle.pfc_stacks.specs.declared.marks.Mark.TheVariants.{Plain}
 use Rattle.pfc_stacks.specs.Refs.{word_of}
 use Rattle.pfc_stacks.specs.Stacks.{Stack, Stacks, no_stack, stack_of, last_activation}
@@ -39,7 +38,7 @@ use Rattle.pfc_representation.specs.Processes.{IsAtLevel, IsUnderWay, Represents
 use Rattle.pfc_representation.specs.Acting.{IsActing}
 use Rattle.pfc_kept_object_actions.proofs.Change.{row_here}
 use Rattle.pfc_kept_calls.proofs.Beginnings.{entry_before, room_from_entry}
-use Rattle.pfc_kept_calls.proofs.Called.{entries_here, home_here}
+use Rattle.pfc_kept_calls.proofs.Caller.{entries_here, home_here}
 use Rattle.pfc_kept_lives.proofs.Begun.{IsCreation, code, number, new_entry, home, homes, entries, store, stacks, display, table}
 use Rattle.pfc_kept_lives.proofs.Begun.{inner_level, other, idle, inner_seen, inner_setting, inner_block, does, is_block, references_apart}
 
@@ -182,6 +181,7 @@ module _ (facts : Facts) (m : Machine) (c : Config) (p : ℕ) (level : LivingLev
     laid = ap (λ (b : Block). b.layout) (has_scopes facts.tree acting.alike.program.lawful k callee new.can.there).by_scope;
     apart = references_apart facts m c p level acting n k callee formals x given below new;
     guarded = λ guard is. (let none : None ≡ Some guard = sym new.can.unguarded ∙ is in absurd (cc));
+    accepts = λ i none. absurd (let both : false ≡ true = none in cc);
   }
 
   is_first : (room' : ℕ) → block.operands + guards_room facts ≤ room'
@@ -221,7 +221,8 @@ module _ (facts : Facts) (m : Machine) (c : Config) (p : ℕ) (level : LivingLev
 
   seen : IsSeenBy facts its_homes all_entries its_store its_table n [] (all_entries n) (word_of (last_activation all_stacks n)) its_display its_level
   seen =
-      subst (λ (es : List Entry). IsSeenBy facts its_homes all_entries its_store its_table n [] es (word_of (last_activation all_stacks n)) its_display its_level)
+      subst (λ (es : List Entry). IsSeenBy facts its_homes all_entries its_store its_table n [] es (word_of (last_activation all_stacks n)) its_display
+      its_level)
       (sym (entries_here acting.entries n (its_entry ∷ acting.entries n)))
       (subst (λ (v : ℤ). IsSeenBy facts its_homes all_entries its_store its_table n [] (its_entry ∷ acting.entries n) v its_display its_level) (sym place_is)
       (inner_seen facts m c p level acting n k callee formals x given below new))
@@ -258,7 +259,8 @@ module _ (facts : Facts) (m : Machine) (c : Config) (p : ℕ) (level : LivingLev
     hand = (
       refl,
       ap shows_nothing row_is,
-      subst (λ (s : Stack). DoesOn its_level s.at s.operands (going callee.env (body_of callee))) (sym is_stack) (does facts m c p level acting n k callee formals x given below new),
+      subst (λ (s : Stack). DoesOn its_level s.at s.operands (going callee.env (body_of callee))) (sym is_stack)
+          (does facts m c p level acting n k callee formals x given below new),
     );
     trial = (ap (λ (s : Stack). s.looks_from) is_stack, refl);
   }

@@ -1,12 +1,11 @@
 -- The number of the process that a spot names is one of a process of its declaration, and the same on both sides.
-use Rattle.std.proofs.Common.{◌≡◌, ℕ, ◌+◌, ◌*◌, ◌^◌, ◌%◌, ◌<◌, ◌≤◌, ℤ, pos, true, List, [], ◌∷◌, length, slice_get, Option, Some, None, refl, sym, ap, ap₂, ◌∙◌}
+use Rattle.std.proofs.Common.{◌≡◌, ℕ, ◌+◌, ◌*◌, ◌^◌, ◌<◌, ◌≤◌, ℤ, pos, true, List, [], length, slice_get, Option, Some, None, refl, sym, ap, ap₂, ◌∙◌}
 use Rattle.std.proofs.Common.{subst, arith}
 use Rattle.std.specs.Prelude.{unsigned_abs}
 use Rattle.pfc_types.specs.Types.{Forms, form_of, process_form}
 use Rattle.pfc_types.specs.declared.types.TypeId.{TypeId}
 use Rattle.pfc_types.specs.declared.types.TypeForm.{TypeForm}
 use Rattle.pfc_types.specs.declared.types.TypeForm.TheVariants.{Channel, Array, Record, Process as OfProcess}
-use Rattle.pfc_types.specs.declared.scope.Meaning.{Meaning}
 use Rattle.pfc_types.specs.declared.scope.Meaning.TheVariants.{Process}
 use Rattle.pfc_semantics.specs.Values.{Value, Location, ordinal, ordinal_of, part, path_of}
 use Rattle.pfc_semantics.specs.Displays.{Spot, own_location, reached}
@@ -14,9 +13,9 @@ use Rattle.pfc_semantics.specs.Layouts.{Layout}
 use Rattle.pfc_semantics.specs.Programs.{Block, Program}
 use Rattle.pfc_semantics.specs.Processes.{declaration_of}
 use Rattle.pfc_semantics.specs.Remainders.{Context}
-use Rattle.pfc_semantics.specs.Store.{value_at, variable, inside}
+use Rattle.pfc_semantics.specs.Store.{value_at, variable}
 use Rattle.pfc_semantics.specs.Configurations.{Config, activity_of, location_for, number_for}
-use Rattle.pfc_translation.specs.Sites.{Site, layout_with, place_of}
+use Rattle.pfc_translation.specs.Sites.{Site}
 use Rattle.pfc_translation.specs.Images.{image_of}
 use Rattle.pfc_stacks.specs.declared.refs.Ref.{Ref}
 use Rattle.pfc_stacks.specs.Refs.{word_of, number_of}
@@ -37,9 +36,9 @@ use Rattle.pfc_call_laws.specs.Calls.{first_home}
 use Rattle.pfc_nesting_laws.proofs.Programs.{main_found}
 use Rattle.pfc_representation.specs.Levels.{Facts, program_in, LivingLevel}
 use Rattle.pfc_representation.specs.Acting.{IsActing}
-use Rattle.pfc_kept_calls.proofs.Called.{w, outer, hand}
+use Rattle.pfc_kept_calls.proofs.Caller.{w, outer, hand}
 use Rattle.pfc_kept_calls.proofs.Ended.{number_back}
-use Rattle.pfc_kept_lives.specs.Creatable.{SinglesAreNumbered}
+use Rattle.pfc_kept_lives.proofs.Singles.{SinglesAreNumbered}
 
 form_is : (o : Option TypeForm) (n : ℕ) → process_form o ≡ Some n → o ≡ Some (OfProcess n)
 form_is (Some (OfProcess k)) n h = (let same : k ≡ n = (let both : Some k ≡ Some n = h in cc) in ap (λ i. Some (OfProcess i)) same)
@@ -178,7 +177,8 @@ module _ (facts : Facts) (m : Machine) (c : Config) (p : ℕ) (level : LivingLev
     single = singles its_own.variable declaration (ap (λ (xs : Layout). slice_get xs its_own.variable) (sym layout_is) ∙ laid)
 
     word_is : word_of (cell named.home (layout_at q named.home)) ≡ pos (own_cells + cells_before q.state.forms q.main.layout its_own.variable)
-    word_is = ap₂ (λ (h : Home) (xs : Layout). word_of (cell h xs)) home_is layout_is ∙ ap pos (plain (cells_before q.state.forms q.main.layout its_own.variable))
+    word_is = ap₂ (λ (h : Home) (xs : Layout). word_of (cell h xs)) home_is layout_is
+        ∙ ap pos (plain (cells_before q.state.forms q.main.layout its_own.variable))
       where
         plain : (k : ℕ) → 0 * 2 ^ 32 + (0 + own_cells + k + 0) ≡ own_cells + k
         plain k = omega arith

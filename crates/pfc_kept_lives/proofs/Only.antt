@@ -1,18 +1,17 @@
 -- The body of a process ends: its first activation is the only one, and no other process keeps that.
-use Rattle.std.proofs.Common.{◌≡◌, ◌≢◌, ℕ, ℤ, Bool, true, false, if◌then◌else◌, List, [], ◌∷◌, length, get_or, Some, None, refl, sym, ap, ◌∙◌, subst, arith}
-use Rattle.std.proofs.Common.{pos, ◌==◌, Option, inl, inr}
+use Rattle.std.proofs.Common.{◌≡◌, ◌≢◌, ℕ, ℤ, Bool, true, false, if◌then◌else◌, List, [], ◌∷◌, get_or, Some, refl, sym, ap, ◌∙◌, subst, arith}
+use Rattle.std.proofs.Common.{pos, ◌==◌, Option}
 use Rattle.pfc_code.specs.declared.instructions.Instr.TheVariants.{END, RET, RETF}
-use Rattle.pfc_state.specs.Stands.{is_unfinished}
-use Rattle.pfc_world.specs.Tables.{Table, at}
+use Rattle.pfc_world.specs.Tables.{Table}
 use Rattle.pfc_types.specs.declared.types.TypeId.{TypeId}
 use Rattle.pfc_semantics.specs.Values.{Value, Location, ordinal, part, path_of}
 use Rattle.pfc_semantics.specs.Programs.{Program}
-use Rattle.pfc_semantics.specs.Store.{Store, values_in, value_at, without}
+use Rattle.pfc_semantics.specs.Store.{Store, value_at, without}
 use Rattle.pfc_semantics.specs.Configurations.{Mark, plain, of_monitor, of_resource, Caller, of_nobody, of_remainder, of_value, Activation, Activity, Config}
 use Rattle.pfc_semantics.specs.Configurations.{activity_of}
 use Rattle.pfc_stacks.specs.declared.refs.Ref.{Ref}
 use Rattle.pfc_stacks.specs.Refs.{word_of}
-use Rattle.pfc_stacks.specs.Stacks.{stack_of, cells_of, last_activation}
+use Rattle.pfc_stacks.specs.Stacks.{stack_of, last_activation}
 use Rattle.pfc_cells.specs.Homes.{Home, Homes, Lies}
 use Rattle.pfc_cells.specs.Memory.{Entry, Entries, IsAmong, Lives, MemoryIs}
 use Rattle.pfc_cells.specs.Activations.{with_entries}

@@ -1,57 +1,46 @@
 -- Where a process is created, all processes are represented still: it, the one that creates it, and all others.
-use Rattle.std.proofs.Common.{◌≡◌, ◌≢◌, ℕ, ◌+◌, ◌^◌, ◌<◌, ◌≤◌, ℤ, Bool, true, false, List, [], ◌∷◌, length, drop, set, slice_get, get_or, Option, Some, None}
+use Rattle.std.proofs.Common.{◌≡◌, ◌≢◌, ℕ, ◌+◌, ◌<◌, ◌≤◌, ℤ, Bool, false, List, ◌∷◌, length, drop, set, get_or, None}
 use Rattle.std.proofs.Common.{refl, sym, ap, ◌∙◌, subst, arith, ◌⊎◌, inl, inr}
 use Rattle.std.proofs.lemmas.List.{get_or-set_same, get_or-set_other, length-set}
 use Rattle.pfc_code.specs.declared.images.Block.{Block as CodeBlock}
-use Rattle.pfc_types.specs.declared.types.TypeId.{TypeId}
 use Rattle.pfc_types.specs.declared.heads.Formal.{Formal}
-use Rattle.pfc_state.specs.Stands.{Stand, Is_created, is_unfinished, ticket_of, due_of}
+use Rattle.pfc_state.specs.Stands.{Is_created, is_unfinished}
 use Rattle.pfc_world.specs.Tables.{Table, at}
-use Rattle.pfc_world.specs.Transitions.{placed, rested, ticked}
-use Rattle.pfc_semantics.specs.Values.{Value, Location, path_of}
-use Rattle.pfc_semantics.specs.Layouts.{Layout}
 use Rattle.pfc_semantics.specs.Programs.{Block, Program}
 use Rattle.pfc_semantics.specs.Remainders.{Context, Argument, Remainder}
 use Rattle.pfc_semantics.specs.Rewriting.{going}
 use Rattle.pfc_semantics.specs.Store.{Store}
 use Rattle.pfc_semantics.specs.Configurations.{Activation, Activity, Config, nobody, activity_of, at_work, goes_on, all_passed, done_at}
 use Rattle.pfc_semantics.specs.Processes.{created}
-use Rattle.pfc_stacks.specs.declared.refs.Ref.{Ref}
 use Rattle.pfc_stacks.specs.Stacks.{Stack, Stacks, no_stack, stack_of}
 use Rattle.pfc_stacks.specs.Effects.{moved}
-use Rattle.pfc_cells.specs.Homes.{Home, Homes, Lies, layout_at}
+use Rattle.pfc_cells.specs.Homes.{Home, Homes}
 use Rattle.pfc_cells.specs.Memory.{Entry, Entries}
 use Rattle.pfc_machines.specs.declared.machine.Machine.{Machine}
 use Rattle.pfc_machines.specs.declared.descriptors.Descriptor.{Descriptor}
 use Rattle.pfc_machines.specs.Actions.{at_rest}
 use Rattle.pfc_machines.specs.Descriptors.{descriptor_by, descriptor_of}
-use Rattle.pfc_machines.specs.Quiet.{tried_in}
 use Rattle.pfc_machine_acts.specs.Acting.{acted}
 use Rattle.pfc_own_actions.specs.Creating.{creation}
-use Rattle.pfc_standing_code.specs.Shapes.{is_object_type}
-use Rattle.pfc_standing_code.specs.Settings.{Trial, of_own}
+use Rattle.pfc_standing_code.specs.Settings.{Trial}
 use Rattle.pfc_views.specs.Keeping.{IsLike}
 use Rattle.pfc_views.proofs.Changes.{begun as begun_like}
-use Rattle.pfc_call_laws.specs.Calls.{first_home}
-use Rattle.pfc_nesting_laws.proofs.Programs.{has_scopes}
 use Rattle.pfc_representation.specs.Levels.{Facts, program_in, LivingLevel, DoesOn}
 use Rattle.pfc_representation.specs.Rooms.{own_address}
 use Rattle.pfc_representation.specs.Callers.{IsWithin}
 use Rattle.pfc_representation.specs.Hands.{shows_nothing}
-use Rattle.pfc_representation.specs.Holding.{Holders, holders_in, is_quiet, waits_at_coend}
+use Rattle.pfc_representation.specs.Holding.{Holders, holders_in}
 use Rattle.pfc_representation.specs.Trials.{TrialIs, HasTried}
 use Rattle.pfc_representation.specs.Processes.{IsUnderWay, ActivationsAre, RepresentsProcess}
-use Rattle.pfc_representation.specs.Machines.{machine_table, SharesWords, HoldsStore, IsBetweenActions, AreAlike, Represents}
-use Rattle.pfc_representation.specs.Keeping.{IsLender, IsSameStack, IsUntouched, IsLeftAlone}
+use Rattle.pfc_representation.specs.Keeping.{IsSameStack, IsUntouched}
 use Rattle.pfc_representation.specs.Acting.{IsActor, IsActing}
 use Rattle.pfc_representation.proofs.Kept.{process_still}
 use Rattle.pfc_representation.proofs.Quiet.{others_moved, actor_moved}
 use Rattle.pfc_kept_object_actions.proofs.Change.{row_there}
-use Rattle.pfc_kept_object_actions.proofs.Tests.{either}
-use Rattle.pfc_kept_calls.proofs.Called.{top, is_free, entries_there, home_here, home_there, ticks, kinds_still}
+use Rattle.pfc_kept_calls.proofs.Caller.{top, is_free, entries_there}
 use Rattle.pfc_kept_lives.proofs.Bound.{lender_bound, tried_bound, bound_living}
-use Rattle.pfc_kept_lives.proofs.Begun.{IsCreation, code, number, new_entry, home, homes, entries, values, store, stacks, table, other, new_hold}
-use Rattle.pfc_kept_lives.proofs.Newborn.{a', d', stack, row_is, newborn}
+use Rattle.pfc_kept_lives.proofs.Begun.{IsCreation, code, number, new_entry, home, homes, entries, values, store, stacks, table, other}
+use Rattle.pfc_kept_lives.proofs.Newborn.{a', d', stack, newborn}
 
 module _ (facts : Facts) (m : Machine) (c : Config) (p : ℕ) (level : LivingLevel) (acting : IsActing facts m c p level) (n k : ℕ) (callee : Block)
     (formals : List Formal) (x : Context) (given : List Argument) (below : List ℤ)
@@ -82,6 +71,12 @@ module _ (facts : Facts) (m : Machine) (c : Config) (p : ℕ) (level : LivingLev
 
   abbrev its_table : Table
   its_table = table facts m c p level acting n k callee formals x given below new
+
+  abbrev its_number : ℕ
+  its_number = number facts m c p level acting n k callee formals x given below new
+
+  abbrev its_stack : Stack
+  its_stack = stack facts m c p level acting n k callee formals x given below new
 
   abbrev h : Holders
   h = holders_in facts c
@@ -114,12 +109,12 @@ module _ (facts : Facts) (m : Machine) (c : Config) (p : ℕ) (level : LivingLev
   -- ## What stays of all others
 
   pub like : (keeps : ℕ → Bool) → IsLike q keeps acting.homes its_homes acting.entries all_entries c.store its_store
-  like keeps = begun_like q keeps acting.homes acting.entries c.store n (number facts m c p level acting n k callee formals x given below new) its_home its_entry
+  like keeps = begun_like q keeps acting.homes acting.entries c.store n its_number its_home its_entry
       (values facts m c p level acting n k callee formals x given below new) (is_free facts m c p level acting)
 
   stack_stays : (r : ℕ) → r ≢ n → IsSameStack (stack_of m1.stacks r) (stack_of all_stacks r)
   stack_stays r apart =
-      let same : stack_of all_stacks r ≡ stack_of m1.stacks r = get_or-set_other m1.stacks n r (stack facts m c p level acting n k callee formals x given below new) no_stack apart in
+      let same : stack_of all_stacks r ≡ stack_of m1.stacks r = get_or-set_other m1.stacks n r its_stack no_stack apart in
       record {
         at = ap (λ (y : Stack). y.at) same;
         base = ap (λ (y : Stack). y.base) same;
@@ -205,7 +200,8 @@ module _ (facts : Facts) (m : Machine) (c : Config) (p : ℕ) (level : LivingLev
             ap shows_nothing acting.actor.ready,
             subst (λ (y : Stack). DoesOn level y.at y.operands (going x.env r)) (sym moved_here) does,
           );
-          trial = subst (λ (t : Trial). TrialIs t facts acting.homes acting.entries c.store m1.stacks c.table p level a.activations its_descriptor) (sym new.own)
+          trial = subst (λ (t : Trial). TrialIs t facts acting.homes acting.entries c.store m1.stacks c.table p level a.activations its_descriptor)
+              (sym new.own)
               in_no_scan;
         }
 
@@ -306,7 +302,8 @@ module _ (facts : Facts) (m : Machine) (c : Config) (p : ℕ) (level : LivingLev
     pub processes : (t : ℕ) → t < length c.activities → (t ≡ n) ⊎ (t ≢ n) → (t ≡ p) ⊎ (t ≢ p) → Stands t (activity_of q c' t) (descriptor_of m'.descriptors t)
     processes t less (inl same) place =
         subst (λ i. Stands i (activity_of q c' i) (descriptor_of m'.descriptors i)) (sym same)
-        (both n newcomer (activity_of q c' n) new_descriptor (descriptor_of m'.descriptors n) new_activity its_new_descriptor (newborn facts m c p level acting n k callee formals x given below new))
+        (both n newcomer (activity_of q c' n) new_descriptor (descriptor_of m'.descriptors n) new_activity its_new_descriptor
+        (newborn facts m c p level acting n k callee formals x given below new))
     processes t less (inr apart) (inl same) =
         subst (λ i. Stands i (activity_of q c' i) (descriptor_of m'.descriptors i)) (sym same)
         (both p its_doing (activity_of q c' p) its_descriptor (descriptor_of m'.descriptors p) maker_activity maker_descriptor

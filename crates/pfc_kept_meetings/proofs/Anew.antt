@@ -1,17 +1,16 @@
 -- What an activation sees whose first static link leads to main's, where some of its variables take other values and references.
-use Rattle.std.proofs.Common.{◌≡◌, ◌≢◌, ℕ, zero, suc, ◌+◌, ◌^◌, ◌<◌, ◌≤◌, ℤ, pos, Bool, true, false, if◌then◌else◌, List, [], ◌∷◌, length, take, drop, get_or, slice_get, Option, Some, None, refl, sym, ap, ap₂, ◌∙◌, subst, arith, ◌⊎◌, inl, inr}
+use Rattle.std.proofs.Common.{◌≡◌, ◌≢◌, ℕ, zero, suc, ◌+◌, ◌^◌, ◌<◌, ◌≤◌, ℤ, pos, Bool, true, false, if◌then◌else◌, List, [], ◌∷◌, length, take, drop, get_or, slice_get, Some, None, refl, sym, ap, ap₂, ◌∙◌, subst, arith, ◌⊎◌, inl, inr}
 use Rattle.pfc_types.specs.declared.types.TypeId.{TypeId}
 use Rattle.pfc_types.specs.declared.scope.Meaning.{Meaning}
 use Rattle.pfc_types.specs.declared.scope.Meaning.TheVariants.{Variable}
 use Rattle.pfc_types.specs.rules.Declarations.{name_cells}
 use Rattle.pfc_semantics.specs.Values.{Value, Location, ordinal, points}
-use Rattle.pfc_semantics.specs.Store.{Store, values_in, variable}
+use Rattle.pfc_semantics.specs.Store.{Store, values_in}
 use Rattle.pfc_semantics.specs.Layouts.{Layout, is_laid}
 use Rattle.pfc_semantics.specs.Displays.{Spot, Frame, Display, frame_of, own_location}
 use Rattle.pfc_semantics.specs.Programs.{Block, Program, layout_cells}
 use Rattle.pfc_translation.specs.Sites.{Site, links_to, laid_before, layout_with, place_of, cell_of, is_reference}
 use Rattle.pfc_stacks.specs.Refs.{word_of}
-use Rattle.pfc_stacks.specs.Stacks.{link_place}
 use Rattle.pfc_cells.specs.Shapes.{AreCounted}
 use Rattle.pfc_cells.specs.Homes.{Home, Homes, layout_at, cells_before}
 use Rattle.pfc_cells.specs.Memory.{AreCells, Entry, Entries, Lives, is_pointer}
@@ -63,7 +62,8 @@ inside_or_not from to k = by (either k from)
         last (inr over) = inr (λ other high. below k to high over)
 
 module _ (g : Program) (sound : AreCounted g.state.forms) (homes : Homes) (entries : Entries) (store store' : Store) (keeps keeps' : ℕ → Bool)
-    (display : Display) (b : Block) (accepts : List ℕ) (w : ℤ) (chain : List ℕ) (view : View) (a : ℕ) (home : Home) (cells : List ℤ) (from to : ℕ) (accepts' : List ℕ) where
+    (display : Display) (b : Block) (accepts : List ℕ) (w : ℤ) (chain : List ℕ) (view : View) (a : ℕ) (home : Home) (cells : List ℤ) (from to : ℕ) (accepts' :
+    List ℕ) where
   abbrev layout : Layout
   layout = b.layout
 
@@ -238,7 +238,8 @@ module _ (g : Program) (sound : AreCounted g.state.forms) (homes : Homes) (entri
         let its_home : cell.home ≡ home = some_same cell.home home (sym cell.at ∙ ap homes same ∙ are.at) in
         let its_layout : layout_at g cell.home ≡ layout = ap (λ (y : Home). layout_at g y) its_home ∙ are.is_layout in
         let laid : slice_get layout cell.place ≡ Some (Variable cell.t true) = ap (λ (x : Layout). slice_get x cell.place) (sym its_layout) ∙ cell.laid in
-        let first : cells_before g.state.forms layout cell.place ≡ d = ap (λ (x : Layout). cells_before g.state.forms x cell.place) (sym its_layout) ∙ cell.first in
+        let first : cells_before g.state.forms layout cell.place ≡ d = ap (λ (x : Layout). cells_before g.state.forms x cell.place) (sym its_layout) ∙
+        cell.first in
         let out : from ≤ cell.place → cell.place < to → ⊥ =
         λ low high. both_ways (ranged d)
         (ap (λ n. ranged n) (sym first)

@@ -16,4 +16,15 @@ pub mod Alike
 pub mod Owner
 pub mod Known
 pub mod Parameters
+pub mod Giving
+pub mod Given
+pub mod Shown
+pub mod Begins
+pub mod Untouched
+pub mod Caller
+pub mod Meets
 pub mod Told
+pub mod Few
+pub mod Live
+pub mod Together
+pub mod Joining

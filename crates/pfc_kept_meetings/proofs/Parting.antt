@@ -1,6 +1,7 @@
 -- The end of an accept: the process goes on behind it, and the caller of the meeting is ready.
-use Rattle.std.proofs.Common.{◌≡◌, ◌≢◌, ℕ, zero, suc, ◌+◌, ◌<◌, ℤ, true, false, List, [], ◌∷◌, ◌++◌, length, drop, set, slice_get, get_or, Some, None, refl, sym, ap, ◌∙◌, subst, arith, ◌⊎◌, inl, inr}
+use Rattle.std.proofs.Common.{◌≡◌, ◌≢◌, ℕ, zero, suc, ◌+◌, ◌<◌, ◌==◌, ℤ, true, false, List, [], ◌∷◌, ◌++◌, length, drop, set, slice_get, get_or, Some, None, refl, sym, ap, ◌∙◌, subst, arith, ◌⊎◌, inl, inr}
 use Rattle.std.proofs.lemmas.Option.{slice_get-get_or}
+use Rattle.std.specs.List.{list_any}
 use Rattle.std.proofs.lemmas.List.{get_or-set_same, get_or-set_other, length-set}
 use Rattle.pfc_state.specs.Stands.{Stand, Is_idle, Is_ready, Waits, is_unfinished, ticket_of, due_of}
 use Rattle.pfc_state.specs.declared.waits.Arm.{Arm as WaitArm}
@@ -13,7 +14,7 @@ use Rattle.pfc_semantics.specs.Programs.{Block, Program}
 use Rattle.pfc_semantics.specs.Rewriting.{Doing}
 use Rattle.pfc_semantics.specs.Configurations.{Activity, Config, nobody, activity_of, at_work}
 use Rattle.pfc_stacks.specs.Refs.{word_of}
-use Rattle.pfc_stacks.specs.Stacks.{Stack, Stacks, no_stack, stack_of, operands_of, last_activation}
+use Rattle.pfc_stacks.specs.Stacks.{Stack, Stacks, no_stack, stack_of, last_activation}
 use Rattle.pfc_stacks.specs.Effects.{moved}
 use Rattle.pfc_cells.specs.Homes.{Homes}
 use Rattle.pfc_cells.specs.Memory.{Entry, Entries, MemoryIs}
@@ -26,17 +27,18 @@ use Rattle.pfc_standing_code.specs.Performs.{own_view, own_accepts, own_block}
 use Rattle.pfc_stack_laws.proofs.Moves.{hold_moved}
 use Rattle.pfc_representation.specs.Levels.{Facts, program_in, LivingLevel, block_of, is_met_by, DoesOn, SeesThrough, IsSeenBy}
 use Rattle.pfc_representation.specs.Rooms.{own_address}
-use Rattle.pfc_representation.specs.Callers.{IsWithin, AreCallers}
+use Rattle.pfc_representation.specs.Callers.{IsWithin}
 use Rattle.pfc_representation.specs.Hands.{shows_nothing}
 use Rattle.pfc_representation.specs.Holding.{Holders, holders_in, Holds, waits_for_monitor, waits_for_resource, is_quiet, waits_at_coend}
+use Rattle.pfc_call_laws.proofs.Places.{or_right}
 use Rattle.pfc_representation.specs.Trials.{TrialIs, HasTried}
 use Rattle.pfc_representation.specs.Processes.{AreMet, IsAtLevel, IsUnderWay, RepresentsProcess}
-use Rattle.pfc_representation.specs.Keeping.{IsSameStack, IsLender, IsUntouched, IsLeftAlone}
+use Rattle.pfc_representation.specs.Keeping.{IsSameStack, IsLender, IsUntouched}
 use Rattle.pfc_representation.specs.Acting.{IsActor, IsActing}
 use Rattle.pfc_representation.proofs.Kept.{process_still}
 use Rattle.pfc_representation.proofs.Quiet.{actor_moved, others_moved}
 use Rattle.pfc_kept_own_actions.proofs.Arrived.{has_setting, hold_store, stack_there}
-use Rattle.pfc_kept_object_actions.specs.Freed.{IsFreed, StandsStill}
+use Rattle.pfc_kept_object_actions.specs.Freed.{IsFreed}
 use Rattle.pfc_kept_object_actions.proofs.Change.{row_here, row_there, within_rows}
 use Rattle.pfc_kept_object_actions.proofs.Freed.{process_freed}
 use Rattle.pfc_kept_messages.proofs.Others.{IsBarredStand}
@@ -68,7 +70,11 @@ module _ (table table' : Table) (p gone : ℕ) (rows : (r : ℕ) → r ≢ gone 
 
   met_less : (callers : List ℕ) → AreMet table p (gone ∷ callers) → AreMet table' p callers
   met_less callers met =
-      record { waiting = λ k d below. waiting k d below (slice_get-get_or callers k d below); once = λ j k q one two. less j k (met.once (suc j) (suc k) q one two) }
+      record {
+        waiting = λ k d below. waiting k d below (slice_get-get_or callers k d below);
+        once = λ j k q one two. less j k (met.once (suc j) (suc k) q one
+            two);
+      }
     where
       less : (j k : ℕ) → suc j ≡ suc k → j ≡ k
       less j k h = grind (arith, h)
@@ -97,6 +103,17 @@ module _ (facts : Facts) (homes : Homes) (entries : Entries) (store : Store) (ta
   behind_accept of_own same there is = behind_last g.view g.block g.accepts g.meetings there is
   behind_accept (of_turn scan back) same there is = absurd (let no : of_turn scan back ≡ of_own = same in cc)
   behind_accept (of_another attempt) same there is = absurd (let no : of_another attempt ≡ of_own = same in cc)
+
+-- who is open behind it was open
+without_first : (accepts : List ℕ) (i : ℕ) → list_any (λ j. j == i) (drop 1 accepts) ≡ true → list_any (λ j. j == i) accepts ≡ true
+without_first [] i open = open
+without_first (n ∷ accepts) i open = or_right (n == i) (list_any (λ j. j == i) accepts) open
+
+without_last : (t : Trial) (accepts : List ℕ) (i : ℕ) → list_any (λ j. j == i) (own_accepts t (drop 1 accepts)) ≡ true
+    → list_any (λ j. j == i) (own_accepts t accepts) ≡ true
+without_last of_own accepts i open = without_first accepts i open
+without_last (of_turn scan back) accepts i open = without_first accepts i open
+without_last (of_another attempt) accepts i open = open
 
 -- ## Both sides
 
@@ -231,7 +248,8 @@ module _ (facts : Facts) (m : Machine) (c : Config) (p : ℕ) (level : LivingLev
           callers =
               callers_less facts acting.homes acting.entries c.store c.table (ticked table) p caller row_other awake only (stack_of stacks p).room level'
               (word_of (last_activation stacks p)) latest a.activations (acting.entries p) has_not
-              (callers_then level level.setting.view (drop 1 level.setting.accepts) (drop 1 level.setting.meetings) d.communications latest.callers fewer
+              (callers_then level level.setting.view (drop 1 level.setting.accepts) (drop 1 level.setting.meetings)
+              (λ old i open. old i (without_last level.setting.trial level.setting.accepts i open)) d.communications latest.callers fewer
               facts acting.homes acting.entries c.store c.table p (stack_of stacks p).room (word_of (last_activation stacks p)) a.activations
               (acting.entries p) old.callers);
           room = old.room;

@@ -1,16 +1,19 @@
 -- A level with another view, other accepts and other meetings, while all else of it is as it was.
-use Rattle.std.proofs.Common.{◌≡◌, ℕ, ℤ, List, [], ◌∷◌, ◌++◌, length, Some, refl, sym, ap, ◌∙◌}
+use Rattle.std.proofs.Common.{◌≡◌, ◌==◌, ℕ, ℤ, true, List, [], ◌∷◌, ◌++◌, length, Some, refl, sym, ap, ◌∙◌}
+use Rattle.std.specs.List.{list_any}
 use Rattle.pfc_code.specs.declared.images.Block.{Block as CodeBlock}
 use Rattle.pfc_world.specs.Tables.{Table}
 use Rattle.pfc_semantics.specs.Configurations.{Activation}
 use Rattle.pfc_semantics.specs.Displays.{Display}
 use Rattle.pfc_semantics.specs.Programs.{Block}
 use Rattle.pfc_semantics.specs.Store.{Store}
+use Rattle.pfc_translation.specs.Sites.{is_accept}
 use Rattle.pfc_cells.specs.Homes.{Homes}
 use Rattle.pfc_cells.specs.Memory.{Entry, Entries}
 use Rattle.pfc_machines.specs.Communications.{Communicating}
 use Rattle.pfc_standing_code.specs.Settings.{View, Setting, IsBeside, same_block, both_mains}
-use Rattle.pfc_representation.specs.Levels.{Facts, LivingLevel, HasSetting, SeesWith, SeesThrough}
+use Rattle.pfc_standing_code.specs.Performs.{own_accepts}
+use Rattle.pfc_representation.specs.Levels.{Facts, LivingLevel, block_of, HasSetting, SeesWith, SeesThrough}
 use Rattle.pfc_representation.specs.Rooms.{HasRoom}
 use Rattle.pfc_representation.specs.Callers.{Linkage, StandsFor, IsMadeOver, is_unmade, IsWithin, IsFirst, IsCalled, AreCallers}
 
@@ -57,9 +60,14 @@ module _ (level : LivingLevel) (view : View) (accepts meetings : List ℕ) where
         number = is.number;
       }
 
-  pub stands_then : (facts : Facts) (homes : Homes) (store : Store) (p : ℕ) (a : Activation) (e : Entry) (w : ℤ) (own : Linkage)
+  -- these are accepts of the block
+  abbrev pub AreOwn : List ℕ → Type 0
+  AreOwn open_ones = (i : ℕ) → list_any (λ j. j == i) (own_accepts level.setting.trial open_ones) ≡ true → is_accept (block_of level) i ≡ true
+
+  pub stands_then : (AreOwn level.setting.accepts → AreOwn accepts)
+      → (facts : Facts) (homes : Homes) (store : Store) (p : ℕ) (a : Activation) (e : Entry) (w : ℤ) (own : Linkage)
       → StandsFor facts homes store p a e w own level → StandsFor facts homes store p a e w own settled
-  stands_then facts homes store p a e w own is =
+  stands_then opens facts homes store p a e w own is =
       record {
         number = is.number;
         home = is.home;
@@ -81,12 +89,13 @@ module _ (level : LivingLevel) (view : View) (accepts meetings : List ℕ) where
         laid = is.laid;
         apart = is.apart;
         guarded = is.guarded;
+        accepts = opens is.accepts;
       }
 
   room_then : (facts : Facts) (room k : ℕ) (earlier : Communicating) → HasRoom facts room level k earlier → HasRoom facts room settled k earlier
   room_then facts room k earlier is = record { operands = is.operands; made = is.made; branches = is.branches }
 
-  module _ (latest : Communicating) (callers : List ℕ)
+  module _ (opens : AreOwn level.setting.accepts → AreOwn accepts) (latest : Communicating) (callers : List ℕ)
       (are : (es : List ℕ) → latest.callers ≡ level.setting.meetings ++ es → callers ≡ meetings ++ es) where
     abbrev pub called_so : Communicating
     called_so = record latest { callers = callers }
@@ -99,7 +108,7 @@ module _ (level : LivingLevel) (view : View) (accepts meetings : List ℕ) where
     first_then facts homes store p room w a e is =
         record {
           own = is.own;
-          stands = stands_then facts homes store p a e w is.own is.stands;
+          stands = stands_then opens facts homes store p a e w is.own is.stands;
           fits = room_then facts room is.own.block (is_unmade latest) is.fits;
           made = made_then 1 (is_unmade latest) is.made;
           block = is.block;
@@ -118,7 +127,7 @@ module _ (level : LivingLevel) (view : View) (accepts meetings : List ℕ) where
     called_then facts homes entries store table p room depth w a b e below outer v earlier is =
         record {
           own = is.own;
-          stands = stands_then facts homes store p a e w is.own is.stands;
+          stands = stands_then opens facts homes store p a e w is.own is.stands;
           fits = room_then facts room is.own.block earlier is.fits;
           made = made_then depth earlier is.made;
           home = is.home;

@@ -1,5 +1,5 @@
 -- The process that acts goes on to an address, and waits there, with something to show; nothing else changes.
-use Rattle.std.proofs.Common.{◌≡◌, ◌≢◌, ℕ, ◌+◌, ◌^◌, ◌<◌, ◌≤◌, ℤ, true, false, List, [], ◌∷◌, length, set, get_or, Some, None, refl, sym, ap, ◌∙◌, subst, arith, ◌⊎◌, inl, inr}
+use Rattle.std.proofs.Common.{◌≡◌, ◌≢◌, ℕ, ◌+◌, ◌^◌, ◌<◌, ◌≤◌, ℤ, List, [], length, set, get_or, Some, None, refl, sym, ap, ◌∙◌, subst, arith, ◌⊎◌, inl, inr}
 use Rattle.std.proofs.lemmas.List.{get_or-set_same, get_or-set_other, length-set}
 use Rattle.pfc_state.specs.Stands.{Stand, Is_ready, Waits, is_unfinished, ticket_of, due_of}
 use Rattle.pfc_state.specs.Waits.{due_of_wait}
@@ -16,7 +16,7 @@ use Rattle.pfc_stacks.specs.Effects.{moved}
 use Rattle.pfc_cells.specs.Memory.{MemoryIs}
 use Rattle.pfc_machines.specs.declared.machine.Machine.{Machine}
 use Rattle.pfc_machines.specs.declared.descriptors.Descriptor.{Descriptor}
-use Rattle.pfc_machines.specs.Descriptors.{descriptor_by, descriptor_of}
+use Rattle.pfc_machines.specs.Descriptors.{descriptor_of}
 use Rattle.pfc_standing_code.specs.Settings.{Trial, of_own}
 use Rattle.pfc_stack_laws.proofs.Moves.{hold_moved}
 use Rattle.pfc_representation.specs.Levels.{Facts, program_in, LivingLevel, is_met_by}
@@ -143,7 +143,8 @@ module _ (facts : Facts) (m : Machine) (c : Config) (p : ℕ) (level : LivingLev
           hand =
               subst (λ (s : Stand). HandIs facts acting.homes (ticked table) acting.entries p level (stack_of stacks p).at (stack_of stacks p).operands d' s
               doing hand) (sym row_is)
-              (subst (λ (s : Stack). HandIs facts acting.homes (ticked table) acting.entries p level s.at s.operands d' stand doing hand) (sym moved_here) shows);
+              (subst (λ (s : Stack). HandIs facts acting.homes (ticked table) acting.entries p level s.at s.operands d' stand doing hand) (sym moved_here)
+              shows);
           trial = subst (λ (t : Trial). TrialIs t facts acting.homes acting.entries c.store stacks (ticked table) p level a'.activations d') (sym own) at_own;
         }
 

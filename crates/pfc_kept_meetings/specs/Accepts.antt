@@ -1,11 +1,9 @@
 -- What is told of the accepts of a program, and of a run.
-use Rattle.std.specs.Prelude.{ℕ, ◌≡◌, ◌≢◌, ◌<◌, ◌==◌, ◌||◌, ◌&&◌, not, pos, Bool, true, List, [], ◌∷◌, length, get_or, Some, None}
-use Rattle.std.specs.List.{slice_get, list_all}
+use Rattle.std.specs.Prelude.{ℕ, ◌≡◌, ◌≢◌, ◌<◌, ◌==◌, pos, true, List, [], ◌∷◌, length, get_or, Some, None}
+use Rattle.std.specs.List.{slice_get, list_any}
 use Rattle.pfc_tree.specs.trees.Parts.{ProgramTree}
 use Rattle.pfc_types.specs.Blocks.{process_at}
-use Rattle.pfc_types.specs.Scopes.{Level}
 use Rattle.pfc_types.specs.rules.Declarations.{name_cells}
-use Rattle.pfc_types.specs.rules.Expressions.{Env}
 use Rattle.pfc_types.specs.declared.scope.Meaning.{Meaning}
 use Rattle.pfc_types.specs.declared.scope.Meaning.TheVariants.{Variable}
 use Rattle.pfc_types.specs.declared.types.TypeId.{TypeId}
@@ -16,11 +14,10 @@ use Rattle.pfc_semantics.specs.Values.{Value, Location, ordinal, points}
 use Rattle.pfc_semantics.specs.Layouts.{is_laid, sub_with}
 use Rattle.pfc_semantics.specs.Processes.{declaration_of, process_block}
 use Rattle.pfc_semantics.specs.Programs.{Block, Program, block_at, program_of}
-use Rattle.pfc_semantics.specs.Remainders.{Context, Accepting, Open, Remainder, Action, to_accept, meets}
-use Rattle.pfc_semantics.specs.Configurations.{Activation, Config, asking, offering, activity_of}
+use Rattle.pfc_semantics.specs.Remainders.{Accepting, Action, to_accept, meets}
+use Rattle.pfc_semantics.specs.Configurations.{Activation, Config, asking, activity_of}
 use Rattle.pfc_translation.specs.Sites.{is_mains, is_accept}
 use Rattle.pfc_translation.specs.Images.{image_of}
-use Rattle.pfc_kept_code.specs.Kept.{Among, InRemainder}
 use Rattle.pfc_call_laws.specs.Calls.{HasNoObjects}
 use Rattle.pfc_meeting_laws.specs.Meetings.{display_of}
 use Rattle.pfc_representation.specs.Levels.{Facts, program_in, LivingLevel}
@@ -50,33 +47,24 @@ pub record HasProcesses (t : ProgramTree) : Type 0 where
 
 -- ## Of an accept that comes
 
--- the scopes of the names in view are main's, the block's own, or those of its accepts, but for one of these
-abbrev pub is_apart : Program → Block → ℕ → Env → Bool
-is_apart g b i env =
-    list_all
-    (λ (level : Level). is_mains g.state.blocks level.scope || (level.scope == b.scope || (is_accept b level.scope && not (level.scope == i)))) env.view
+-- the accepts that are open are accepts of the block, and others than this
+abbrev pub AreApart : Block → ℕ → List ℕ → Type 0
+AreApart b i accepts = (j : ℕ) → list_any (λ n. n == j) accepts ≡ true → (is_accept b j ≡ true) × (j ≢ i)
 
--- The accept is one of the block; its parameters are not in view where it stands, and in nothing that is left behind it: an accept is not within itself.
-pub record IsNewAccept (g : Program) (b : Block) (x : Context) (a : Accepting) (k : Remainder) : Type 0 where
-  pub of_block : is_accept b a.scope ≡ true
-  pub outside : Among (is_apart g b a.scope) x.env
-  pub behind : InRemainder (is_apart g b a.scope) k
-
--- an accept as a statement
+-- An accept as a statement: its scope is that of an accept of the block, and it is not open already, since none is within itself.
 abbrev pub Accepts : LivingLevel → Action → Type 0
-Accepts level (meets x o k) = (a : Accepting) × (o.offer ≡ to_accept a) × IsNewAccept level.setting.program level.setting.block x a k
+Accepts level (meets x o k) =
+    (a : Accepting) × (o.offer ≡ to_accept a) × (is_accept level.setting.block a.scope ≡ true)
+    × AreApart level.setting.block a.scope level.setting.accepts
 Accepts level n = ⊥
 
 -- ## Of a run
 
--- As long as a program runs, a process in its first activation has the display with which it began; accepts that a process offers are new; and what a caller
--- that waits passes by reference is a location.
+-- As long as a program runs, a process in its first activation has the display with which it began; and what a caller that waits passes by reference is a
+-- location.
 pub record KeepsAccepts (facts : Facts) (c : Config) : Type 0 where
   pub displays : (q : ℕ) (a : Activation) → 0 < q → (activity_of (program_in facts) c q).activations ≡ a ∷ []
       → (activity_of (program_in facts) c q).display ≡ display_of (program_in facts) a.number (process_block (program_in facts) q)
-  pub offered : (q j : ℕ) (x : Context) (os : List Open) (k : Remainder) (o : Open) (a : Accepting) → 0 < q
-      → (activity_of (program_in facts) c q).hand ≡ offering x os k → slice_get os j ≡ Some o → o.offer ≡ to_accept a
-      → IsNewAccept (program_in facts) (process_block (program_in facts) q) x a k
   pub asked : (q owner entry ticket : ℕ) (values : List Value) → (activity_of (program_in facts) c q).hand ≡ asking values
       → at c.table.rows q ≡ Waits (Call owner entry) ticket [] → (k : ℕ) (t : TypeId)
       → slice_get (laid_parameters (entry_formals (program_in facts) owner entry)) k ≡ Some (Variable t true)

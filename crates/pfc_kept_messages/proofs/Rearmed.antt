@@ -62,6 +62,7 @@ module _ (facts : Facts) (homes : Homes) (entries : Entries) (store : Store) (ta
         laid = is.laid;
         apart = is.apart;
         guarded = is.guarded;
+        accepts = is.accepts;
       }
 
   module _ (count : ℕ) (latest latest' : Communicating) (instead : AreInstead count latest latest') where

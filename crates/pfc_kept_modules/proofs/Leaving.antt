@@ -18,7 +18,7 @@ use Rattle.pfc_semantics.specs.Programs.{Program}
 use Rattle.pfc_semantics.specs.Remainders.{Remainder, Action, finishes}
 use Rattle.pfc_semantics.specs.Rewriting.{going}
 use Rattle.pfc_semantics.specs.Configurations.{Mark, plain, of_monitor, of_resource, Caller, of_nobody, of_remainder, of_value, Activation, Activity}
-use Rattle.pfc_semantics.specs.Configurations.{Config, nobody, activity_of, at_work, done_at, with_monitors}
+use Rattle.pfc_semantics.specs.Configurations.{Config, activity_of, at_work, done_at, with_monitors}
 use Rattle.pfc_semantics.specs.Calls.{left_by}
 use Rattle.pfc_semantics.specs.Steps.{returns_to, ends_for, ends_body}
 use Rattle.pfc_translation.specs.Images.{image_of}
@@ -49,6 +49,7 @@ use Rattle.pfc_kept_object_actions.proofs.Handing.{WaitsFor, next_waits}
 use Rattle.pfc_kept_object_actions.proofs.Popped.{world, rests}
 use Rattle.pfc_kept_calls.proofs.Caller.{either_number}
 use Rattle.pfc_kept_calls.proofs.Ended.{number_back}
+use Rattle.pfc_kept_calls.proofs.Lists.{own_activity}
 use Rattle.pfc_kept_calls.proofs.Returned.{has, own, mark_there}
 use Rattle.pfc_kept_calls.proofs.Returning.{represents_plainly}
 use Rattle.pfc_kept_modules.specs.Endings.{EndsInMonitor, AreOutside}
@@ -159,13 +160,7 @@ module _ (facts : Facts) (m : Machine) (c : Config) (p choice : ℕ) (level : Li
     next_activity = record (at_work (activity_of g c p) (going env k)) { display = top.display; activations = others }
 
     activity_is : activity_of g config p ≡ record next_activity { line = line }
-    activity_is =
-        let once : get_or (set c.activities p next_activity) p (nobody g) ≡ next_activity = get_or-set_same c.activities p next_activity
-        (nobody g) acting.actor.process in
-        let size : length (set c.activities p next_activity) ≡ length c.activities = length-set c.activities p next_activity in
-        get_or-set_same (set c.activities p next_activity) p (record (get_or (set c.activities p next_activity) p (nobody g)) { line = line })
-        (nobody g) (subst (λ i. p < i) (sym size) acting.actor.process)
-        ∙ ap (λ (x : Activity). record x { line = line }) once
+    activity_is = own_activity g c.activities p acting.actor.process next_activity line
 
     -- ## It passes on
 

@@ -10,7 +10,7 @@ use Rattle.pfc_code.specs.declared.images.Block.{Block as CodeBlock}
 use Rattle.pfc_semantics.specs.Layouts.{Layout}
 use Rattle.pfc_semantics.specs.Programs.{Block, Program}
 use Rattle.pfc_semantics.specs.Remainders.{Argument, by_value, by_reference}
-use Rattle.pfc_semantics.specs.Configurations.{Config, passed}
+use Rattle.pfc_semantics.specs.Configurations.{Config, passed, location_for}
 use Rattle.pfc_standing_code.specs.Shapes.{IsOf}
 use Rattle.pfc_standing_code.specs.Settings.{View}
 use Rattle.pfc_standing_code.specs.Words.{IsArgument, AreHeldAt, none_held, one_more}
@@ -18,7 +18,11 @@ use Rattle.pfc_translation.specs.Sites.{Site, forms_of, is_reference}
 use Rattle.pfc_call_laws.specs.Blocks.{Takes, own_variables}
 use Rattle.pfc_call_laws.proofs.Layouts.{laid_count}
 use Rattle.pfc_call_laws.proofs.Lists.{slice_back}
-use Rattle.pfc_kept_modules.specs.Requeued.{IsLentOn}
+
+-- what is passed by reference lies in another activation than this
+abbrev pub IsLentOn : Program → Config → ℕ → ℕ → Argument → Type 0
+IsLentOn g c p a (by_value v) = Unit {0}
+IsLentOn g c p a (by_reference s) = (location_for g c p s).activation ≢ a
 
 -- a value of a type is no reference
 abbrev IsNoReference : Argument → Type 0

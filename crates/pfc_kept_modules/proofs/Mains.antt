@@ -80,7 +80,7 @@ module _ (facts : Facts) (m : Machine) (c : Config) (p : ℕ) (level : LivingLev
 
   -- ## Its cells
 
-  mains_code : IsMainsCode g g.main
+  pub mains_code : IsMainsCode g g.main
   mains_code =
       let lawful = acting.alike.program.lawful in
       record {

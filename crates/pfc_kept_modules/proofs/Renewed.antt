@@ -1,5 +1,5 @@
 -- A requeue: the level of the activation that takes the place of the last, before the scan.
-use Rattle.std.proofs.Common.{◌≡◌, ℕ, zero, suc, ◌+◌, ◌≤◌, max, if◌then◌else◌, ℤ, pos, Bool, true, List, [], ◌∷◌, length, set, slice_get, get_or, All, Option}
+use Rattle.std.proofs.Common.{◌≡◌, ℕ, zero, suc, ◌+◌, ◌≤◌, max, if◌then◌else◌, ℤ, pos, Bool, true, false, List, [], ◌∷◌, length, set, slice_get, get_or, All, Option}
 use Rattle.std.proofs.Common.{Some, None, refl, sym, ap, ◌∙◌, subst, arith, inl}
 use Rattle.pfc_types.specs.declared.heads.Formal.{Formal}
 use Rattle.pfc_types.specs.rules.Expressions.{Env}
@@ -291,6 +291,7 @@ module _ (facts : Facts) (m : Machine) (c : Config) (p : ℕ) (level : LivingLev
         apart = λ j t l laid holds. references_apart facts m c p level acting more b callee number k r scan formals x given below guard first is j t l laid
             (ap (λ (vs : List Value). get_or vs j (ordinal (pos 0))) (sym own_values) ∙ holds);
         guarded = λ own_guard h. is.marked ∙ ap of_resource (sym is.resource);
+        accepts = λ j none. absurd (let both : false ≡ true = none in cc);
       }
 
   -- ## Its room

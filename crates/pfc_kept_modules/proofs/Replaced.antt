@@ -1,5 +1,5 @@
 -- A requeue: an activation takes the place of the last, over the same callers.
-use Rattle.std.proofs.Common.{◌≡◌, ◌≢◌, ℕ, zero, suc, ◌+◌, ◌-◌, ◌^◌, ◌<◌, ◌==◌, ◌||◌, if◌then◌else◌, ℤ, pos, Bool, true, false, List, [], ◌∷◌}
+use Rattle.std.proofs.Common.{◌≡◌, ◌≢◌, ℕ, ◌+◌, ◌-◌, ◌^◌, ◌<◌, ◌==◌, ◌||◌, if◌then◌else◌, ℤ, pos, Bool, true, false, List, [], ◌∷◌}
 use Rattle.std.proofs.Common.{length, drop, set, slice_get, get_or, All, Some, None, refl, sym, ap, ◌∙◌, subst, arith, inl}
 use Rattle.std.proofs.lemmas.List.{get_or-set_same, length-set}
 use Rattle.pfc_types.specs.declared.types.TypeId.{TypeId}
@@ -51,12 +51,12 @@ use Rattle.pfc_representation.specs.Acting.{IsActing}
 use Rattle.pfc_representation.proofs.Kept.{may_keep}
 use Rattle.pfc_kept_own_actions.proofs.Arrived.{stack_there}
 use Rattle.pfc_kept_calls.proofs.Caller.{lender_apart, number_is, entries_here, entries_there, outer, hold, is_free, seen_here, hand, shows}
+use Rattle.pfc_kept_calls.proofs.Lists.{set_twice}
 use Rattle.pfc_kept_calls.proofs.Ended.{not_main, not_below, no_objects, like_ended, own_is, number_back}
 use Rattle.pfc_kept_calls.proofs.Returned.{has, e, rest, home, home_at as old_home_at, base, own}
 use Rattle.pfc_kept_modules.specs.Exported.{IsExported}
-use Rattle.pfc_kept_modules.specs.Requeued.{AreLentOn, IsLentOn}
 use Rattle.pfc_kept_modules.proofs.Mains.{main_view, main_shows, main_sees_with}
-use Rattle.pfc_kept_modules.proofs.Lent.{lent_apart}
+use Rattle.pfc_kept_modules.proofs.Lent.{IsLentOn, lent_apart}
 use Rattle.pfc_kept_modules.proofs.Keeping.{everywhere, not_same, ends_with, rest_behind, keeps_but, but_this, still_kept, was_kept, without_top, like_twice}
 
 module _ (facts : Facts) (m : Machine) (c : Config) (p : ℕ) (level : LivingLevel) (acting : IsActing facts m c p level)
@@ -115,7 +115,7 @@ module _ (facts : Facts) (m : Machine) (c : Config) (p : ℕ) (level : LivingLev
     pub marked : top.mark ≡ of_resource r
     pub holder : holder_in c.resources r ≡ Some p
     pub turn : slice_get (image_of facts.tree).scans r ≡ Some scan
-    pub lends : AreLentOn g c p given a.activations
+    pub lends : All (IsLentOn g c p top.number) given
     pub below_cells : cells_below others ≡ s.base
     pub few : length level.setting.under < 2 ^ 32
 
@@ -189,13 +189,10 @@ module _ (facts : Facts) (m : Machine) (c : Config) (p : ℕ) (level : LivingLev
     is_left = left here acting.homes acting.entries c m.stacks b w at_hand p x holding refl is.known first callee code formals is.can.takes given
         s.operands below is.held
 
-    lends_on : All (IsLentOn g c p top.number) given
-    lends_on = subst (λ (xs : List Activation). AreLentOn g c p given xs) activations_are is.lends
-
     lent_on : (j : ℕ) (t : TypeId) (l : Location) → slice_get callee.layout j ≡ Some (Variable t true) → get_or values j (ordinal (pos 0)) ≡ points l
         → l.activation ≢ old.activation
     lent_on j t l laid holds same =
-        lent_apart g c p top.number level.setting.view _ callee formals code is.can.takes given _ s.operands below j t l is.held lends_on laid
+        lent_apart g c p top.number level.setting.view _ callee formals code is.can.takes given _ s.operands below j t l is.held is.lends laid
         (is.can.own j (Variable t true) laid) holds (same ∙ (has facts m c p level acting more).called.stands.number)
 
     -- ## What is kept: what others keep of the activation that ends, main's first activation, and the new one
@@ -294,11 +291,6 @@ module _ (facts : Facts) (m : Machine) (c : Config) (p : ℕ) (level : LivingLev
 
     abbrev between : Stacks
     between = set m.stacks p (replaced k code s)
-
-    set_twice : {A : Type 0} (xs : List A) (i : ℕ) (y z : A) → set (set xs i y) i z ≡ set xs i z
-    set_twice [] i y z = refl
-    set_twice (v ∷ xs) zero y z = refl
-    set_twice (v ∷ xs) (suc i) y z = ap (λ more. v ∷ more) (set_twice xs i y z)
 
     held_between : HoldStore here homes entries store between
     held_between =

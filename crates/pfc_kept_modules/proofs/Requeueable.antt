@@ -35,7 +35,7 @@ use Rattle.pfc_representation.specs.Callers.{AreCallers}
 use Rattle.pfc_representation.specs.Acting.{IsActing, HasArrived}
 use Rattle.pfc_kept_own_actions.proofs.Arrived.{has_setting}
 use Rattle.pfc_kept_calls.proofs.Callable.{at_hand, mains_at, body_of, counted}
-use Rattle.pfc_kept_modules.specs.Requeueable.{CanRequeue}
+use Rattle.pfc_kept_modules.specs.Requeued.{MayRequeue}
 use Rattle.pfc_kept_modules.proofs.Exports.{procedure_end, same_head, exported_sub}
 
 module _ (facts : Facts) (m : Machine) (c : Config) (p : ℕ) (level : LivingLevel) (action : Action) (acting : IsActing facts m c p level)
@@ -66,7 +66,7 @@ module _ (facts : Facts) (m : Machine) (c : Config) (p : ℕ) (level : LivingLev
   abbrev its : IsRequeuedFrom facts.tree b0 (block_at (program_in facts) scope)
   its = from_here facts.tree (has_setting facts m c p level acting).image.program acting.alike.program
 
-  can_requeue : level.setting.last ≡ end_of (sub_with level.setting.program.state.blocks.subs (block_of level).scope) → CanRequeue level scope
+  can_requeue : level.setting.last ≡ end_of (sub_with level.setting.program.state.blocks.subs (block_of level).scope) → MayRequeue level scope
   can_requeue ends =
       record {
         last = ends ∙ ap (λ (z : Program). end_of (sub_with z.state.blocks.subs (block_of level).scope)) (has_setting facts m c p level acting).image.program
@@ -113,7 +113,7 @@ ends_as facts homes entries store table p room level w latest (a ∷ b ∷ xs) (
     called.stands.of_block.last
 
 pub requeue_can_be : (facts : Facts) (m : Machine) (c : Config) (p : ℕ) (level : LivingLevel) (x : Context) (scope : ℕ) (given : List Argument)
-    → IsActing facts m c p level → HasArrived facts m c p level (calls x (to_requeue scope) given) → CanRequeue level scope
+    → IsActing facts m c p level → HasArrived facts m c p level (calls x (to_requeue scope) given) → MayRequeue level scope
 requeue_can_be facts m c p level x scope given acting arrived =
     let (b, checked, (formals, below, held, (alone, (over, sub, takes, there)))) = arrived.arrived in
     can_requeue facts m c p level (calls x (to_requeue scope) given) acting arrived alone.0 x b scope formals checked.beside sub

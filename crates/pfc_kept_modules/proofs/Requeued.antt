@@ -1,7 +1,7 @@
 -- A requeue: both sides agree behind it, counted.
-use Rattle.std.proofs.Common.{◌≡◌, ◌≢◌, ℕ, zero, suc, ◌+◌, ◌<◌, ◌≤◌, ℤ, true, false, List, [], ◌∷◌, length, set, slice_get, get_or, Option, Some, None, refl, sym}
+use Rattle.std.proofs.Common.{◌≡◌, ◌≢◌, ℕ, ◌+◌, ◌<◌, ◌≤◌, ℤ, true, false, List, ◌∷◌, length, set, slice_get, get_or, Option, Some, None, refl, sym}
 use Rattle.std.proofs.Common.{ap, ◌∙◌, subst, arith, ◌⊎◌, inl, inr}
-use Rattle.std.proofs.lemmas.List.{get_or-set_same, get_or-set_other, length-set}
+use Rattle.std.proofs.lemmas.List.{get_or-set_same, length-set}
 use Rattle.pfc_base.specs.declared.faults.RunFault.TheVariants.{Stack as Full}
 use Rattle.pfc_types.specs.declared.types.TypeId.{TypeId}
 use Rattle.pfc_types.specs.declared.heads.Formal.{Formal}
@@ -41,7 +41,7 @@ use Rattle.pfc_representation.specs.Hands.{shows_nothing}
 use Rattle.pfc_representation.specs.Holding.{Holders, holders_in}
 use Rattle.pfc_representation.specs.Trials.{TrialIs, HasTried}
 use Rattle.pfc_representation.specs.Processes.{IsAtLevel, IsUnderWay, RepresentsProcess}
-use Rattle.pfc_representation.specs.Keeping.{IsSameStack, IsUntouched}
+use Rattle.pfc_representation.specs.Keeping.{IsUntouched}
 use Rattle.pfc_representation.specs.Machines.{AreAlike, Represents}
 use Rattle.pfc_representation.specs.Acting.{IsActing}
 use Rattle.pfc_representation.proofs.Kept.{process_still}
@@ -49,10 +49,10 @@ use Rattle.pfc_representation.proofs.Quiet.{tried_waits}
 use Rattle.pfc_kept_own_actions.proofs.Arrived.{stack_there, descriptor_there}
 use Rattle.pfc_kept_calls.proofs.Caller.{either_number, kinds_still, ticks, entries_there, home_here, home_there, outer}
 use Rattle.pfc_kept_calls.proofs.Faults.{world_then}
+use Rattle.pfc_kept_calls.proofs.Lists.{set_twice, stack_beside, own_activity, other_activity, as_many_activities, own_descriptor, other_descriptor}
+use Rattle.pfc_kept_calls.proofs.Lists.{as_many_descriptors}
 use Rattle.pfc_kept_calls.proofs.Ended.{only_here}
 use Rattle.pfc_kept_calls.proofs.Returned.{has, home as old_home, home_at as old_home_at}
-use Rattle.pfc_kept_modules.proofs.Lined.{own_activity, other_activity, as_many_activities}
-use Rattle.pfc_kept_modules.proofs.Lined.{own_descriptor, other_descriptor, as_many_descriptors}
 use Rattle.pfc_stack_laws.specs.Standing.{HoldStore}
 use Rattle.pfc_kept_modules.proofs.Replaced.{values as values_of}
 use Rattle.pfc_kept_modules.proofs.Replaced.{top, others, old, IsRequeue, n, new_home, is_stack, new_hold, operands_left, like, at_home, lenders_stay, entries_are}
@@ -123,18 +123,6 @@ module _ (facts : Facts) (m : Machine) (c : Config) (p : ℕ) (level : LivingLev
 
   -- ## What the others keep
 
-  stack_beside : (q : ℕ) → q ≢ p → IsSameStack (stack_of m.stacks q) (stack_of new_stacks q)
-  stack_beside q apart =
-      let same : stack_of new_stacks q ≡ stack_of m.stacks q = get_or-set_other m.stacks p q new_stack no_stack apart in
-      record {
-        at = ap (λ (y : Stack). y.at) same;
-        base = ap (λ (y : Stack). y.base) same;
-        operands = ap (λ (y : Stack). y.operands) same;
-        room = ap (λ (y : Stack). y.room) same;
-        spare = ap (λ (y : Stack). y.spare) same;
-        looks_from = ap (λ (y : Stack). y.looks_from) same;
-      }
-
   untouched : (q : ℕ) → q ≢ p → IsUntouched facts q acting.homes new_homes acting.entries new_entries c.store new_store m.stacks new_stacks c.table table'
   untouched q apart = record {
     like = λ keeping these. like facts m c p level acting more b callee number k r scan formals x given below guard first is q (acting.entries q)
@@ -143,7 +131,7 @@ module _ (facts : Facts) (m : Machine) (c : Config) (p : ℕ) (level : LivingLev
         (old_home facts m c p level acting more) (old_home_at facts m c p level acting more) q apart)
         keeping these;
     lenders = λ i lender. lenders_stay facts m c p level acting more b callee number k r scan formals x given below guard first is q i lender;
-    stack = stack_beside q apart;
+    stack = stack_beside m.stacks p new_stack q apart;
     entries_same =
         entries_there acting.entries p (mine' facts m c p level acting more b callee number k r scan formals x given below guard first is) q apart;
     row = refl;
@@ -343,11 +331,6 @@ module _ (facts : Facts) (m : Machine) (c : Config) (p : ℕ) (level : LivingLev
     }
 
     -- ## As both sides have it
-
-    set_twice : {A : Type 0} (xs : List A) (i : ℕ) (y z : A) → set (set xs i y) i z ≡ set xs i z
-    set_twice [] i y z = refl
-    set_twice (v ∷ xs) zero y z = refl
-    set_twice (v ∷ xs) (suc i) y z = ap (λ rest. v ∷ rest) (set_twice xs i y z)
 
     abbrev room : Room
     room = get_or m.rooms k no_room

@@ -1,6 +1,6 @@
 -- A requeue, which the code has arrived at.
-use Rattle.std.proofs.Common.{◌≡◌, ℕ, suc, ◌+◌, ◌≤◌, ℤ, Bool, true, false, if◌then◌else◌, List, [], ◌∷◌, length, slice_get, get_or, All, Option, Some}
-use Rattle.std.proofs.Common.{Ok, Err, refl, sym, ap, ◌∙◌, subst, arith, ◌⊎◌, inl, inr}
+use Rattle.std.proofs.Common.{◌≡◌, ℕ, suc, ◌+◌, ◌^◌, ◌<◌, ◌≤◌, ℤ, Bool, true, false, if◌then◌else◌, List, [], ◌∷◌, length, slice_get, get_or, All, Option, Some}
+use Rattle.std.proofs.Common.{Ok, Err, refl, sym, ap, ◌∙◌, subst, arith, ◌⊎◌, inl, inr, length-append}
 use Rattle.std.specs.Prelude.{nat_le}
 use Rattle.std.proofs.lemmas.List.{append-nil}
 use Rattle.std.proofs.lemmas.Option.{slice_get_within, get_or_from_slice_get}
@@ -14,31 +14,33 @@ use Rattle.pfc_world.specs.Tables.{at}
 use Rattle.pfc_semantics.specs.Layouts.{Layout}
 use Rattle.pfc_semantics.specs.Objects.{module_number}
 use Rattle.pfc_semantics.specs.Programs.{Block, Guard, Program, block_at, block_number, layout_cells}
-use Rattle.pfc_semantics.specs.Remainders.{Context, Argument, calls, to_requeue}
+use Rattle.pfc_semantics.specs.Remainders.{Context, Argument, Action, calls, to_requeue}
 use Rattle.pfc_semantics.specs.Resources.{requeues, requeued_in}
 use Rattle.pfc_semantics.specs.Configurations.{of_resource, Activation, Config, activity_of}
 use Rattle.pfc_semantics.specs.Calls.{cells_below, cells_above, most_cells}
 use Rattle.pfc_translation.specs.Sites.{module_of}
 use Rattle.pfc_translation.specs.Calls.{number_or_none, resource_of}
 use Rattle.pfc_translation.specs.Images.{image_of, site_in}
-use Rattle.pfc_stacks.specs.Stacks.{Stack, stack_of, operands_of}
+use Rattle.pfc_stacks.specs.Refs.{word_of}
+use Rattle.pfc_stacks.specs.Stacks.{Stack, stack_of, operands_of, last_activation}
 use Rattle.pfc_stacks.specs.Activations.{has_place, size_of, params_of}
 use Rattle.pfc_cells.specs.Homes.{Home, layout_at}
 use Rattle.pfc_cells.specs.Memory.{Entry, CellsAre, ProcessIs}
 use Rattle.pfc_machines.specs.declared.machine.Machine.{Machine}
+use Rattle.pfc_machines.specs.Descriptors.{descriptor_of}
 use Rattle.pfc_call_actions.specs.Calls.{unless_full as machine_unless_full}
 use Rattle.pfc_call_actions.specs.Requeues.{in_place, requeues as machine_requeues}
 use Rattle.pfc_call_actions.specs.Returns.{scans_from}
 use Rattle.pfc_machine_acts.specs.Performing.{silent, with_block}
 use Rattle.pfc_standing_code.specs.Settings.{Trial, of_own, AreOver, site_of, IsBeside, same_block, both_mains, IsAt}
-use Rattle.pfc_types.specs.declared.heads.SubSort.{SubSort}
-use Rattle.pfc_standing_code.specs.Typed.{IsOfSub}
 use Rattle.pfc_standing_code.specs.Words.{AreHeld, AreKnown, IsChecked}
-use Rattle.pfc_standing_code.specs.Performs.{own_block}
+use Rattle.pfc_standing_code.specs.Performs.{own_block, own_room, own_view, own_accepts}
 use Rattle.pfc_standing_images.specs.Images.{IsOfImage}
 use Rattle.pfc_standing_images.proofs.Wholes.{block_stands}
 use Rattle.pfc_standing_images.proofs.Guards.{turn_there}
-use Rattle.pfc_representation.specs.Levels.{Facts, program_in, LivingLevel, block_of, IsBlockAt}
+use Rattle.pfc_views.specs.Views.{block_site}
+use Rattle.pfc_representation.specs.Levels.{Facts, program_in, LivingLevel, block_of, room_of, IsBlockAt}
+use Rattle.pfc_representation.specs.Rooms.{guards_room}
 use Rattle.pfc_representation.specs.Holding.{holders_in, HoldsFor}
 use Rattle.pfc_representation.specs.Machines.{goes_on}
 use Rattle.pfc_representation.specs.Acting.{IsActing, HasArrived}
@@ -48,23 +50,27 @@ use Rattle.pfc_kept_own_actions.proofs.Arrived.{has_setting, stack_there, code_t
 use Rattle.pfc_kept_calls.proofs.Tops.{cells_of_top}
 use Rattle.pfc_kept_calls.proofs.Caller.{outer}
 use Rattle.pfc_kept_calls.proofs.Faults.{faulted}
-use Rattle.pfc_kept_calls.proofs.Sizes.{first_values, params_within, arguments_there}
-use Rattle.pfc_kept_calls.proofs.Ended.{first_stands}
+use Rattle.pfc_kept_calls.proofs.Sizes.{first_values, params_within, arguments_there, short_below}
+use Rattle.pfc_kept_calls.proofs.Ended.{first_stands, operands_fit}
 use Rattle.pfc_kept_calls.proofs.Returned.{has, e, home, home_at, base}
 use Rattle.pfc_kept_calls.proofs.Scanning.{ready_holds}
 use Rattle.pfc_kept_modules.specs.Exported.{IsExported}
-use Rattle.pfc_kept_modules.specs.Requeued.{MayRequeue, AreLentOn}
+use Rattle.pfc_kept_modules.specs.Requeued.{IsLasting, MayRequeue, HasFewOperands, Requeues}
+use Rattle.pfc_kept_modules.proofs.Subs.{IsSubOf}
+use Rattle.pfc_kept_modules.proofs.Lent.{IsLentOn}
+use Rattle.pfc_kept_modules.proofs.Lending.{all_lent}
+use Rattle.pfc_kept_modules.proofs.Unmet.{none_open, none_met}
 use Rattle.pfc_kept_modules.proofs.Replaced.{top, others, activations_are, entries_are, IsRequeue}
 use Rattle.pfc_kept_modules.proofs.Requeued.{represents_requeued}
 
 module _ (facts : Facts) (m : Machine) (c : Config) (p choice : ℕ) (level : LivingLevel) (acting : IsActing facts m c p level) (x : Context) (b : Block)
     (scope : ℕ) (formals : List Formal) (given : List Argument) (below : List ℤ) (checked : IsChecked level.setting b x.env)
     (alone : (level.setting.trial ≡ of_own) × (level.arms ≡ [])) (may : MayRequeue level scope) (over : AreOver level.setting below)
-    {asked : ℕ → SubSort → Type 0} (sub : IsOfSub (site_of level.setting b x) scope formals asked)
+    (sub : IsSubOf level.setting.program scope formals)
     (held : AreHeld level.setting.view (site_of level.setting b x) formals given (operands_of m.stacks p) below)
     (there : IsAt level.setting (stack_of m.stacks p).at (REQ (resource_of (site_of level.setting b x)) (block_number level.setting.program scope)) x.line)
-    (lends : AreLentOn (program_in facts) c p given (activity_of (program_in facts) c p).activations)
-    (arrived : HasArrived facts m c p level (calls x (to_requeue scope) given)) where
+    (lasts : All (IsLasting (block_site level.setting.program level.setting.block)) given)
+    (room : HasFewOperands m p) (arrived : HasArrived facts m c p level (calls x (to_requeue scope) given)) where
   abbrev g : Program
   g = program_in facts
 
@@ -94,11 +100,10 @@ module _ (facts : Facts) (m : Machine) (c : Config) (p choice : ℕ) (level : Li
   target : (n : ℕ) × IsExported facts.tree n k callee formals × (module_of blocks block.outer ≡ Some n)
   target = by level.setting.program same sub
     where
-      by : (q : Program) → q ≡ g → IsOfSub (record (site_of level.setting b x) { program = q }) scope formals asked
+      by : (q : Program) → q ≡ g → IsSubOf q scope formals
           → (n : ℕ) × IsExported facts.tree n k callee formals × (module_of blocks block.outer ≡ Some n)
       by q is of_sub =
-          let of : IsOfSub (record (site_of level.setting b x) { program = g }) scope formals asked = subst (λ (z : Program). IsOfSub (record
-          (site_of level.setting b x) { program = z }) scope formals asked) is of_sub in
+          let of : IsSubOf g scope formals = subst (λ (z : Program). IsSubOf z scope formals) is of_sub in
           let found = may.exported facts.tree of.number same acting.alike.program of.among of.own_scope in
           (found.0, subst (λ (fs : List Formal). IsExported facts.tree found.0 k callee fs) (sym of.own_formals) found.1, found.2)
 
@@ -183,9 +188,29 @@ module _ (facts : Facts) (m : Machine) (c : Config) (p choice : ℕ) (level : Li
   held_there = subst (λ (z : Program). AreHeld level.setting.view (record (site_of level.setting b x) { program = z }) formals given
       s.operands below) same held
 
+  lends : All (IsLentOn g c p (top facts m c p level acting more).number) given
+  lends =
+      all_lent facts m c p level acting more alone.0 b checked.beside x known formals given s.operands below held_there
+      (subst (λ (y : Block). All (IsLasting (block_site g y)) given) (sym (alone_there b checked.beside))
+      (subst (λ (z : Program). All (IsLasting (block_site z block)) given) same lasts))
+
   enough : code.params ≤ length s.operands
   enough = arguments_there facts m c p level acting alone.0 b callee k code formals x given below checked.beside known can.takes can.there can.is held_there
       counted
+
+  -- the operands of the callers are among those that are held, for which there is room
+  few : length level.setting.under < 2 ^ 32
+  few =
+      let short : length below ≤ length s.operands =
+      short_below facts m c p level acting alone.0 b callee k code formals x given below checked.beside known can.takes can.there can.is held_there counted in
+      let parts : length below ≡ length over.0 + length level.setting.under = ap (λ (l : List ℤ). length l) over.1 ∙ length-append over.0 level.setting.under in
+      let fits : length s.operands ≤ level.setting.room = arrived.room in
+      let own : room_of level ≡ level.setting.room = ap (λ (t : Trial). own_room t level.setting.room) alone.0 in
+      let all : room_of level + guards_room facts ≤ s.room =
+      operands_fit facts acting.homes acting.entries c.store c.table p s.room level (word_of (last_activation m.stacks p))
+      (descriptor_of m.descriptors p).communications (activity_of g c p).activations (acting.entries p) acting.actor.stands.callers in
+      let small : s.room < 2 ^ 32 = room in
+      omega (arith, short, parts, fits, own, all, small)
 
   outer_image : IsOfImage facts.tree (outer facts m c p level acting)
   outer_image =
@@ -226,11 +251,21 @@ module _ (facts : Facts) (m : Machine) (c : Config) (p choice : ℕ) (level : Li
       let found = turn_there facts.tree (outer facts m c p level acting) k callee guard acting.alike.program.lawful outer_image can.there its_guard in
       (found.0, subst (λ i. slice_get (image_of facts.tree).scans i ≡ Some found.0) its_resource found.1)
 
+  -- nobody meets the process there
+  unmet : level.setting.meetings ≡ []
+  unmet =
+      let seen = acting.actor.stands.seen in
+      none_met facts acting.homes acting.entries c.store c.table p (acting.entries p) (word_of (last_activation m.stacks p)) (activity_of g c p).display
+      level.setting (block_of level) (own_view level.setting.trial level.setting.view) seen.others
+      (own_accepts level.setting.trial level.setting.accepts) level.setting.meetings seen.sees
+      (none_open (block_of level) (own_accepts level.setting.trial level.setting.accepts)
+      (ap (λ (t : Trial). (own_block t block).accepts) alone.0 ∙ may.alone) (has facts m c p level acting more).called.stands.accepts)
+
   requeue : placed ≡ true → IsRequeue facts m c p level acting more b callee number k r turn.0 formals x given below guard
   requeue place = record {
     own_trial = alone.0;
     none = alone.1;
-    unmet = may.unmet;
+    unmet = unmet;
     last = may.last;
     beside = checked.beside;
     known = known;
@@ -245,7 +280,7 @@ module _ (facts : Facts) (m : Machine) (c : Config) (p choice : ℕ) (level : Li
     turn = turn.1;
     lends = lends;
     below_cells = below_cells;
-    few = may.few;
+    few = few;
   }
 
   -- ## Both sides
@@ -305,10 +340,10 @@ module _ (facts : Facts) (m : Machine) (c : Config) (p choice : ℕ) (level : Li
     same = come_to_same;
   }
 
-pub requeued_kept : (facts : Facts) (m : Machine) (c : Config) (p choice : ℕ) (level : LivingLevel) (x : Context) (scope : ℕ) (given : List Argument)
-    → MayRequeue level scope
-    → AreLentOn (program_in facts) c p given (activity_of (program_in facts) c p).activations → IsActing facts m c p level
-    → HasArrived facts m c p level (calls x (to_requeue scope) given) → IsKept facts m c p choice (calls x (to_requeue scope) given)
-requeued_kept facts m c p choice level x scope given may lends acting arrived =
+pub requeued_kept : (facts : Facts) (m : Machine) (c : Config) (p choice : ℕ) (level : LivingLevel) (n : Action) → Requeues level n → HasFewOperands m p
+    → IsActing facts m c p level → HasArrived facts m c p level n → IsKept facts m c p choice n
+requeued_kept facts m c p choice level (calls x (to_requeue scope) given) may room acting arrived =
     let (b, checked, (formals, below, held, (alone, (over, sub, takes, there)))) = arrived.arrived in
-    requeue_kept facts m c p choice level acting x b scope formals given below checked alone may over sub held there lends arrived
+    requeue_kept facts m c p choice level acting x b scope formals given below checked alone may.0 over
+    (record { number = sub.number; among = sub.among; own_scope = sub.own_scope; own_formals = sub.own_formals }) held there may.1 room arrived
+requeued_kept facts m c p choice level n may room acting arrived = absurd may

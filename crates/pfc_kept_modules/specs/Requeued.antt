@@ -1,20 +1,21 @@
 -- Requeues.
-use Rattle.std.specs.Prelude.{ℕ, ◌≢◌, ◌<◌, ◌≡◌, ◌^◌, List, [], ◌∷◌, length, All, Some}
+use Rattle.std.specs.Prelude.{ℕ, ◌<◌, ◌≡◌, ◌^◌, true, List, ◌∷◌, length, All, Some, ◌⊎◌}
 use Rattle.std.specs.List.{slice_get}
 use Rattle.pfc_code.specs.declared.instructions.Instr.TheVariants.{RET}
 use Rattle.pfc_tree.specs.trees.Parts.{ProgramTree}
 use Rattle.pfc_types.specs.Blocks.{sub_at}
-use Rattle.pfc_semantics.specs.Programs.{Block, Guard, Program, block_at, block_number, program_of, layout_cells}
-use Rattle.pfc_semantics.specs.Remainders.{Argument, by_value, by_reference}
-use Rattle.pfc_semantics.specs.Configurations.{Activation, Config, location_for}
-use Rattle.pfc_translation.specs.Sites.{module_of}
+use Rattle.pfc_semantics.specs.Programs.{Block, Guard, block_at, block_number, program_of, layout_cells}
+use Rattle.pfc_semantics.specs.Remainders.{Argument, by_value, by_reference, Action, Call, calls, to_requeue}
+use Rattle.pfc_translation.specs.Sites.{Site, module_of, is_mains, blocks_of, links_to, refers}
+use Rattle.pfc_stacks.specs.Stacks.{stack_of}
+use Rattle.pfc_machines.specs.declared.machine.Machine.{Machine}
+use Rattle.pfc_views.specs.Views.{block_site}
 use Rattle.pfc_representation.specs.Levels.{LivingLevel, IsProgram}
 use Rattle.pfc_kept_modules.specs.Exported.{IsExported}
 
 -- A process at this level is in the body of a guarded procedure, which is none of main's bodies, and the procedure with this scope is another of the same
 -- resource, with a guard. The cells of each block are those of its variables. All this is told of every lawful program in which no rule is broken: the rules
--- let `requeue` stand only in the body of a guarded procedure, in which no accept stands, and name only one of the same resource. The operands of the callers are fewer than 2 ^ 32: there
--- are no more than an image of 200,000 instructions holds in as many activations as fit on a stack.
+-- let `requeue` stand only in the body of a guarded procedure, in which no accept stands, and name only one of the same resource.
 pub record MayRequeue (level : LivingLevel) (scope : ℕ) : Type 0 where
   pub last : level.setting.last ≡ RET
   pub own : Guard
@@ -28,16 +29,24 @@ pub record MayRequeue (level : LivingLevel) (scope : ℕ) : Type 0 where
   pub guard : (t : ProgramTree) → level.setting.program ≡ program_of t → IsProgram t → (guard : Guard) × ((block_at (program_of t) scope).guard ≡ Some guard)
   pub counted : (t : ProgramTree) (k : ℕ) (b : Block) → level.setting.program ≡ program_of t → IsProgram t
       → slice_get ((program_of t).main ∷ (program_of t).blocks) k ≡ Some b → b.cells ≡ layout_cells (program_of t).state.forms b.layout
-  pub unmet : level.setting.meetings ≡ []
-  pub few : length level.setting.under < 2 ^ 32
+  pub alone : level.setting.block.accepts ≡ 0
 
--- What is passed by reference lies in another activation than this.
-abbrev pub IsLentOn : Program → Config → ℕ → ℕ → Argument → Type 0
-IsLentOn g c p a (by_value v) = Unit {0}
-IsLentOn g c p a (by_reference s) = (location_for g c p s).activation ≢ a
+-- How many operands a process may hold has 32 bits. So it is on every machine: its calls end for want of memory where they would need room for more.
+abbrev pub HasFewOperands : Machine → ℕ → Type 0
+HasFewOperands m p = (stack_of m.stacks p).room < 2 ^ 32
 
--- A requeue lends no variable of the activation that it ends: the rules let none of its own variables and value parameters be passed by reference, and a
--- reference parameter stands for a location in another one.
-abbrev pub AreLentOn : Program → Config → ℕ → List Argument → List Activation → Type 0
-AreLentOn g c p given [] = Unit {0}
-AreLentOn g c p given (a ∷ below) = All (IsLentOn g c p a.number) given
+-- An argument that is passed by reference is a variable of main or of a module, or a reference parameter of the block itself. So it is in a requeue of every
+-- lawful program in which no rule is broken: no other variable of the activation that it ends may be passed so, and around a procedure of a resource are
+-- main's variables only.
+abbrev pub IsLasting : Site → Argument → Type 0
+IsLasting s (by_value v) = Unit {0}
+IsLasting s (by_reference v) = (is_mains (blocks_of s) v.scope ≡ true) ⊎ ((links_to s v.scope ≡ 0) × (refers s v ≡ true))
+
+abbrev pub IsRequeuedBy : LivingLevel → List Argument → Call → Type 0
+IsRequeuedBy level given (to_requeue scope) = MayRequeue level scope × All (IsLasting (block_site level.setting.program level.setting.block)) given
+IsRequeuedBy level given call = ⊥
+
+-- a requeue
+abbrev pub Requeues : LivingLevel → Action → Type 0
+Requeues level (calls x call given) = IsRequeuedBy level given call
+Requeues level n = ⊥

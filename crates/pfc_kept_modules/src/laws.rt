@@ -8,9 +8,8 @@ ghost use Rattle.pfc_representation.specs.Trials.{mark_of};
 ghost use Rattle.pfc_representation.specs.Acting.{IsActing, HasArrived};
 ghost use Rattle.pfc_representation.specs.Actions.{IsKept, AreKept};
 ghost use Rattle.pfc_kept_modules.specs.Groups.{MayEnter, EntersModule, IsModuleEntry};
-ghost use Rattle.pfc_kept_modules.specs.Endings.{EndsInMonitor, AreOutside};
-ghost use Rattle.pfc_kept_modules.specs.Requeueable.{CanRequeue};
-ghost use Rattle.pfc_kept_modules.specs.Requeued.{MayRequeue, AreLentOn};
+ghost use Rattle.pfc_kept_modules.specs.Endings.{EndsInMonitor, AreOutside, IsInOnce};
+ghost use Rattle.pfc_kept_modules.specs.Requeued.{HasFewOperands, MayRequeue, Requeues};
 
 /// A call of a procedure of a monitor or of a resource from outside begins the same activation on both sides, and the process has the module or waits for it
 /// on both, also where it holds it itself; or both find the stack full.
@@ -27,12 +26,17 @@ pub fn monitors_are_left()
         → IsKept facts m c p choice action }
 {}
 
+/// The end of a procedure, wherever it was called from.
+pub fn procedures_are_left()
+    ensures { (facts : Facts) (m : Machine) (c : Config) (p choice : ℕ) (level : LivingLevel) (action : Action) → EndsInMonitor level action
+        → IsInOnce (mark_of (activity_of (program_in facts) c p).activations) (activity_of (program_in facts) c p).activations
+        → IsActing facts m c p level → HasArrived facts m c p level action → IsKept facts m c p choice action }
+{}
+
 /// A requeue begins the same activation on both sides in place of the last, with the same caller, and the same scan comes first; or both find the stack full.
 pub fn requeues_are_kept()
-    ensures { (facts : Facts) (m : Machine) (c : Config) (p choice : ℕ) (level : LivingLevel) (x : Context) (scope : ℕ) (given : List Argument)
-        → MayRequeue level scope → AreLentOn (program_in facts) c p given (activity_of (program_in facts) c p).activations
-        → IsActing facts m c p level → HasArrived facts m c p level (calls x (to_requeue scope) given)
-        → IsKept facts m c p choice (calls x (to_requeue scope) given) }
+    ensures { (facts : Facts) (m : Machine) (c : Config) (p choice : ℕ) (level : LivingLevel) (n : Action) → Requeues level n → HasFewOperands m p
+        → IsActing facts m c p level → HasArrived facts m c p level n → IsKept facts m c p choice n }
 {}
 
 /// Wherever the code of a checked program calls a procedure from outside its module, that can be called: the module exports it, and no part of its variables
@@ -51,5 +55,5 @@ pub fn module_entries_are_kept()
 /// resource, which can be called.
 pub fn checked_programs_can_requeue()
     ensures { (facts : Facts) (m : Machine) (c : Config) (p : ℕ) (level : LivingLevel) (x : Context) (scope : ℕ) (given : List Argument)
-        → IsActing facts m c p level → HasArrived facts m c p level (calls x (to_requeue scope) given) → CanRequeue level scope }
+        → IsActing facts m c p level → HasArrived facts m c p level (calls x (to_requeue scope) given) → MayRequeue level scope }
 {}

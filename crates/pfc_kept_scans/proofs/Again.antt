@@ -1,10 +1,12 @@
 -- A level of which the own parts are those of another: in another turn or trial of a scan, or behind it.
-use Rattle.std.proofs.Common.{◌≡◌, ℕ, ◌+◌, ◌≤◌, ◌++◌, ℤ, List, [], ◌∷◌, length, map, slice_get, sym, ap, ◌∙◌, subst}
+use Rattle.std.proofs.Common.{◌≡◌, ℕ, ◌+◌, ◌≤◌, ◌==◌, ◌++◌, ℤ, List, [], ◌∷◌, length, map, slice_get, sym, ap, ◌∙◌, subst}
+use Rattle.std.specs.List.{list_any}
 use Rattle.pfc_world.specs.Tables.{Table}
 use Rattle.pfc_semantics.specs.Displays.{Display}
 use Rattle.pfc_semantics.specs.Programs.{Block, Program}
 use Rattle.pfc_semantics.specs.Store.{Store}
 use Rattle.pfc_semantics.specs.Configurations.{of_resource, Activation}
+use Rattle.pfc_translation.specs.Sites.{is_accept}
 use Rattle.pfc_translation.specs.Calls.{resource_of}
 use Rattle.pfc_translation.specs.Images.{image_of, instructions, site_in}
 use Rattle.pfc_cells.specs.Homes.{Homes}
@@ -110,6 +112,8 @@ module _ (facts : Facts) (homes : Homes) (entries : Entries) (store : Store) (ta
         guarded = λ guard has.
             is.guarded guard (ap (λ (b : Block). b.guard) (sym block_same) ∙ has)
             ∙ ap (λ (b : Block). of_resource (resource_of (site_in (program_in facts) b))) (sym block_same);
+        accepts = λ i open. ap (λ (b : Block). is_accept b i) block_same
+            ∙ is.accepts i (ap (λ (s : Setting). list_any (λ j. j == i) s.accepts) (sym same) ∙ open);
       }
 
   room_again : (room k : ℕ) (earlier : Communicating) → HasRoom facts room level k earlier → HasRoom facts room level' k earlier

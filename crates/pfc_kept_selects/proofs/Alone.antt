@@ -1,14 +1,14 @@
 -- The process decides alone: it goes on at a branch, and what it had made is gone; or it waits, and offers all of it.
-use Rattle.std.proofs.Common.{◌≡◌, ◌≢◌, ℕ, ◌+◌, ◌^◌, ◌<◌, ◌≤◌, ℤ, true, false, List, [], ◌∷◌, length, set, get_or, Option, Some, None, refl, sym, ap, ◌∙◌, subst}
+use Rattle.std.proofs.Common.{◌≡◌, ◌≢◌, ℕ, ◌<◌, ℤ, List, [], length, set, get_or, None, refl, sym, ap, ◌∙◌, subst}
 use Rattle.std.proofs.Common.{arith, ◌⊎◌, inl, inr}
 use Rattle.std.proofs.lemmas.List.{get_or-set_same, get_or-set_other, length-set}
-use Rattle.pfc_state.specs.Stands.{Stand, Is_ready, Waits, is_unfinished}
+use Rattle.pfc_state.specs.Stands.{Stand, Is_ready, Waits}
 use Rattle.pfc_state.specs.declared.waits.Why.TheVariants.{Barred}
 use Rattle.pfc_world.specs.Tables.{Table, at}
 use Rattle.pfc_world.specs.Transitions.{ticked}
 use Rattle.pfc_semantics.specs.Programs.{Program}
 use Rattle.pfc_semantics.specs.Rewriting.{Doing}
-use Rattle.pfc_semantics.specs.Configurations.{Hand, Activation, Activity, Config, nobody, activity_of}
+use Rattle.pfc_semantics.specs.Configurations.{Hand, Activity, Config, nobody, activity_of}
 use Rattle.pfc_stacks.specs.Refs.{word_of}
 use Rattle.pfc_stacks.specs.Stacks.{Stack, Stacks, no_stack, stack_of, operands_of, last_activation}
 use Rattle.pfc_stacks.specs.Effects.{moved}
@@ -22,9 +22,9 @@ use Rattle.pfc_standing_code.specs.Effects.{Arm}
 use Rattle.pfc_stack_laws.proofs.Moves.{hold_moved}
 use Rattle.pfc_representation.specs.Levels.{Facts, program_in, LivingLevel, is_met_by}
 use Rattle.pfc_representation.specs.Rooms.{own_address}
-use Rattle.pfc_representation.specs.Callers.{IsWithin, AreCallers}
+use Rattle.pfc_representation.specs.Callers.{IsWithin}
 use Rattle.pfc_representation.specs.Hands.{HandIs}
-use Rattle.pfc_representation.specs.Holding.{Holders, holders_in, Holds, waits_for_monitor, waits_for_resource}
+use Rattle.pfc_representation.specs.Holding.{Holders, holders_in, waits_for_monitor, waits_for_resource}
 use Rattle.pfc_representation.specs.Keeping.{IsSameStack}
 use Rattle.pfc_representation.specs.Trials.{TrialIs, HasTried}
 use Rattle.pfc_representation.specs.Processes.{IsAtLevel, IsUnderWay, RepresentsProcess}

@@ -1,5 +1,5 @@
 -- A process that is to decide: what is open there, as both sides have it.
-use Rattle.std.proofs.Common.{◌≡◌, ℕ, suc, ◌+◌, ◌^◌, ◌<◌, ◌≤◌, ℤ, Bool, true, false, if◌then◌else◌, List, [], ◌∷◌, ◌++◌, length, take, Option, Some, None, refl}
+use Rattle.std.proofs.Common.{◌≡◌, ℕ, suc, ◌≤◌, ℤ, List, [], ◌∷◌, length, take, Option, Some, None, refl}
 use Rattle.std.proofs.Common.{sym, ap, ◌∙◌, subst, arith}
 use Rattle.pfc_state.specs.declared.waits.Arm.{Arm as WaitArm}
 use Rattle.pfc_types.specs.declared.types.TypeId.{TypeId}
@@ -15,7 +15,6 @@ use Rattle.pfc_stacks.specs.Refs.{word_of, number_of}
 use Rattle.pfc_stacks.specs.Stacks.{stack_of, operands_of, last_activation}
 use Rattle.pfc_machines.specs.declared.machine.Machine.{Machine}
 use Rattle.pfc_machines.specs.declared.descriptors.Descriptor.{Descriptor}
-use Rattle.pfc_machines.specs.declared.alternatives.Alternative.{Alternative}
 use Rattle.pfc_machines.specs.declared.alternatives.KeptAlternative.{KeptAlternative}
 use Rattle.pfc_machines.specs.Descriptors.{descriptor_of}
 use Rattle.pfc_machines.specs.Offers.{arms_of, kept_under, made_by}
@@ -28,7 +27,7 @@ use Rattle.pfc_standing_code.specs.Performs.{AreOpen, Performs}
 use Rattle.pfc_representation.specs.Levels.{Facts, program_in, LivingLevel}
 use Rattle.pfc_representation.specs.Acting.{IsActing}
 use Rattle.pfc_kept_own_actions.proofs.Arrived.{has_setting}
-use Rattle.pfc_kept_messages.proofs.Made.{AreKeptArms, kept_arms, arms_in, arms_kept}
+use Rattle.pfc_kept_messages.proofs.Made.{AreKeptArms, kept_arms, arms_kept}
 use Rattle.pfc_kept_messages.proofs.Sight.{channel_number}
 use Rattle.pfc_kept_selects.proofs.Made.{HasMade, has_made}
 use Rattle.pfc_kept_selects.proofs.Same.{arms_same}

@@ -1,9 +1,9 @@
 -- The instruction of a select may be performed, and is its decision.
-use Rattle.std.proofs.Common.{◌≡◌, ℕ, ◌+◌, ◌^◌, ◌<◌, ◌≤◌, ℤ, Bool, true, false, if◌then◌else◌, List, [], ◌∷◌, length, refl, sym, ap, ◌∙◌, subst, arith}
+use Rattle.std.proofs.Common.{◌≡◌, ℕ, ◌^◌, ◌<◌, ◌≤◌, ℤ, Bool, true, false, if◌then◌else◌, List, [], length, refl, sym, ap, ◌∙◌, subst, arith}
 use Rattle.pfc_code.specs.declared.instructions.Instr.TheVariants.{SEL}
 use Rattle.pfc_world.specs.Tables.{Table}
 use Rattle.pfc_semantics.specs.Programs.{Block, Program}
-use Rattle.pfc_semantics.specs.Remainders.{Context, Open, Selecting, Remainder, decides}
+use Rattle.pfc_semantics.specs.Remainders.{Context, Selecting, Remainder, decides}
 use Rattle.pfc_semantics.specs.Configurations.{Config}
 use Rattle.pfc_semantics.specs.Selects as text
 use Rattle.pfc_semantics.specs.Selects.{decides_at}
@@ -14,7 +14,7 @@ use Rattle.pfc_select_actions.specs.Conditions.{CanOffer, CanTakeAt}
 use Rattle.pfc_select_actions.specs.Selects as machine
 use Rattle.pfc_select_actions.specs.Selects.{open_count, open_arms, matched_places}
 use Rattle.pfc_machine_acts.specs.Performing.{silent}
-use Rattle.pfc_standing_code.specs.Settings.{of_own, IsAt}
+use Rattle.pfc_standing_code.specs.Settings.{of_own}
 use Rattle.pfc_standing_code.specs.Words.{IsChecked}
 use Rattle.pfc_standing_code.specs.Following.{ArrivedBy}
 use Rattle.pfc_following_source.specs.Behind.{BehindElse, BehindAll}
@@ -26,7 +26,7 @@ use Rattle.pfc_kept_own_actions.proofs.Alone.{can_go}
 use Rattle.pfc_kept_own_actions.proofs.Arrived.{has_setting, stack_there, code_there, code_line, acts_now}
 use Rattle.pfc_kept_selects.specs.Groups.{LeadAhead}
 use Rattle.pfc_kept_selects.proofs.Both as both
-use Rattle.pfc_kept_selects.proofs.Unmatched.{Decides, decides_so}
+use Rattle.pfc_kept_selects.proofs.Otherwise.{Decides, decides_so}
 
 module _ (facts : Facts) (m : Machine) (c : Config) (p choice : ℕ) (level : LivingLevel) (x : Context) (sel : Selecting) (k : Remainder)
     (acting : IsActing facts m c p level) (arrived : HasArrived facts m c p level (decides x sel k)) (own : level.setting.trial ≡ of_own) (b : Block)
@@ -58,7 +58,7 @@ module _ (facts : Facts) (m : Machine) (c : Config) (p choice : ℕ) (level : Li
       by_mark false = ap (λ (places : List ℕ). length places) matched_same
 
   -- it may offer all that it has made
-  module _ (few : level.setting.arms < 2 ^ 32) where
+  module _ (few : (image_of facts.tree).arms < 2 ^ 32) where
     fits : length (open_arms m p) ≤ (image_of facts.tree).arms
     fits = both.few_open facts m c p level acting own b x checked sel.offered k by.1.1 arrived.arms
 
@@ -69,20 +69,17 @@ module _ (facts : Facts) (m : Machine) (c : Config) (p choice : ℕ) (level : Li
           acts = now.acts;
           fresh = now.fresh;
           moment = now.moment;
-          arms = less (length (open_arms m p)) level.setting.arms fits_there few;
+          arms = less (length (open_arms m p)) (image_of facts.tree).arms fits few;
           room = subst (λ (w : Table). length (open_arms m p) ≤ w.room) (sym acting.world) fits;
         }
       where
         less : (i j : ℕ) → i ≤ j → j < 2 ^ 32 → i < 2 ^ 32
         less i j h l = omega (arith, h, l)
 
-        fits_there : length (open_arms m p) ≤ level.setting.arms
-        fits_there = subst (λ n. length (open_arms m p) ≤ n) (sym (has_setting facts m c p level acting).arms) fits
-
     count_few : open_count m p < 2 ^ 32
     count_few =
         subst (λ n. n < 2 ^ 32) (sym (both.count_is facts m c p level acting own b x checked sel.offered k))
-        (less (length level.arms) level.setting.arms arrived.arms few)
+        (less (length level.arms) level.setting.arms arrived.arms (subst (λ n. n < 2 ^ 32) (sym (has_setting facts m c p level acting).arms) few))
       where
         less : (i j : ℕ) → i ≤ j → j < 2 ^ 32 → i < 2 ^ 32
         less i j h l = omega (arith, h, l)
@@ -129,7 +126,7 @@ module _ (facts : Facts) (m : Machine) (c : Config) (p choice : ℕ) (level : Li
 
 -- where no alternative is matched
 pub unmatched_are_kept : (facts : Facts) (m : Machine) (c : Config) (p choice : ℕ) (level : LivingLevel) (x : Context) (sel : Selecting) (k : Remainder)
-    → level.setting.arms < 2 ^ 32 → LeadAhead (stack_of m.stacks p).at level.arms → text.matched_places (program_in facts) c p sel ≡ []
+    → (image_of facts.tree).arms < 2 ^ 32 → LeadAhead (stack_of m.stacks p).at level.arms → text.matched_places (program_in facts) c p sel ≡ []
     → IsActing facts m c p level → HasArrived facts m c p level (decides x sel k) → IsKept facts m c p choice (decides x sel k)
 unmatched_are_kept facts m c p choice level x sel k few ahead none acting arrived =
     let (b, checked, by) = arrived.arrived in unmatched_kept facts m c p choice level x sel k acting arrived by.0 b checked by few ahead none

@@ -4,5 +4,14 @@ pub mod Gone
 pub mod Alone
 pub mod Both
 pub mod Unmatched
+pub mod Otherwise
 pub mod Deciding
 pub mod Meets
+pub mod Taken
+pub mod Passes
+pub mod Chosen
+pub mod Targets
+pub mod Sent
+pub mod Received
+pub mod Messages
+pub mod Divided

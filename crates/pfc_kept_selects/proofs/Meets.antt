@@ -16,7 +16,7 @@ use Rattle.pfc_machines.specs.declared.descriptors.Descriptor.{Descriptor}
 use Rattle.pfc_machines.specs.Communications.{Communicating}
 use Rattle.pfc_machines.specs.Descriptors.{descriptor_by, descriptor_of, withdrawn}
 use Rattle.pfc_standing_code.specs.Settings.{of_own}
-use Rattle.pfc_representation.specs.Levels.{Facts, program_in, LivingLevel, is_met_by}
+use Rattle.pfc_representation.specs.Levels.{Facts, program_in, LivingLevel}
 use Rattle.pfc_representation.specs.Holding.{Holders, holders_in}
 use Rattle.pfc_representation.specs.Keeping.{IsSameStack}
 use Rattle.pfc_representation.specs.Processes.{RepresentsProcess}
@@ -29,7 +29,6 @@ use Rattle.pfc_kept_messages.proofs.Partner.{is_open_stand, open_awake, open_no_
 use Rattle.pfc_kept_messages.proofs.Meeting.{apart, is_process, row_is, met_stays, q_there, base}
 use Rattle.pfc_kept_messages.proofs.Whole.{IsNewStand, IsBehind}
 use Rattle.pfc_kept_selects.proofs.Alone.{DecidesAlone, process_here}
-
 
 either : (q p : ℕ) → (q ≡ p) ⊎ (q ≢ p)
 either q p = grind arith

@@ -1,8 +1,8 @@
 -- The alternatives that were made for a select are those of the source text, one by one: as the table has them, those that communicate, its `timeout` and its
 -- `terminate`.
-use Rattle.std.proofs.Common.{◌≡◌, ℕ, zero, suc, ◌+◌, ◌<◌, cond, ℤ, pos, negsuc, Bool, true, false, ◌||◌, if◌then◌else◌, List, [], ◌∷◌, ◌++◌, length, slice_get}
-use Rattle.std.proofs.Common.{Option, Some, None, refl, sym, ap, ◌∙◌, subst, arith, ◌⊎◌, inl, inr}
-use Rattle.std.specs.Prelude.{is_some, unsigned_abs, int_lt}
+use Rattle.std.proofs.Common.{◌≡◌, ℕ, zero, suc, cond, ℤ, pos, Bool, true, false, ◌||◌, if◌then◌else◌, List, [], ◌∷◌, ◌++◌, length, slice_get}
+use Rattle.std.proofs.Common.{Option, Some, None, refl, sym, ap, ◌∙◌, subst, ◌⊎◌, inl, inr}
+use Rattle.std.specs.Prelude.{is_some}
 use Rattle.pfc_code.specs.declared.instructions.Instr.{Instr}
 use Rattle.pfc_code.specs.declared.instructions.Instr.TheVariants.{ARMS, ARMR, ARMA, ARMT, ARMX}
 use Rattle.pfc_state.specs.declared.waits.Arm.{Arm as WaitArm}
@@ -20,7 +20,6 @@ use Rattle.pfc_machines.specs.declared.alternatives.Offer.{Offer as MachineOffer
 use Rattle.pfc_machines.specs.declared.alternatives.Offer.TheVariants.{Timeout as MachineTimeout}
 use Rattle.pfc_machines.specs.declared.alternatives.Sought.TheVariants.{Delay, End}
 use Rattle.pfc_machines.specs.Offers.{arm_of, listed_arm, communicates, communications, is_sought, first_sought}
-use Rattle.pfc_select_actions.specs.Selects.{seconds_of}
 use Rattle.pfc_standing_code.specs.Effects.{Arm}
 use Rattle.pfc_standing_code.specs.Settings.{Setting, site_of}
 use Rattle.pfc_standing_code.specs.Performs.{IsOpen, AreOpen, Performs}
@@ -29,7 +28,7 @@ use Rattle.pfc_standing_code.specs.Words.{IsObject}
 use Rattle.pfc_following_source.specs.Behind.{branch_of, BehindOpen, BehindAll}
 use Rattle.pfc_representation.specs.Levels.{Facts}
 use Rattle.pfc_representation.specs.Rooms.{LeadsWithin, LeadWithin}
-use Rattle.pfc_representation.specs.Alternatives.{IsReceiving, IsMadeBy, IsMade}
+use Rattle.pfc_representation.specs.Alternatives.{IsReceiving, IsMadeBy}
 use Rattle.pfc_kept_messages.proofs.Made.{IsKeptArm, AreKeptArms, arms_in}
 use Rattle.pfc_kept_messages.proofs.Found.{arm_same}
 use Rattle.pfc_kept_selects.specs.Groups.{LeadsAhead, LeadAhead}
@@ -229,8 +228,10 @@ module _ (c : Config) (p : ℕ) (program : Program) (g : Setting) (b : Block) (x
       → (timeout_at o o.offer ≡ None) × (is_sought Delay k.alternative.offer ≡ false) → TimesOut os arms ks
       → TimesOut (o ∷ os) (arm ∷ arms) (k ∷ ks)
   later_timeout o os arm arms k ks none (inl both) =
-      inl (ap (λ (y : Option Timeout). or_timeout y (open_timeout os)) none.0 ∙ both.0,
-      ap (λ (y : Bool). cond y (Some k) (first_sought Delay ks)) none.1 ∙ both.1)
+      inl (
+        ap (λ (y : Option Timeout). or_timeout y (open_timeout os)) none.0 ∙ both.0,
+        ap (λ (y : Bool). cond y (Some k) (first_sought Delay ks)) none.1 ∙ both.1,
+      )
   later_timeout o os arm arms k ks none (inr at) =
       inr (record {
         o = at.o;

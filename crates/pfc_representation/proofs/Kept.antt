@@ -135,6 +135,7 @@ module _ (facts : Facts) (q : ℕ) (homes homes' : Homes) (entries entries' : En
         apart = λ k t l laid holds. h.apart k t l laid (sym (alike.references a.number k h.home t (same_number a.number) h.at (ap
             (λ (x : Layout). slice_get x k) h.laid ∙ laid)) ∙ holds);
         guarded = h.guarded;
+        accepts = h.accepts;
       }
 
   pub first_still : (room : ℕ) (level : LivingLevel) (w : ℤ) (latest : Communicating) (a : Activation) (e : Entry) → IsAmong e.activation top

@@ -1,6 +1,6 @@
 -- The callers of a process: what waits for the ends of its activations.
-use Rattle.std.specs.Prelude.{ℕ, zero, suc, ◌+◌, ◌≡◌, ◌≢◌, ℤ, pos, true, List, [], ◌∷◌, ◌++◌, length, get_or, Some}
-use Rattle.std.specs.List.{slice_get}
+use Rattle.std.specs.Prelude.{ℕ, zero, suc, ◌+◌, ◌==◌, ◌≡◌, ◌≢◌, ℤ, pos, true, List, [], ◌∷◌, ◌++◌, length, get_or, Some}
+use Rattle.std.specs.List.{slice_get, list_any}
 use Rattle.pfc_code.specs.declared.images.Block.{Block as CodeBlock}
 use Rattle.pfc_code.specs.declared.instructions.Instr.{Instr}
 use Rattle.pfc_code.specs.declared.instructions.Instr.TheVariants.{RET, RETF, END}
@@ -16,6 +16,7 @@ use Rattle.pfc_semantics.specs.Rewriting.{going, holding}
 use Rattle.pfc_semantics.specs.Configurations.{Mark, plain, of_monitor, of_resource, Caller, of_nobody, of_remainder, of_value, Activation}
 use Rattle.pfc_semantics.specs.Resources.{scan_of}
 use Rattle.pfc_translation.specs.Calls.{resource_of}
+use Rattle.pfc_translation.specs.Sites.{is_accept}
 use Rattle.pfc_translation.specs.Images.{image_of, site_in}
 use Rattle.pfc_stacks.specs.declared.marks.Mark.{Mark as StackMark}
 use Rattle.pfc_stacks.specs.declared.marks.Mark.TheVariants as marked
@@ -25,7 +26,7 @@ use Rattle.pfc_cells.specs.Homes.{Home, Homes, layout_at}
 use Rattle.pfc_cells.specs.Memory.{Entry, Entries}
 use Rattle.pfc_machines.specs.Communications.{Communicating}
 use Rattle.pfc_standing_code.specs.Settings.{of_own, of_turn}
-use Rattle.pfc_standing_code.specs.Performs.{own_again}
+use Rattle.pfc_standing_code.specs.Performs.{own_accepts, own_again}
 use Rattle.pfc_standing_images.specs.Images.{IsOfBlock}
 use Rattle.pfc_views.specs.Views.{own_place}
 use Rattle.pfc_representation.specs.Levels.{Facts, program_in, LivingLevel, block_of, in_turn, IsBlockAt, HasSetting, DoesOn, IsSeenBy}
@@ -78,7 +79,7 @@ IsLinkedBy plain link = Unit {0}
 IsLinkedBy mark link = link ≡ main_link
 
 -- What is kept of an activation, on the machine in its own cells, whose first has the word w, and on the source's side as this. What it takes by
--- reference lies in others. A guarded procedure was called from outside its resource.
+-- reference lies in others. A guarded procedure was called from outside its resource. The accepts that are open there are its block's.
 pub record StandsFor (facts : Facts) (homes : Homes) (store : Store) (p : ℕ) (a : Activation) (e : Entry) (w : ℤ) (own : Linkage)
     (level : LivingLevel) : Type 0 where
   pub number : e.activation ≡ a.number
@@ -103,6 +104,7 @@ pub record StandsFor (facts : Facts) (homes : Homes) (store : Store) (p : ℕ) (
       → get_or (values_in store a.number) k (ordinal (pos 0)) ≡ points l → l.activation ≢ a.number
   pub guarded : (guard : Guard) → (block_of level).guard ≡ Some guard
       → a.mark ≡ of_resource (resource_of (site_in (program_in facts) (block_of level)))
+  pub accepts : (i : ℕ) → list_any (λ j. j == i) (own_accepts level.setting.trial level.setting.accepts) ≡ true → is_accept (block_of level) i ≡ true
 
 -- ## All of them, the innermost first
 

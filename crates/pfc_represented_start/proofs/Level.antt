@@ -185,6 +185,7 @@ module _ (t : ProgramTree) (lawful : IsLawful (forget_program t)) (whole : broke
         laid = ap (λ (b : Block). b.layout) (found t lawful whole mains few small);
         apart = λ k u l there holds. absurd (no_reference k u l there);
         guarded = λ guard e. absurd (no_guard guard e);
+        accepts = λ i none. absurd (let both : false ≡ true = none in cc);
       }
 
   is_first : IsFirst facts start_homes held 0 (stack_of (start_of t) 0).room level (word_of (last_activation (start_of t) 0)) made (main_activation g)

@@ -1,0 +1,25 @@
+-- What holds of each element of a list.
+use Rattle.std.proofs.Common.{ℕ, zero, suc, List, [], ◌∷◌, ◌++◌, get_or, set, map}
+use Rattle.std.specs.List.{AllByRecursion}
+
+module _ {X : Type 0} (P : X → Type 0) where
+  pub all_append : (xs ys : List X) → AllByRecursion P xs → AllByRecursion P ys → AllByRecursion P (xs ++ ys)
+  all_append [] ys first second = second
+  all_append (x ∷ xs) ys first second = (first.0, all_append xs ys first.1 second)
+
+  pub all_push : (xs : List X) (x : X) → AllByRecursion P xs → P x → AllByRecursion P (xs ++ x ∷ [])
+  all_push xs x all one = all_append xs (x ∷ []) all (one, tt)
+
+  pub all_set : (xs : List X) (i : ℕ) (x : X) → AllByRecursion P xs → P x → AllByRecursion P (set xs i x)
+  all_set [] i x all one = tt
+  all_set (y ∷ xs) zero x all one = (one, all.1)
+  all_set (y ∷ xs) (suc i) x all one = (all.0, all_set xs i x all.1 one)
+
+  pub all_get : (xs : List X) (i : ℕ) (x : X) → AllByRecursion P xs → P x → P (get_or xs i x)
+  all_get [] i x all one = one
+  all_get (y ∷ xs) zero x all one = all.0
+  all_get (y ∷ xs) (suc i) x all one = all_get xs i x all.1 one
+
+  pub all_map : {Y : Type 0} (f : Y → X) → ((y : Y) → P (f y)) → (ys : List Y) → AllByRecursion P (map f ys)
+  all_map f each [] = tt
+  all_map f each (y ∷ ys) = (each y, all_map f each ys)

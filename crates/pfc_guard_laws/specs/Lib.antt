@@ -1,0 +1,4 @@
+pub mod Written
+pub mod Remainders
+pub mod Configurations
+pub mod Runs

@@ -1,0 +1,189 @@
+-- What is left of a text, in an activation with this mark: what is called is as the rules ask, each guard is of the resource in which its procedure stands, and of
+-- each scan something is so. Names are in view from here or from there, so the names in view are told.
+use Rattle.std.specs.Prelude.{◌+◌, ◌≡◌, List, Option, Some, None}
+use Rattle.std.specs.List.{AllByRecursion}
+use Rattle.pfc_types.specs.rules.Expressions.{Env}
+use Rattle.pfc_types.specs.rules.Statements.{within_accept, scopes_in, comm_scopes}
+use Rattle.pfc_semantics.specs.Programs.{Program}
+use Rattle.pfc_semantics.specs.Configurations.{Mark}
+use Rattle.pfc_semantics.specs.Remainders.{Count, Offer, Open, Alternative, Otherwise, Selecting, Bar, Way, Scan, Remainder, AwaitsValue, AwaitsLocation, Call, Action, to_send, to_receive, to_accept, to_wait, to_end, leave, own, ends, perform, in_names, turn, until, behind_pass, next_pass, write_on, read_on, at_coend, part_from, write_again, go_through, try_guard, scan_on, try_other, begin_sum, add_to, begin_product, multiply_by, compare_with, compare_to, invert, apply, index_into, pass_value, store_at, choose, choose_arm, while_true, until_true, count_from, count_to, show, show_wide, pad, set_count, delay_with, sleep_for, send_on, open_if, offer_value, offer_wait, pass_own, pass_other, read_for, assign_to, input_to, pass_variable, ask_empty, activate_with, enter_with, initial_to, wait_at, signal_at, delay_at, resume_at, send_to, receive_from, receive_into, offer_to, offer_from, offer_into, to_procedure, to_function, to_module, to_requeue, to_process, to_entry, reads, writes, turns, calls, finishes, prints, inputs, skips, asks_eof, asks_eoln, asks_clock, asks_empty, draws, joins, initials, waits, signals, delays, resumes, sleeps, meets, decides, parts, scans, bars, passes, faults}
+use Rattle.pfc_semantics.specs.Rewriting.{Doing, going, holding}
+use Rattle.pfc_run_rules.specs.Rules.{IsOfItsBlock}
+use Rattle.pfc_guard_laws.specs.Written.{IsUnguarded, IsEntered, MayRequeue, SuitsExpr, SuitsSimple, SuitSummands, SuitMultipliers, SuitSelectors, SuitExprs, SuitActuals, SuitsPerhaps, SuitsTarget, SuitsStmt, SuitStmts, SuitArms, SuitsComm}
+
+-- ## Guards and scans
+
+abbrev pub SuitsBar : Program → Bar → Type 0
+SuitsBar g b = IsOfItsBlock g b × SuitsExpr g b.context.env b.test
+
+abbrev pub SuitsWay : Program → Way → Type 0
+SuitsWay g leave = Unit {0}
+SuitsWay g (own b) = SuitsBar g b
+
+abbrev pub SuitsScan : Program → (Scan → Type 0) → Scan → Type 0
+SuitsScan g scanned s = scanned s × SuitsWay g s.way
+
+-- ## Pieces
+
+module _ (g : Program) (mark : Mark) where
+  abbrev pub SuitsOffer : Env → Offer → Type 0
+  SuitsOffer env (to_send channel v) = Unit {0}
+  SuitsOffer env (to_receive channel target) = Unit {0}
+  SuitsOffer env (to_accept a) = SuitsStmt g mark (within_accept env a.scope) (a.scope + 1) a.stmt
+  SuitsOffer env (to_wait n) = Unit {0}
+  SuitsOffer env to_end = Unit {0}
+
+  abbrev pub SuitsOpen : Env → Open → Type 0
+  SuitsOpen env o = SuitsOffer env o.offer × SuitStmts g mark env o.next o.stmts
+
+  abbrev pub SuitOpens : Env → List Open → Type 0
+  SuitOpens env os = AllByRecursion (SuitsOpen env) os
+
+  abbrev pub SuitsAlternative : Env → Alternative → Type 0
+  SuitsAlternative env a = SuitsPerhaps g env a.guard × SuitsComm g mark env a.next a.comm × SuitStmts g mark env (a.next + comm_scopes a.comm) a.stmts
+
+  abbrev pub SuitAlternatives : Env → List Alternative → Type 0
+  SuitAlternatives env alts = AllByRecursion (SuitsAlternative env) alts
+
+  abbrev pub SuitsOtherwise : Env → Option Otherwise → Type 0
+  SuitsOtherwise env None = Unit {0}
+  SuitsOtherwise env (Some other) = SuitStmts g mark env other.next other.stmts
+
+  abbrev pub SuitsSelecting : Env → Selecting → Type 0
+  SuitsSelecting env s = SuitOpens env s.offered × SuitsOtherwise env s.otherwise
+
+  abbrev pub SuitsCount : Env → Count → Type 0
+  SuitsCount env f = SuitsStmt g mark env f.next f.pass
+
+-- ## Remainders
+
+module _ (g : Program) (mark : Mark) (scanned : Scan → Type 0) where
+  -- Behind a guard and a scan whatever is in view: what is left there begins with names of its own.
+  abbrev mutual
+    pub SuitsRemainder : Env → Remainder → Type 0
+    SuitsRemainder env (ends line) = Unit {0}
+    SuitsRemainder env (perform n ss k) = SuitStmts g mark env n ss × SuitsRemainder env k
+    SuitsRemainder env (in_names inner k) = SuitsRemainder inner k
+    SuitsRemainder env (turn n loop k) = SuitsStmt g mark env n loop × SuitsRemainder env k
+    SuitsRemainder env (until n ss e p k) = SuitStmts g mark env n ss × SuitsExpr g env e × SuitsRemainder env k
+    SuitsRemainder env (behind_pass f k) = SuitsCount g mark env f × SuitsRemainder env k
+    SuitsRemainder env (next_pass f k) = SuitsCount g mark env f × SuitsRemainder env k
+    SuitsRemainder env (write_on line args newline k) = SuitActuals g env args × SuitsRemainder env k
+    SuitsRemainder env (read_on line args skip k) = SuitActuals g env args × SuitsRemainder env k
+    SuitsRemainder env (at_coend line k) = SuitsRemainder env k
+    SuitsRemainder env (part_from caller line k) = SuitsRemainder env k
+    SuitsRemainder env (write_again r k) = SuitsRemainder env k
+    SuitsRemainder env (go_through line a rest s k) =
+        SuitsAlternative g mark env a × SuitAlternatives g mark env rest × SuitsSelecting g mark env s × SuitsRemainder env k
+    SuitsRemainder env (try_guard b k) = SuitsBar g b × ((e : Env) → SuitsRemainder e k)
+    SuitsRemainder env (scan_on s k) = SuitsScan g scanned s × ((e : Env) → SuitsRemainder e k)
+    SuitsRemainder env (try_other w s k) = SuitsBar g w.bar × SuitsScan g scanned s × ((e : Env) → SuitsRemainder e k)
+
+    pub SuitsAwaiting : Env → AwaitsValue → Type 0
+    SuitsAwaiting env (begin_sum sign rest u) = SuitSummands g env rest × SuitsAwaiting env u
+    SuitsAwaiting env (add_to n op rest u) = SuitSummands g env rest × SuitsAwaiting env u
+    SuitsAwaiting env (begin_product rest u) = SuitMultipliers g env rest × SuitsAwaiting env u
+    SuitsAwaiting env (multiply_by n op rest u) = SuitMultipliers g env rest × SuitsAwaiting env u
+    SuitsAwaiting env (compare_with r t u) = SuitsSimple g env t × SuitsAwaiting env u
+    SuitsAwaiting env (compare_to n r u) = SuitsAwaiting env u
+    SuitsAwaiting env (invert u) = SuitsAwaiting env u
+    SuitsAwaiting env (apply f t u) = SuitsAwaiting env u
+    SuitsAwaiting env (index_into s es ss goal) = SuitExprs g env es × SuitSelectors g env ss × SuitsGoal env goal
+    SuitsAwaiting env (pass_value formals rest given call) = SuitActuals g env rest × SuitsCalling env call
+    SuitsAwaiting env (store_at s k) = SuitsRemainder env k
+    SuitsAwaiting env (choose n s t k) = SuitsStmt g mark env n s × SuitsStmt g mark env (n + scopes_in s) t × SuitsRemainder env k
+    SuitsAwaiting env (choose_arm n arms k) = SuitArms g mark env n arms × SuitsRemainder env k
+    SuitsAwaiting env (while_true n e s p k) = SuitsExpr g env e × SuitsStmt g mark env n s × SuitsRemainder env k
+    SuitsAwaiting env (until_true n ss e p k) = SuitStmts g mark env n ss × SuitsExpr g env e × SuitsRemainder env k
+    SuitsAwaiting env (count_from n at down b s k) = SuitsExpr g env b × SuitsStmt g mark env n s × SuitsRemainder env k
+    SuitsAwaiting env (count_to n at a down s k) = SuitsStmt g mark env n s × SuitsRemainder env k
+    SuitsAwaiting env (show t k) = SuitsRemainder env k
+    SuitsAwaiting env (show_wide t w k) = SuitsExpr g env w × SuitsRemainder env k
+    SuitsAwaiting env (pad bytes k) = SuitsRemainder env k
+    SuitsAwaiting env (set_count s k) = SuitsRemainder env k
+    SuitsAwaiting env (delay_with s k) = SuitsRemainder env k
+    SuitsAwaiting env (sleep_for k) = SuitsRemainder env k
+    SuitsAwaiting env (send_on channel k) = SuitsRemainder env k
+    SuitsAwaiting env (open_if a rest s k) =
+        SuitsAlternative g mark env a × SuitAlternatives g mark env rest × SuitsSelecting g mark env s × SuitsRemainder env k
+    SuitsAwaiting env (offer_value channel a rest s k) =
+        SuitsAlternative g mark env a × SuitAlternatives g mark env rest × SuitsSelecting g mark env s × SuitsRemainder env k
+    SuitsAwaiting env (offer_wait a rest s k) =
+        SuitsAlternative g mark env a × SuitAlternatives g mark env rest × SuitsSelecting g mark env s × SuitsRemainder env k
+    SuitsAwaiting env (pass_own b k) = (env ≡ b.context.env) × SuitsBar g b × ((e : Env) → SuitsRemainder e k)
+    SuitsAwaiting env (pass_other w s k) = SuitsBar g w.bar × SuitsScan g scanned s × ((e : Env) → SuitsRemainder e k)
+
+    pub SuitsGoal : Env → AwaitsLocation → Type 0
+    SuitsGoal env (read_for u) = SuitsAwaiting env u
+    SuitsGoal env (assign_to e k) = SuitsExpr g env e × SuitsRemainder env k
+    SuitsGoal env (input_to t k) = SuitsRemainder env k
+    SuitsGoal env (pass_variable formals rest given call) = SuitActuals g env rest × SuitsCalling env call
+    SuitsGoal env (ask_empty u) = SuitsAwaiting env u
+    SuitsGoal env (activate_with formals args k) = SuitActuals g env args × SuitsRemainder env k
+    SuitsGoal env (enter_with entry formals args k) = SuitActuals g env args × SuitsRemainder env k
+    SuitsGoal env (initial_to e k) = SuitsExpr g env e × SuitsRemainder env k
+    SuitsGoal env (wait_at k) = SuitsRemainder env k
+    SuitsGoal env (signal_at k) = SuitsRemainder env k
+    SuitsGoal env (delay_at rank k) = SuitsPerhaps g env rank × SuitsRemainder env k
+    SuitsGoal env (resume_at k) = SuitsRemainder env k
+    SuitsGoal env (send_to e k) = SuitsPerhaps g env e × SuitsRemainder env k
+    SuitsGoal env (receive_from d k) = SuitsTarget g env d × SuitsRemainder env k
+    SuitsGoal env (receive_into channel k) = SuitsRemainder env k
+    SuitsGoal env (offer_to e a rest s k) =
+        SuitsPerhaps g env e × SuitsAlternative g mark env a × SuitAlternatives g mark env rest × SuitsSelecting g mark env s × SuitsRemainder env k
+    SuitsGoal env (offer_from d a rest s k) =
+        SuitsTarget g env d × SuitsAlternative g mark env a × SuitAlternatives g mark env rest × SuitsSelecting g mark env s × SuitsRemainder env k
+    SuitsGoal env (offer_into channel a rest s k) =
+        SuitsAlternative g mark env a × SuitAlternatives g mark env rest × SuitsSelecting g mark env s × SuitsRemainder env k
+
+    pub SuitsCalling : Env → Call → Type 0
+    SuitsCalling env (to_procedure scope k) = IsUnguarded g scope × SuitsRemainder env k
+    SuitsCalling env (to_function scope u) = IsUnguarded g scope × SuitsAwaiting env u
+    SuitsCalling env (to_module n scope k) = IsEntered g n scope × SuitsRemainder env k
+    SuitsCalling env (to_requeue scope) = MayRequeue g mark scope
+    SuitsCalling env (to_process s k) = SuitsRemainder env k
+    SuitsCalling env (to_entry s entry k) = SuitsRemainder env k
+
+  -- ## Actions
+
+  abbrev pub SuitsAction : Action → Type 0
+  SuitsAction (reads x s u) = SuitsAwaiting x.env u
+  SuitsAction (writes x s v k) = SuitsRemainder x.env k
+  SuitsAction (turns x k) = SuitsRemainder x.env k
+  SuitsAction (calls x call given) = SuitsCalling x.env call
+  SuitsAction (finishes line) = Unit {0}
+  SuitsAction (prints x bytes k) = SuitsRemainder x.env k
+  SuitsAction (inputs x t s k) = SuitsRemainder x.env k
+  SuitsAction (skips x k) = SuitsRemainder x.env k
+  SuitsAction (asks_eof x u) = SuitsAwaiting x.env u
+  SuitsAction (asks_eoln x u) = SuitsAwaiting x.env u
+  SuitsAction (asks_clock x u) = SuitsAwaiting x.env u
+  SuitsAction (asks_empty x s u) = SuitsAwaiting x.env u
+  SuitsAction (draws x n u) = SuitsAwaiting x.env u
+  SuitsAction (joins x k) = SuitsRemainder x.env k
+  SuitsAction (initials x s n k) = SuitsRemainder x.env k
+  SuitsAction (waits x s k) = SuitsRemainder x.env k
+  SuitsAction (signals x s k) = SuitsRemainder x.env k
+  SuitsAction (delays x s n k) = SuitsRemainder x.env k
+  SuitsAction (resumes x s k) = SuitsRemainder x.env k
+  SuitsAction (sleeps x n k) = SuitsRemainder x.env k
+  SuitsAction (meets x o k) = SuitsOpen g mark x.env o × SuitsRemainder x.env k
+  SuitsAction (decides x s k) = SuitsSelecting g mark x.env s × SuitsRemainder x.env k
+  SuitsAction (parts x caller k) = SuitsRemainder x.env k
+  SuitsAction (scans x s k) = (x.line ≡ s.line) × SuitsScan g scanned s × ((e : Env) → SuitsRemainder e k)
+  SuitsAction (bars x b k) = (x.env ≡ b.context.env) × SuitsBar g b × ((e : Env) → SuitsRemainder e k)
+  SuitsAction (passes x w s k) = SuitsBar g w.bar × SuitsScan g scanned s × ((e : Env) → SuitsRemainder e k)
+  SuitsAction (faults x f) = Unit {0}
+
+  -- what a process is at
+  abbrev pub SuitsDoing : Doing → Type 0
+  SuitsDoing (going env k) = SuitsRemainder env k
+  SuitsDoing (holding x v u) = SuitsAwaiting x.env u
+
+-- ## Guards of an action
+
+-- what the rules of runs say of the guards of an action, but for who has left a resource
+abbrev pub GuardsByRules : Program → Action → Type 0
+GuardsByRules g (scans x s k) = x.line ≡ s.line
+GuardsByRules g (bars x b k) = (x.env ≡ b.context.env) × IsOfItsBlock g b
+GuardsByRules g n = Unit {0}

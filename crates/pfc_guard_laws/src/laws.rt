@@ -1,0 +1,19 @@
+//! The laws. The functions do nothing: their contracts are the laws.
+ghost use Rattle.std.specs.Prelude.{ℕ, List};
+ghost use Rattle.pfc_semantics.specs.Programs.{Program};
+ghost use Rattle.pfc_semantics.specs.Configurations.{Config, start};
+ghost use Rattle.pfc_semantics.specs.Steps.{next_of};
+ghost use Rattle.pfc_semantics.specs.Time.{settled_config};
+ghost use Rattle.pfc_run_rules.specs.Rules.{AreBarredAtTheirOwn};
+ghost use Rattle.pfc_guard_laws.specs.Remainders.{GuardsByRules};
+ghost use Rattle.pfc_guard_laws.specs.Configurations.{SuitsProgram};
+ghost use Rattle.pfc_guard_laws.specs.Runs.{RunsTo};
+
+/// Where a program calls what the rules ask, each guard at which a process is barred, and the guard at which one is about to be, is of the resource in which
+/// its procedure stands, wherever a run comes.
+pub fn guards_are_of_their_resources()
+    ensures barred { (g : Program) (input : List ℕ) (seed : ℕ) (c : Config) → SuitsProgram g → RunsTo g (start g input seed) c
+        → AreBarredAtTheirOwn g (settled_config c) }
+    ensures next { (g : Program) (input : List ℕ) (seed : ℕ) (c : Config) (p : ℕ) → SuitsProgram g → RunsTo g (start g input seed) c
+        → GuardsByRules g (next_of g (settled_config c) p) }
+{}

@@ -9,7 +9,7 @@ ghost use Rattle.pfc_representation.specs.Acting.{IsActing, HasArrived};
 ghost use Rattle.pfc_representation.specs.Actions.{IsKept, AreKept};
 ghost use Rattle.pfc_kept_modules.specs.Groups.{MayEnter, EntersModule, IsModuleEntry};
 ghost use Rattle.pfc_kept_modules.specs.Endings.{EndsInMonitor, AreOutside, IsInOnce};
-ghost use Rattle.pfc_kept_modules.specs.Requeued.{HasFewOperands, MayRequeue, Requeues};
+ghost use Rattle.pfc_kept_modules.specs.Requeued.{HasFewOperands, MayRequeue, Requeues, RequeuesLasting};
 
 /// A call of a procedure of a monitor or of a resource from outside begins the same activation on both sides, and the process has the module or waits for it
 /// on both, also where it holds it itself; or both find the stack full.
@@ -53,7 +53,13 @@ pub fn module_entries_are_kept()
 
 /// Wherever the code of a checked program requeues, it stands in the body of a guarded procedure, in which no accept stands, and names another of the same
 /// resource, which can be called.
-pub fn checked_programs_can_requeue()
+pub fn checked_programs_may_requeue()
     ensures { (facts : Facts) (m : Machine) (c : Config) (p : ℕ) (level : LivingLevel) (x : Context) (scope : ℕ) (given : List Argument)
         → IsActing facts m c p level → HasArrived facts m c p level (calls x (to_requeue scope) given) → MayRequeue level scope }
+{}
+
+/// So a requeue is kept where what it passes by reference lasts.
+pub fn lasting_requeues_are_kept()
+    ensures { (facts : Facts) (m : Machine) (c : Config) (p choice : ℕ) (level : LivingLevel) (n : Action) → RequeuesLasting level n → HasFewOperands m p
+        → IsActing facts m c p level → HasArrived facts m c p level n → IsKept facts m c p choice n }
 {}

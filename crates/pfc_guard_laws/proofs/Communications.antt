@@ -269,10 +269,11 @@ module _ (g : Program) (scanned : List Activation → Scan → Type 0) where
 
         otherwise_suits :
             (other : Option Otherwise) → SuitsOtherwise g (mark_in (owns p)) x.env other → SuitsEffect g scanned (goes_otherwise g c p x s k other)
-        otherwise_suits (Some other) stmts =
-            (owns,
-             on_it_goes g scanned owns c p x (behind other.next other.stmts k) suits
-             (behind_suits g (mark_in (owns p)) (scanned (owns p)) x.env other.next other.stmts k stmts left))
+        otherwise_suits (Some other) stmts = (
+          owns,
+          on_it_goes g scanned owns c p x (behind other.next other.stmts k) suits
+              (behind_suits g (mark_in (owns p)) (scanned (owns p)) x.env other.next other.stmts k stmts left),
+        )
         otherwise_suits None stmts = out_suits (open_timeout s.offered) (open_timeout_suits g (mark_in (owns p)) x.env s.offered all.0)
 
         pub decides_suit : (choice : ℕ) (places : List ℕ) → SuitsEffect g scanned (decides_by g c p x s k choice places)

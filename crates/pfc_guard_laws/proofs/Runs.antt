@@ -49,10 +49,11 @@ module _ (g : Program) (scanned : List Activation → Scan → Type 0) where
   -- ## Steps
 
   done_suits : (c : Config) (p line : ℕ) → SuitsEffect g scanned (Ok c) → SuitsEffect g scanned (Ok (done_at g c p line))
-  done_suits c p line so =
-      (so.0,
-       with_activity_suits g scanned so.0 (record c { table = ticked c.table }) p _ so.1
-       (record { stands = (so.1 p).stands; doing = (so.1 p).doing; activations = (so.1 p).activations; hand = (so.1 p).hand }))
+  done_suits c p line so = (
+    so.0,
+    with_activity_suits g scanned so.0 (record c { table = ticked c.table }) p _ so.1
+        (record { stands = (so.1 p).stands; doing = (so.1 p).doing; activations = (so.1 p).activations; hand = (so.1 p).hand }),
+  )
 
   pub after_suits :
       (c : Config) (p line : ℕ) (e : Effect) → SuitsEffect g scanned (Ok c) → SuitsEffect g scanned e → SuitsEffect g scanned (Ok (after g c p line e))
@@ -100,7 +101,8 @@ module _ (g : Program) (program : SuitsProgram g) where
       let doing = (activity_of g c p).doing in
       let suits = next_suits g (mark_in (so.0 p)) (anything (so.0 p)) (λ s ticket is. tt) doing (so.1 p).doing in
       after_suits g anything c p (line_of (next_of g c p)) (effect g c p choice (next_of g c p)) so
-      (effect_suits g program anything (λ own r bar. tt) c so.0 so.1 p ready (λ a below own env k r is caller stands marked. tt) choice (next_of g c p) suits)
+      (effect_suits g program anything (λ own r bar. tt) c so.0 so.1 p ready (next_of g c p) (λ line e a below own env k r is caller stands marked. tt)
+      choice (next_of g c p) refl suits)
 
   pub all_come_suited : (first c : Config) → SuitsEffect g anything (Ok first) → RunsTo g first c → SuitsEffect g anything (Ok c)
   all_come_suited first _ so at_first = so

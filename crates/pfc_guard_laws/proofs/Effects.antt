@@ -89,7 +89,7 @@ module _ (g : Program) (program : SuitsProgram g) (scanned : List Activation →
   requeue_left scope plain may own = absurd may
 
   module _ (c : Config) (owns : ℕ → List Activation) (suits : SuitsConfig g scanned owns c) (p : ℕ) (ready : is_ready (at c.table.rows p) ≡ true)
-      (returned_so : IsReturned g scanned c p) where
+      (act : Action) (returned_so : (line : ℕ) → act ≡ finishes line → IsReturned g scanned c p) where
     -- what is left of the process, and what awaited there
     abbrev Left : Env → Remainder → Type 0
     Left env k = SuitsRemainder g (mark_in (owns p)) (scanned (owns p)) env k
@@ -232,7 +232,7 @@ module _ (g : Program) (program : SuitsProgram g) (scanned : List Activation →
         )
 
     module _ (a : Activation) (below : List Activation) (innermost : (activity_of g c p).activations ≡ a ∷ below)
-        (others : SuitActivations g scanned below) (own : List Activation) (stands : StandsOn own below) where
+        (others : SuitActivations g scanned below) (own : List Activation) (stands : StandsOn own below) (returned : IsReturned g scanned c p) where
       returns_suit :
           (env : Env) (k : Remainder) (mark : Mark) → a.caller ≡ of_remainder env k → a.mark ≡ mark
           → SuitsRemainder g (mark_in own) (scanned own) env k → SuitsEffect g scanned (Ok (returns_to g c p a below env k mark))
@@ -240,7 +240,7 @@ module _ (g : Program) (program : SuitsProgram g) (scanned : List Activation →
       returns_suit env k (of_monitor m) is marked left = left_suits g scanned owns c p a below own (going env k) suits stands others left
       returns_suit env k (of_resource r) is marked left =
           left_suits g scanned owns c p a below own (going env (scan_on (scan_of g r leave) (in_names env k))) suits stands others
-          ((returned_so a below own env k r innermost is stands marked, tt), λ (i : Env). left)
+          ((returned a below own env k r innermost is stands marked, tt), λ (i : Env). left)
 
       ends_suit : (caller : Caller) → a.caller ≡ caller → SuitsCaller g scanned own caller → SuitsEffect g scanned (Ok (ends_for g c p a below caller))
       ends_suit of_nobody is awaited = ended_suits
@@ -248,10 +248,10 @@ module _ (g : Program) (program : SuitsProgram g) (scanned : List Activation →
       ends_suit (of_value x u) is awaited = left_suits g scanned owns c p a below own (holding x (result_in g c a) u) suits stands others awaited
 
     body_ends :
-        (activations : List Activation) → (activity_of g c p).activations ≡ activations → SuitActivations g scanned activations
+        IsReturned g scanned c p → (activations : List Activation) → (activity_of g c p).activations ≡ activations → SuitActivations g scanned activations
         → SuitsEffect g scanned (ends_body g c p activations)
-    body_ends [] is all = ended_suits
-    body_ends (a ∷ below) is all = ends_suit a below is all.1 all.0.0 all.0.1 a.caller refl all.0.2
+    body_ends returned [] is all = ended_suits
+    body_ends returned (a ∷ below) is all = ends_suit a below is all.1 all.0.0 all.0.1 returned a.caller refl all.0.2
 
     -- ## Input, draws and time
 
@@ -337,33 +337,33 @@ module _ (g : Program) (program : SuitsProgram g) (scanned : List Activation →
 
     -- ## Every action
 
-    pub effect_suits : (choice : ℕ) (n : Action) → SuitsAction g (mark_in (owns p)) (scanned (owns p)) n → SuitsEffect g scanned (effect g c p choice n)
-    effect_suits choice (reads x s u) n = (owns, it_holds g scanned owns c p x (value_for g c p s) u suits n)
-    effect_suits choice (writes x s v k) n = (owns, on_it_goes g scanned owns (written_for g c p s v) p x k suits n)
-    effect_suits choice (turns x k) n = on x k n
-    effect_suits choice (calls x call args) n = calls_suit x call args n
-    effect_suits choice (finishes line) n = body_ends (activity_of g c p).activations refl (suits p).activations
-    effect_suits choice (prints x bytes k) n = (owns, on_it_goes g scanned owns (record c { output = c.output ++ bytes }) p x k suits n)
-    effect_suits choice (inputs x t s k) n = read_suits x s k (item (simple_of t) c.input.bytes) n
-    effect_suits choice (skips x k) n = skipped_suits x k (skipped c.input.whole_lines c.input.bytes) n
-    effect_suits choice (asks_eof x u) n = (owns, it_holds g scanned owns c p x (ordinal (truth (at_end c.input.bytes))) u suits n)
-    effect_suits choice (asks_eoln x u) n = (owns, it_holds g scanned owns c p x (ordinal (truth (at_line_end c.input.bytes))) u suits n)
-    effect_suits choice (asks_clock x u) n = clocked_suits x u (fitting (pos (c.table.moment / 1000))) n
-    effect_suits choice (asks_empty x s u) n =
-        (owns, it_holds g scanned owns c p x (ordinal (truth (is_empty_condition c.table.rows (number_for g c p s)))) u suits n)
-    effect_suits choice (draws x m u) n = drawn_suits x u (after_draw c.words m) (drawn c.words m) n
-    effect_suits choice (joins x k) n = joined_suits x k n
-    effect_suits choice (initials x s m k) n = initials_suit x k n s m
-    effect_suits choice (waits x s k) n = on x k n
-    effect_suits choice (signals x s k) n = signals_suit x k n s
-    effect_suits choice (delays x s rank k) n = on x k n
-    effect_suits choice (resumes x s k) n = on x k n
-    effect_suits choice (sleeps x m k) n = sleeps_suit x k n m
-    effect_suits choice (meets x o k) n = meets_suit g scanned owns c suits p x o k n.0 n.1
-    effect_suits choice (decides x s k) n = decides_suit g scanned owns c suits p x s n.0 k n.1 choice (matched_places g c p s)
-    effect_suits choice (parts x caller k) n = on x k n
-    effect_suits choice (scans x s k) n =
-        let q = next_barred c.table.rows s.resource s.after in scanned_suits x k n.2 s (tried_at g c q) n.1 (tried_at_suits q)
-    effect_suits choice (bars x b k) n = barred_suits x k n.2 b n.1
-    effect_suits choice (passes x w s k) n = passed_suits x k n.2 w s.resource s.way n.1.1
-    effect_suits choice (faults x f) n = tt
+    pub effect_suits : (choice : ℕ) (m : Action) → act ≡ m → SuitsAction g (mark_in (owns p)) (scanned (owns p)) m → SuitsEffect g scanned (effect g c p choice m)
+    effect_suits choice (reads x s u) e suited = (owns, it_holds g scanned owns c p x (value_for g c p s) u suits suited)
+    effect_suits choice (writes x s v k) e suited = (owns, on_it_goes g scanned owns (written_for g c p s v) p x k suits suited)
+    effect_suits choice (turns x k) e suited = on x k suited
+    effect_suits choice (calls x call args) e suited = calls_suit x call args suited
+    effect_suits choice (finishes line) e suited = body_ends (returned_so line e) (activity_of g c p).activations refl (suits p).activations
+    effect_suits choice (prints x bytes k) e suited = (owns, on_it_goes g scanned owns (record c { output = c.output ++ bytes }) p x k suits suited)
+    effect_suits choice (inputs x t s k) e suited = read_suits x s k (item (simple_of t) c.input.bytes) suited
+    effect_suits choice (skips x k) e suited = skipped_suits x k (skipped c.input.whole_lines c.input.bytes) suited
+    effect_suits choice (asks_eof x u) e suited = (owns, it_holds g scanned owns c p x (ordinal (truth (at_end c.input.bytes))) u suits suited)
+    effect_suits choice (asks_eoln x u) e suited = (owns, it_holds g scanned owns c p x (ordinal (truth (at_line_end c.input.bytes))) u suits suited)
+    effect_suits choice (asks_clock x u) e suited = clocked_suits x u (fitting (pos (c.table.moment / 1000))) suited
+    effect_suits choice (asks_empty x s u) e suited =
+        (owns, it_holds g scanned owns c p x (ordinal (truth (is_empty_condition c.table.rows (number_for g c p s)))) u suits suited)
+    effect_suits choice (draws x m u) e suited = drawn_suits x u (after_draw c.words m) (drawn c.words m) suited
+    effect_suits choice (joins x k) e suited = joined_suits x k suited
+    effect_suits choice (initials x s m k) e suited = initials_suit x k suited s m
+    effect_suits choice (waits x s k) e suited = on x k suited
+    effect_suits choice (signals x s k) e suited = signals_suit x k suited s
+    effect_suits choice (delays x s rank k) e suited = on x k suited
+    effect_suits choice (resumes x s k) e suited = on x k suited
+    effect_suits choice (sleeps x m k) e suited = sleeps_suit x k suited m
+    effect_suits choice (meets x o k) e suited = meets_suit g scanned owns c suits p x o k suited.0 suited.1
+    effect_suits choice (decides x s k) e suited = decides_suit g scanned owns c suits p x s suited.0 k suited.1 choice (matched_places g c p s)
+    effect_suits choice (parts x caller k) e suited = on x k suited
+    effect_suits choice (scans x s k) e suited =
+        let q = next_barred c.table.rows s.resource s.after in scanned_suits x k suited.2 s (tried_at g c q) suited.1 (tried_at_suits q)
+    effect_suits choice (bars x b k) e suited = barred_suits x k suited.2 b suited.1
+    effect_suits choice (passes x w s k) e suited = passed_suits x k suited.2 w s.resource s.way suited.1.1
+    effect_suits choice (faults x f) e suited = tt

@@ -101,7 +101,8 @@ module _ (g : Program) (program : SuitsProgram g) where
       let doing = (activity_of g c p).doing in
       let suits = next_suits g (mark_in (so.0 p)) (anything (so.0 p)) (λ s ticket is. tt) doing (so.1 p).doing in
       after_suits g anything c p (line_of (next_of g c p)) (effect g c p choice (next_of g c p)) so
-      (effect_suits g program anything (λ own r bar. tt) c so.0 so.1 p ready (λ a below own env k r is caller stands marked. tt) choice (next_of g c p) suits)
+      (effect_suits g program anything (λ own r bar. tt) c so.0 so.1 p ready (next_of g c p) (λ line e a below own env k r is caller stands marked. tt)
+      choice (next_of g c p) refl suits)
 
   pub all_come_suited : (first c : Config) → SuitsEffect g anything (Ok first) → RunsTo g first c → SuitsEffect g anything (Ok c)
   all_come_suited first _ so at_first = so

@@ -12,6 +12,7 @@ ghost use Rattle.pfc_tree.specs.trees.Parts.{ProgramTree};
 ghost use Rattle.pfc_kept_meetings.specs.Groups.{EndsAccept};
 ghost use Rattle.pfc_kept_meetings.specs.Owners.{HasTypedEntries, HasSingles};
 ghost use Rattle.pfc_kept_meetings.specs.Accepts.{HasProcesses, KeepsAccepts, Accepts};
+ghost use Rattle.pfc_kept_meetings.specs.Waiting.{KeepsOffers};
 
 /// The end of an accept keeps the representation: the process goes on behind it without the names of the accept, and the caller of the meeting that was begun
 /// last is ready.
@@ -50,4 +51,15 @@ pub fn accepts_are_kept()
     ensures { (facts : Facts) (m : Machine) (c : Config) (p choice : ℕ) (level : LivingLevel) (n : Action)
         → HasProcesses facts.tree → HasTypedEntries facts.tree → KeepsAccepts facts c → Accepts level n
         → IsActing facts m c p level → HasArrived facts m c p level n → IsKept facts m c p choice n }
+{}
+
+/// A call of an entry keeps the representation. Where the owner is not active it is a fault. Where the owner waits to accept the entry, in a plain accept or at
+/// the first such alternative of a select, the meeting begins: the accept's parameters have the arguments, the owner goes on at the accept's statement
+/// without what it offered, and the caller waits in the meeting. Else the caller waits for the entry, and shows its arguments.
+pub fn calls_of_entries_are_kept()
+    ensures { (facts : Facts) (m : Machine) (c : Config) (p choice : ℕ) (level : LivingLevel) (x : Context) (v : Spot) (entry : ℕ) (k : Remainder)
+        (given : List Argument)
+        → HasProcesses facts.tree → HasTypedEntries facts.tree → HasSingles facts c → KeepsAccepts facts c → KeepsOffers facts c
+        → IsActing facts m c p level → HasArrived facts m c p level (calls x (to_entry v entry k) given)
+        → IsKept facts m c p choice (calls x (to_entry v entry k) given) }
 {}

@@ -158,8 +158,7 @@ module _ (P : ℕ → Type 0) (s : State) where
   module_inits_own : (n next : ℕ) (m : ModuleTree) → FitsModule m → Inside next m → AllByRecursion HasOwnAlone (module_inits s n next m)
   module_inits_own n next (the_module x exports ps None last p) small all = tt
   module_inits_own n next (the_module x exports ps (Some b) last p) small all =
-      let view = here s.blocks.scopes next (level 0 n ∷ []) in
-      (
+      let view = here s.blocks.scopes next (level 0 n ∷ []) in (
         body_alone next 0 (env_at s view around_nothing) (next + 1 + parts_scopes ps) b [] 0 small.1 (λ j low high. all j (omega (arith, low))
             (omega (arith, high))),
         tt,

@@ -1,13 +1,11 @@
 -- Where all returns from resources are from ones that have been entered once, whoever scans behind a return has left the resource.
 use Rattle.std.proofs.Common.{◌≡◌, ◌≢◌, ℕ, List, [], ◌∷◌, true, Ok, All, refl, sym, subst}
 use Rattle.std.proofs.lemmas.List.Elements.{All-nil}
-use Rattle.pfc_types.specs.rules.Expressions.{Env}
 use Rattle.pfc_state.specs.Stands.{is_ready}
 use Rattle.pfc_world.specs.Tables.{at}
 use Rattle.pfc_semantics.specs.Programs.{Program}
-use Rattle.pfc_semantics.specs.Remainders.{Action, Way, Scan, Remainder, leave, own as trying, scans, passes, finishes}
-use Rattle.pfc_semantics.specs.Configurations.{Mark, of_resource, of_remainder, Activation, Config, activity_of}
-use Rattle.pfc_semantics.specs.Resources.{scan_of}
+use Rattle.pfc_semantics.specs.Remainders.{Action, Way, Scan, leave, own as trying, scans, passes, finishes}
+use Rattle.pfc_semantics.specs.Configurations.{of_resource, Activation, Config, activity_of}
 use Rattle.pfc_semantics.specs.Steps.{next_of, effect, line_of}
 use Rattle.pfc_semantics.specs.Events.{step}
 use Rattle.pfc_semantics.specs.Time.{settled_config}

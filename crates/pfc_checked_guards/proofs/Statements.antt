@@ -175,6 +175,7 @@ module _ (g : Program) (mark : Mark) where
     alts_called :
         (env : Env) (a : Around) → IsPlace g mark env a → (n : ℕ) (alts : AltTrees) → IsClean (broken_alts (under env a) n alts) → SuitAlts g mark env n alts
     alts_called env a is n no_alts h = tt
-    alts_called env a is n (more_alts (alt spread guard comm ss) alts) h =
-        ((guard_suits env a is guard h.0.1.0, comm_called env a is n comm h.0.1.1.0, stmts_called env a is (n + comm_scopes comm) ss h.0.1.1.1),
-         alts_called env a is (n + alt_scopes (alt spread guard comm ss)) alts h.1)
+    alts_called env a is n (more_alts (alt spread guard comm ss) alts) h = (
+      (guard_suits env a is guard h.0.1.0, comm_called env a is n comm h.0.1.1.0, stmts_called env a is (n + comm_scopes comm) ss h.0.1.1.1),
+      alts_called env a is (n + alt_scopes (alt spread guard comm ss)) alts h.1,
+    )

@@ -50,7 +50,8 @@ module _ (g : Program) (program : SuitsProgram g) where
       let come = all_come_left first d so before in
       step_left (settled_config d) p choice ready once (come.0, settled_suits g Left d come.0 come.1)
 
-  left_by_way : (c : Config) (p : ℕ) (own : List Activation) → StandsOn own (activity_of g c p).activations → (s : Scan) (way : Way) → LeftFor way s.resource own
+  left_by_way : (c : Config) (p : ℕ) (own : List Activation) → StandsOn own (activity_of g c p).activations → (s : Scan) (way : Way)
+      → LeftFor way s.resource own
       → HasLeft g c p s way
   left_by_way c p own stands s leave left = own_left s.resource own (activity_of g c p).activations stands left
   left_by_way c p own stands s (trying bar) left = tt

@@ -15,7 +15,7 @@ IsOutsideAtEnds g c p =
     (line n : ℕ) (a : Activation) → next_of g c p ≡ finishes line → slice_get (activity_of g c p).activations 0 ≡ Some a → a.mark ≡ of_monitor n
     → AreOutside n (activity_of g c p).activations
 
--- Where it is about to resume, and somebody waits there, it holds the monitor. So it is in every run of a checked program, since a condition is named in the text
--- of its monitor alone, and while main acts nobody waits.
+-- Where it is about to resume, and somebody waits there, it holds the monitor. So it is in every run of a checked program, since a condition is named in the
+-- text of its monitor alone, and while main acts nobody waits.
 abbrev pub HoldsAtResumes : Program → Config → ℕ → Type 0
 HoldsAtResumes g c p = (x : Context) (v : Spot) (k : Remainder) → next_of g c p ≡ resumes x v k → HoldsToResume g c p v

@@ -81,6 +81,7 @@ module _ (facts : Facts) (level : LivingLevel) (arms : List Arm) where
       laid = is.laid;
       apart = is.apart;
       guarded = is.guarded;
+      accepts = is.accepts;
     }
 
     module _ (entries : Entries) (table : Table) (p : ℕ) where

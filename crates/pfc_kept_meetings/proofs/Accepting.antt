@@ -1,5 +1,5 @@
 -- An accept of a process that finds no caller: it waits, and offers to accept.
-use Rattle.std.proofs.Common.{◌≡◌, ℕ, suc, ◌+◌, ◌<◌, ◌≤◌, max, ℤ, Bool, true, false, List, [], ◌∷◌, ◌++◌, length, drop, slice_get, Option, Some, None, Ok, refl, sym, ap, ◌∙◌, subst, arith, ◌⊎◌, inl, inr}
+use Rattle.std.proofs.Common.{◌≡◌, ℕ, suc, ◌+◌, ◌<◌, ◌≤◌, max, ℤ, true, false, List, [], ◌∷◌, length, slice_get, Option, Some, None, Ok, refl, sym, ap, ◌∙◌, subst, arith, ◌⊎◌, inl, inr}
 use Rattle.pfc_code.specs.declared.instructions.Instr.{Instr}
 use Rattle.pfc_code.specs.declared.instructions.Instr.TheVariants.{ACC, ARMA}
 use Rattle.pfc_code.specs.declared.images.Block.{Block as CodeBlock}
@@ -16,7 +16,7 @@ use Rattle.pfc_semantics.specs.Programs.{Block, Program}
 use Rattle.pfc_semantics.specs.Remainders.{Context, Accepting as Accept, Offer, Open, Remainder, to_accept, meets}
 use Rattle.pfc_semantics.specs.Rendezvous.{accepts_from}
 use Rattle.pfc_semantics.specs.Selects.{partner_at, plainly, communicates_by, meets_or_waits, meets_at}
-use Rattle.pfc_semantics.specs.Configurations.{Config, Effect, offering, activity_of, goes_on, showing, with_table}
+use Rattle.pfc_semantics.specs.Configurations.{Config, Effect, offering, goes_on, showing, with_table}
 use Rattle.pfc_translation.specs.Images.{image_of}
 use Rattle.pfc_translation.specs.Selects.{accept_cell, accept_cells}
 use Rattle.pfc_stacks.specs.Stacks.{stack_of, operands_of}
@@ -25,23 +25,20 @@ use Rattle.pfc_machines.specs.declared.machine.Machine.{Machine}
 use Rattle.pfc_machines.specs.declared.descriptors.Descriptor.{Descriptor}
 use Rattle.pfc_machines.specs.declared.alternatives.Alternative.{Alternative}
 use Rattle.pfc_machines.specs.declared.alternatives.Offer.TheVariants.{Accept as AcceptOffer}
-use Rattle.pfc_machines.specs.declared.rooms.Room.{Room}
 use Rattle.pfc_machines.specs.Actions.{Effect as MachineEffect}
 use Rattle.pfc_machines.specs.Communications.{Communicating, made}
 use Rattle.pfc_machines.specs.Descriptors.{descriptor_of}
-use Rattle.pfc_machines.specs.Partners.{offers}
-use Rattle.pfc_machines.specs.Quiet.{left_by, makes as makes_one, CanGo}
-use Rattle.pfc_machines.specs.Rooms.{room_for, room_of_all, room_by, together}
+use Rattle.pfc_machines.specs.Quiet.{left_by, CanGo}
+use Rattle.pfc_machines.specs.Rooms.{room_of_all, room_by, together}
 use Rattle.pfc_meeting_actions.specs.Meetings.{accepts as machine_accepts, accepted_from, CanMeet}
 use Rattle.pfc_machine_acts.specs.Performing.{silent}
 use Rattle.pfc_machine_acts.specs.Conditions.{CanAccept}
-use Rattle.pfc_standing_code.specs.Settings.{Trial, of_own, site_of, IsAt}
+use Rattle.pfc_standing_code.specs.Settings.{of_own, site_of, IsAt}
 use Rattle.pfc_standing_code.specs.Effects.{Arm}
 use Rattle.pfc_standing_code.specs.Words.{IsChecked}
 use Rattle.pfc_standing_code.specs.Performs.{MetAt, BranchAt, IsOpen, Performs}
 use Rattle.pfc_standing_code.specs.Following.{IsPlain}
-use Rattle.pfc_following_source.specs.Behind.{BehindAccept, BehindMeeting, BehindOpen}
-use Rattle.pfc_following_source.proofs.Behind.{leads_on}
+use Rattle.pfc_following_source.specs.Behind.{BehindAccept, BehindOpen}
 use Rattle.pfc_representation.specs.Levels.{Facts, program_in, LivingLevel, block_of, IsBlockAt}
 use Rattle.pfc_representation.specs.Rooms.{process_count, end_in, room_behind, own_address, HasRoomFor, IsInBlock}
 use Rattle.pfc_representation.specs.Callers.{IsWithin}

@@ -1,12 +1,10 @@
 -- Accepts of entries that nobody calls.
-use Rattle.std.proofs.Common.{◌≡◌, ℕ, Option, Some, None, sym, ◌∙◌, subst}
+use Rattle.std.proofs.Common.{◌≡◌, ℕ, Some, None, sym, ◌∙◌, subst}
 use Rattle.pfc_world.specs.Partners.{caller}
 use Rattle.pfc_semantics.specs.Remainders.{Context, Accepting as Accept, Offer, Open, Remainder, to_accept, meets}
 use Rattle.pfc_semantics.specs.Configurations.{Config}
-use Rattle.pfc_semantics.specs.Programs.{Block}
 use Rattle.pfc_stacks.specs.Stacks.{stack_of, operands_of}
 use Rattle.pfc_machines.specs.declared.machine.Machine.{Machine}
-use Rattle.pfc_standing_code.specs.Words.{IsChecked}
 use Rattle.pfc_standing_code.specs.Following.{MeetsBy}
 use Rattle.pfc_following_source.specs.Behind.{BehindMeeting}
 use Rattle.pfc_following_source.proofs.Behind.{leads_on}

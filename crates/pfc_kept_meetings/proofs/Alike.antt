@@ -1,5 +1,5 @@
 -- What is seen as it was, of the names apart from those that are other.
-use Rattle.std.proofs.Common.{◌≡◌, ℕ, ◌<◌, ◌≤◌, ℤ, Bool, true, if◌then◌else◌, List, length, get_or, slice_get, Some, refl, sym, ap, ap₂, ◌∙◌, ◌⊎◌, inl, inr}
+use Rattle.std.proofs.Common.{◌≡◌, ℕ, ◌<◌, ◌≤◌, ℤ, Bool, true, if◌then◌else◌, List, slice_get, Some, sym, ap, ap₂, ◌∙◌, ◌⊎◌, inl, inr}
 use Rattle.pfc_types.specs.declared.scope.Meaning.{Meaning}
 use Rattle.pfc_semantics.specs.Store.{Store, values_in}
 use Rattle.pfc_semantics.specs.Layouts.{is_laid}
@@ -15,8 +15,8 @@ use Rattle.pfc_standing_code.specs.Words.{is_known}
 use Rattle.pfc_kept_code.specs.Kept.{SeesAlike}
 use Rattle.pfc_views.specs.Views.{first_number, block_site, IsNamed, Sees}
 use Rattle.pfc_call_laws.specs.Inside.{begins_at, refers_at, held_in}
-use Rattle.pfc_kept_meetings.proofs.Ranges.{in_range, range_has_not}
-use Rattle.pfc_kept_meetings.proofs.Anew.{view', AreOther, own_is, is_own, its_layout, laid, cell}
+use Rattle.pfc_kept_meetings.proofs.Ranges.{range_has_not}
+use Rattle.pfc_kept_meetings.proofs.Anew.{view', AreOther, is_own, laid, cell}
 
 module _ (g : Program) (sound : AreCounted g.state.forms) (homes : Homes) (entries : Entries) (store store' : Store) (keeps keeps' : ℕ → Bool)
     (display : Display) (b : Block) (accepts : List ℕ) (w : ℤ) (chain : List ℕ) (view : View) (a : ℕ) (home : Home) (cells : List ℤ) (from to : ℕ) (accepts' : List ℕ)

@@ -1,17 +1,16 @@
 -- What an activation sees whose first static link leads to main's, where some of its variables take other values and references.
-use Rattle.std.proofs.Common.{◌≡◌, ◌≢◌, ℕ, zero, suc, ◌+◌, ◌^◌, ◌<◌, ◌≤◌, ℤ, pos, Bool, true, false, if◌then◌else◌, List, [], ◌∷◌, length, take, drop, get_or, slice_get, Option, Some, None, refl, sym, ap, ap₂, ◌∙◌, subst, arith, ◌⊎◌, inl, inr}
+use Rattle.std.proofs.Common.{◌≡◌, ◌≢◌, ℕ, zero, suc, ◌+◌, ◌^◌, ◌<◌, ◌≤◌, ℤ, pos, Bool, true, false, if◌then◌else◌, List, [], ◌∷◌, length, take, drop, get_or, slice_get, Some, None, refl, sym, ap, ap₂, ◌∙◌, subst, arith, ◌⊎◌, inl, inr}
 use Rattle.pfc_types.specs.declared.types.TypeId.{TypeId}
 use Rattle.pfc_types.specs.declared.scope.Meaning.{Meaning}
 use Rattle.pfc_types.specs.declared.scope.Meaning.TheVariants.{Variable}
 use Rattle.pfc_types.specs.rules.Declarations.{name_cells}
 use Rattle.pfc_semantics.specs.Values.{Value, Location, ordinal, points}
-use Rattle.pfc_semantics.specs.Store.{Store, values_in, variable}
+use Rattle.pfc_semantics.specs.Store.{Store, values_in}
 use Rattle.pfc_semantics.specs.Layouts.{Layout, is_laid}
 use Rattle.pfc_semantics.specs.Displays.{Spot, Frame, Display, frame_of, own_location}
 use Rattle.pfc_semantics.specs.Programs.{Block, Program, layout_cells}
 use Rattle.pfc_translation.specs.Sites.{Site, links_to, laid_before, layout_with, place_of, cell_of, is_reference}
 use Rattle.pfc_stacks.specs.Refs.{word_of}
-use Rattle.pfc_stacks.specs.Stacks.{link_place}
 use Rattle.pfc_cells.specs.Shapes.{AreCounted}
 use Rattle.pfc_cells.specs.Homes.{Home, Homes, layout_at, cells_before}
 use Rattle.pfc_cells.specs.Memory.{AreCells, Entry, Entries, Lives, is_pointer}

@@ -1,15 +1,15 @@
 -- A call of an entry: the fault where its owner is not active, and the wait where it does not wait to accept.
-use Rattle.std.proofs.Common.{◌≡◌, ℕ, suc, ◌+◌, ◌^◌, ◌<◌, ◌≤◌, ℤ, Bool, true, false, if◌then◌else◌, List, [], ◌∷◌, ◌++◌, length, take, drop, reverse, Option, Some, None, Ok, Err, refl, sym, ap, ◌∙◌, subst, arith}
+use Rattle.std.proofs.Common.{◌≡◌, ℕ, suc, ◌+◌, ◌^◌, ◌<◌, ◌≤◌, ℤ, Bool, true, false, if◌then◌else◌, List, [], ◌∷◌, length, take, drop, reverse, Option, Some, None, Ok, Err, refl, sym, ap, ◌∙◌, subst, arith}
 use Rattle.pfc_base.specs.declared.faults.RunFault.TheVariants.{NotActive}
 use Rattle.pfc_code.specs.declared.instructions.Instr.TheVariants.{ECALL}
 use Rattle.pfc_code.specs.Images.{PlainImage}
-use Rattle.pfc_state.specs.Stands.{Stand, Is_ready, Waits}
+use Rattle.pfc_state.specs.Stands.{Is_ready, Waits}
 use Rattle.pfc_state.specs.Waits.{due_of_wait}
 use Rattle.pfc_state.specs.declared.waits.Arm.TheVariants.{Accept as Entry}
 use Rattle.pfc_state.specs.declared.waits.Why.TheVariants.{Call, Meeting}
 use Rattle.pfc_world.specs.Partners.{is_accepting}
 use Rattle.pfc_world.specs.Rendezvous.{is_uncalled}
-use Rattle.pfc_world.specs.Tables.{Table, at}
+use Rattle.pfc_world.specs.Tables.{Table}
 use Rattle.pfc_world.specs.Transitions.{placed, blocked, ticked}
 use Rattle.pfc_types.specs.Blocks.{entry_at}
 use Rattle.pfc_types.specs.declared.types.TypeId.{TypeId}
@@ -22,12 +22,12 @@ use Rattle.pfc_semantics.specs.Channels.{side_of}
 use Rattle.pfc_semantics.specs.Remainders.{Context, Argument, Remainder, calls, to_entry}
 use Rattle.pfc_semantics.specs.Rendezvous as text
 use Rattle.pfc_semantics.specs.Rewriting.{Doing, going}
-use Rattle.pfc_semantics.specs.Configurations.{asking, Config, Effect, activity_of, all_passed, goes_on, number_for, showing, with_table}
+use Rattle.pfc_semantics.specs.Configurations.{asking, Config, Effect, all_passed, goes_on, number_for, showing, with_table}
 use Rattle.pfc_translation.specs.Images.{image_of}
 use Rattle.pfc_translation.specs.Calls.{formals_cells}
 use Rattle.pfc_translation.specs.Sites.{blocks_of}
 use Rattle.pfc_stacks.specs.Refs.{number_of}
-use Rattle.pfc_stacks.specs.Stacks.{stack_of, operand, operands_of}
+use Rattle.pfc_stacks.specs.Stacks.{stack_of, operands_of}
 use Rattle.pfc_stacks.specs.Effects.{moved}
 use Rattle.pfc_cells.specs.Memory.{AreCells}
 use Rattle.pfc_machines.specs.declared.machine.Machine.{Machine}
@@ -50,11 +50,10 @@ use Rattle.pfc_call_laws.specs.Blocks.{AreLaidAs}
 use Rattle.pfc_representation.specs.Levels.{Facts, program_in, LivingLevel, DoesOn}
 use Rattle.pfc_representation.specs.Rooms.{own_address}
 use Rattle.pfc_representation.specs.Callers.{IsWithin}
-use Rattle.pfc_representation.specs.Hands.{laid_parameters, entry_formals, AreKept, Asks, HandIs}
+use Rattle.pfc_representation.specs.Hands.{laid_parameters, entry_formals, HandIs}
 use Rattle.pfc_representation.specs.Machines.{machine_table}
 use Rattle.pfc_representation.specs.Acting.{IsActing, HasArrived}
 use Rattle.pfc_representation.specs.Actions.{ComeToSame, IsKept}
-use Rattle.pfc_representation.proofs.Kept.{may_keep}
 use Rattle.pfc_kept_own_actions.proofs.Alone.{can_go, refuse}
 use Rattle.pfc_kept_own_actions.proofs.Arrived.{has_setting, stack_there, code_there, code_line, acts_now}
 use Rattle.pfc_kept_own_actions.proofs.Within.{within_next}

@@ -1,5 +1,5 @@
 -- What the owner does in a meeting: its code stands for the statement of the accept, with the parameters in view.
-use Rattle.std.proofs.Common.{◌≡◌, ℕ, ◌+◌, ◌^◌, ◌<◌, ◌≤◌, ◌==◌, ℤ, pos, Bool, true, false, ◌||◌, if◌then◌else◌, List, [], ◌∷◌, ◌++◌, length, get_or, slice_get, Option, Some, None, refl, sym, ap, ◌∙◌, subst, ◌⊎◌, inl, inr}
+use Rattle.std.proofs.Common.{◌≡◌, ℕ, ◌<◌, ◌==◌, ℤ, pos, Bool, true, ◌||◌, List, [], ◌∷◌, length, get_or, slice_get, Option, Some, sym, subst, ◌⊎◌, inl, inr}
 use Rattle.std.specs.List.{list_any}
 use Rattle.pfc_types.specs.Blocks.{Blocks}
 use Rattle.pfc_types.specs.Scopes.{Level}
@@ -8,14 +8,13 @@ use Rattle.pfc_types.specs.rules.Statements.{within_accept}
 use Rattle.pfc_types.specs.declared.types.TypeId.{TypeId}
 use Rattle.pfc_types.specs.declared.scope.Meaning.TheVariants.{Variable}
 use Rattle.pfc_world.specs.Tables.{Table, at}
-use Rattle.pfc_semantics.specs.Displays.{Spot}
 use Rattle.pfc_semantics.specs.Values.{Value, Location, ordinal, points}
 use Rattle.pfc_semantics.specs.Programs.{Block, Program}
 use Rattle.pfc_semantics.specs.Remainders.{Context, Accepting, Open, Remainder}
 use Rattle.pfc_semantics.specs.Rendezvous.{meeting_of}
 use Rattle.pfc_semantics.specs.Rewriting.{going}
 use Rattle.pfc_semantics.specs.Configurations.{Config, activity_of}
-use Rattle.pfc_translation.specs.Sites.{is_mains, linked, is_accept, links_to, cell_of}
+use Rattle.pfc_translation.specs.Sites.{is_mains, linked, is_accept}
 use Rattle.pfc_translation.specs.Selects.{accept_cell}
 use Rattle.pfc_stacks.specs.Stacks.{Stacks, cells_of, written}
 use Rattle.pfc_cells.specs.Homes.{Homes}
@@ -23,12 +22,11 @@ use Rattle.pfc_cells.specs.Memory.{AreCells, Entries, Lives, MemoryIs}
 use Rattle.pfc_machines.specs.declared.machine.Machine.{Machine}
 use Rattle.pfc_machines.specs.Descriptors.{descriptor_of}
 use Rattle.pfc_meeting_actions.specs.Meetings.{parameter_cell}
-use Rattle.pfc_standing_code.specs.Settings.{View, Trial, Setting, of_own, site_of, IsMains, IsBeside, IsInTrial, with_accept}
-use Rattle.pfc_standing_code.specs.Typed.{IsDeclaredAt}
+use Rattle.pfc_standing_code.specs.Settings.{View, Trial, Setting, of_own, site_of, IsInTrial, with_accept}
 use Rattle.pfc_standing_code.specs.TypedStatements.{AcceptsEntry}
 use Rattle.pfc_standing_code.specs.Words.{IsChecked, AreKnown, is_known, names_at}
 use Rattle.pfc_standing_code.specs.Performs.{Performs}
-use Rattle.pfc_kept_code.specs.Kept.{Among, AgreeAt, Agree, SeesAlike, InRemainder, with_view}
+use Rattle.pfc_kept_code.specs.Kept.{AgreeAt, Agree, with_view}
 use Rattle.pfc_following_source.specs.Behind.{GoesOnAt, BehindAccept}
 use Rattle.pfc_following_source.proofs.Meetings.{meetings_led}
 use Rattle.pfc_views.specs.Views.{AreObjects, Sees}
@@ -43,9 +41,7 @@ use Rattle.pfc_representation.specs.Processes.{IsAtLevel}
 use Rattle.pfc_kept_messages.proofs.Sight.{same_program}
 use Rattle.pfc_kept_meetings.specs.Owners.{HasTypedEntries}
 use Rattle.pfc_kept_meetings.specs.Accepts.{HasProcesses, KeepsAccepts, AreApart}
-use Rattle.pfc_kept_meetings.proofs.Alike.{seen_alike}
-use Rattle.pfc_kept_meetings.proofs.Arguments.{first_with, seen_plainly}
-use Rattle.pfc_kept_meetings.proofs.Given.{out_of}
+use Rattle.pfc_kept_meetings.proofs.Arguments.{seen_plainly}
 use Rattle.pfc_kept_meetings.proofs.Giving as giving
 use Rattle.pfc_kept_meetings.proofs.Known as known_ones
 use Rattle.pfc_kept_meetings.proofs.Known.{are_known, IsWithin, holds_there, known_behind}

@@ -1,5 +1,5 @@
 -- A caller that waits for an entry: what it shows, and what becomes of it once its meeting has begun.
-use Rattle.std.proofs.Common.{◌≡◌, ◌≢◌, ℕ, ◌==◌, ◌<◌, ◌≤◌, ℤ, Bool, true, false, ◌&&◌, if◌then◌else◌, List, [], ◌∷◌, ◌++◌, length, get_or, Option, Some, None, refl, sym, ap, ap₂, ◌∙◌, subst, arith, ◌⊎◌, inl, inr}
+use Rattle.std.proofs.Common.{◌≡◌, ℕ, ◌==◌, ◌≤◌, ℤ, Bool, true, false, if◌then◌else◌, List, [], ◌∷◌, get_or, Option, Some, None, refl, sym, ap, ap₂, ◌∙◌, subst, ◌⊎◌, inl, inr}
 use Rattle.std.specs.Prelude.{is_some}
 use Rattle.pfc_state.specs.Stands.{Stand, Is_idle, Is_created, Is_ready, Is_done, Waits, is_unfinished, ticket_at}
 use Rattle.pfc_state.specs.Waits.{same_why}
@@ -9,16 +9,15 @@ use Rattle.pfc_state.specs.declared.waits.Why.{Why}
 use Rattle.pfc_state.specs.declared.waits.Why.TheVariants.{Call, Meeting, Barred, Select}
 use Rattle.pfc_world.specs.Partners.{plain_wait}
 use Rattle.pfc_world.specs.Tables.{Table, at}
-use Rattle.pfc_semantics.specs.Displays.{Display}
 use Rattle.pfc_semantics.specs.Remainders.{Open}
 use Rattle.pfc_semantics.specs.Store.{Store}
 use Rattle.pfc_semantics.specs.Values.{Value}
 use Rattle.pfc_semantics.specs.Configurations.{Hand, empty_hand, offering, asking, barred_at, Activation, Activity}
 use Rattle.pfc_stacks.specs.declared.refs.Ref.{Ref}
 use Rattle.pfc_stacks.specs.Refs.{word_of}
-use Rattle.pfc_stacks.specs.Stacks.{Stack, Stacks, stack_of, last_activation}
+use Rattle.pfc_stacks.specs.Stacks.{Stacks, stack_of, last_activation}
 use Rattle.pfc_cells.specs.Homes.{Homes}
-use Rattle.pfc_cells.specs.Memory.{Entry, Entries}
+use Rattle.pfc_cells.specs.Memory.{Entries}
 use Rattle.pfc_machines.specs.declared.descriptors.Descriptor.{Descriptor}
 use Rattle.pfc_standing_code.specs.Settings.{Trial, of_own}
 use Rattle.pfc_views.specs.Keeping.{IsLike}
@@ -26,10 +25,10 @@ use Rattle.pfc_representation.specs.Levels.{Facts, program_in, LivingLevel, is_m
 use Rattle.pfc_representation.specs.Rooms.{own_address}
 use Rattle.pfc_representation.specs.Callers.{IsWithin, AreCallers}
 use Rattle.pfc_representation.specs.Hands.{IsOffered, is_woken, waits_plainly, waits_selecting, Asks, HandIs, shows_nothing}
-use Rattle.pfc_representation.specs.Holding.{Holders, Holds, waits_for_monitor, waits_for_resource}
+use Rattle.pfc_representation.specs.Holding.{Holders, Holds}
 use Rattle.pfc_representation.specs.Keeping.{IsLender}
 use Rattle.pfc_representation.specs.Trials.{TrialIs}
-use Rattle.pfc_representation.specs.Processes.{AreMet, IsAtLevel, IsUnderWay, ActivationsAre, RepresentsProcess}
+use Rattle.pfc_representation.specs.Processes.{IsAtLevel, IsUnderWay, ActivationsAre, RepresentsProcess}
 use Rattle.pfc_representation.proofs.Kept.{seen_still, callers_still}
 use Rattle.pfc_kept_messages.proofs.Held.{WaitsForNone, holds_anew}
 use Rattle.pfc_kept_messages.proofs.Others.{lender_waits}

@@ -1,10 +1,8 @@
 -- A meeting begins: the accept's parameters take what the caller gives, in the store and in the owner's cells.
-use Rattle.std.proofs.Common.{◌≡◌, ◌≢◌, ℕ, ◌+◌, ◌*◌, ◌^◌, ◌<◌, ◌≤◌, ◌==◌, ℤ, pos, Bool, true, false, if◌then◌else◌, List, [], ◌∷◌, ◌++◌, length, take, get_or, set, slice_get, Option, Some, None, refl, sym, ap, ap₂, ◌∙◌, subst, arith, length-append, take_at, ◌⊎◌, inl, inr}
+use Rattle.std.proofs.Common.{◌≡◌, ◌≢◌, ℕ, ◌+◌, ◌^◌, ◌<◌, ℤ, Bool, true, false, if◌then◌else◌, List, [], ◌∷◌, ◌++◌, length, take, set, Option, Some, refl, sym, ap, ap₂, ◌∙◌, subst, arith, length-append, take_at}
 use Rattle.std.proofs.lemmas.List.{length-set}
 use Rattle.pfc_types.specs.Scopes.{scope_at}
-use Rattle.pfc_types.specs.declared.types.TypeId.{TypeId}
-use Rattle.pfc_types.specs.declared.scope.Meaning.TheVariants.{Variable}
-use Rattle.pfc_semantics.specs.Values.{Value, Location, ordinal, points}
+use Rattle.pfc_semantics.specs.Values.{Value}
 use Rattle.pfc_semantics.specs.Displays.{Frame, Display, frame_of, accept_frames}
 use Rattle.pfc_semantics.specs.Layouts.{Layout, laid_names, sub_with}
 use Rattle.pfc_types.specs.Blocks.{entry_at}
@@ -18,27 +16,23 @@ use Rattle.pfc_semantics.specs.Remainders.{Context, Accepting}
 use Rattle.pfc_semantics.specs.Rendezvous.{taken_from}
 use Rattle.pfc_semantics.specs.Store.{Store, values_in, with_values}
 use Rattle.pfc_semantics.specs.Configurations.{Activation, Config, activity_of}
-use Rattle.pfc_translation.specs.Sites.{Site, is_mains, level_of, is_accept, before_accept, laid_before, layout_with, links_to, place_of}
+use Rattle.pfc_translation.specs.Sites.{Site, is_mains, is_accept, before_accept, laid_before, layout_with, links_to}
 use Rattle.pfc_translation.specs.Selects.{accept_cell, accept_cells}
 use Rattle.pfc_stacks.specs.declared.refs.Ref.{Ref}
-use Rattle.pfc_stacks.specs.Conditions.{AreLive}
-use Rattle.pfc_stacks.specs.Refs.{word_of}
-use Rattle.pfc_stacks.specs.Stacks.{Stack, Stacks, stack_of, cells_of, own_cells, last_activation, written}
+use Rattle.pfc_stacks.specs.Stacks.{Stack, Stacks, stack_of, cells_of, own_cells, written}
 use Rattle.pfc_cells.specs.Homes.{Home, Homes, layout_at}
-use Rattle.pfc_cells.specs.Memory.{AreCells, Entry, Entries, Lives, ProcessIs, CellsAre, MemoryIs}
-use Rattle.pfc_cells.proofs.Stores.{values_kept}
+use Rattle.pfc_cells.specs.Memory.{AreCells, Entry, Entries, Lives, ProcessIs}
 use Rattle.pfc_machines.specs.declared.machine.Machine.{Machine}
 use Rattle.pfc_machines.specs.Descriptors.{descriptor_of}
 use Rattle.pfc_meeting_actions.specs.Meetings.{parameter_cell}
-use Rattle.pfc_standing_code.specs.Settings.{View, Setting, of_own, site_of}
+use Rattle.pfc_standing_code.specs.Settings.{Setting, of_own, site_of}
 use Rattle.pfc_standing_code.specs.Typed.{variables_by, variables_of}
 use Rattle.pfc_standing_code.specs.TypedStatements.{AcceptsEntry}
 use Rattle.pfc_standing_code.specs.Words.{IsChecked, is_known}
-use Rattle.pfc_views.specs.Views.{first_number, block_site, AreFew, AreObjects}
+use Rattle.pfc_views.specs.Views.{block_site}
 use Rattle.pfc_views.proofs.Living.{lives}
 use Rattle.pfc_stack_laws.specs.Standing.{HoldStore}
 use Rattle.pfc_stack_laws.proofs.Moves.{same_cells}
-use Rattle.pfc_call_laws.proofs.Calling.{is_addressed}
 use Rattle.pfc_call_laws.proofs.Displays.{is_other}
 use Rattle.pfc_call_laws.proofs.Places.{or_left}
 use Rattle.pfc_nesting_laws.proofs.Programs.{is_laid as block_laid}
@@ -46,7 +40,7 @@ use Rattle.pfc_meeting_laws.specs.Meetings.{display_of, StandIn}
 use Rattle.pfc_meeting_laws.proofs.Frames.{frame_of_accept}
 use Rattle.pfc_meeting_laws.proofs.Laid.{accept_stands}
 use Rattle.pfc_meeting_laws.proofs.Meetings.{held}
-use Rattle.pfc_meeting_laws.proofs.Taking.{taken_length, taken_there, values_now, values_count}
+use Rattle.pfc_meeting_laws.proofs.Taking.{taken_length, values_now, values_count}
 use Rattle.pfc_representation.specs.Levels.{Facts, program_in, LivingLevel}
 use Rattle.pfc_representation.specs.Hands.{laid_parameters, entry_formals}
 use Rattle.pfc_representation.specs.Holding.{holders_in}
@@ -58,7 +52,7 @@ use Rattle.pfc_kept_meetings.specs.Owners.{HasTypedEntries}
 use Rattle.pfc_kept_meetings.specs.Accepts.{HasProcesses, KeepsAccepts}
 use Rattle.pfc_kept_meetings.proofs.Owner as owner
 use Rattle.pfc_kept_meetings.proofs.Owner.{known, only, first, child, of_process, process_is, formals_are, scopes, own_not_mains, own_known, in_blocks, links_own, its_layout, living, block_is}
-use Rattle.pfc_kept_meetings.proofs.Parameters.{names_laid, names_cells, taken_other}
+use Rattle.pfc_kept_meetings.proofs.Parameters.{names_laid, names_cells}
 
 bit_false : (c : Bool) → (c ≡ true → ⊥) → c ≡ false
 bit_false true h = absurd (h refl)

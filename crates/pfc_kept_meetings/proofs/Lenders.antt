@@ -1,8 +1,8 @@
 -- Who waits in a rendezvous, and what is kept where it waits there no more.
-use Rattle.std.proofs.Common.{◌≡◌, ◌≢◌, ℕ, zero, suc, ◌<◌, ℤ, true, false, List, [], ◌∷◌, ◌++◌, length, get_or, slice_get, All, Some, None, refl, sym, ap, ◌∙◌, subst, arith}
+use Rattle.std.proofs.Common.{◌≡◌, ◌≢◌, ℕ, suc, ℤ, List, [], ◌∷◌, ◌++◌, length, slice_get, Some, refl, sym, ap, ◌∙◌, subst}
 use Rattle.pfc_state.specs.Stands.{Stand, Is_ready, Waits}
 use Rattle.pfc_state.specs.declared.waits.Arm.{Arm as WaitArm}
-use Rattle.pfc_state.specs.declared.waits.Why.TheVariants.{Meeting, Barred}
+use Rattle.pfc_state.specs.declared.waits.Why.TheVariants.{Meeting}
 use Rattle.pfc_meet.specs.Meetings.{IsInMeeting}
 use Rattle.pfc_world.specs.Tables.{Table, at}
 use Rattle.pfc_semantics.specs.Configurations.{Activation}

@@ -1,19 +1,19 @@
 -- An accept of a process that acts meets a caller that waits.
-use Rattle.std.proofs.Common.{◌≡◌, ◌≢◌, ℕ, suc, ◌+◌, ◌^◌, ◌<◌, ◌≤◌, ℤ, pos, Bool, true, false, List, [], ◌∷◌, ◌++◌, length, take, drop, reverse, set, get_or, slice_get, Option, Some, None, refl, sym, ap, ap₂, ◌∙◌, subst, arith, append_assoc, ◌⊎◌, inl, inr}
-use Rattle.std.proofs.lemmas.List.{get_or-set_same, get_or-set_other, length-set, length-reverse, reverse-reverse}
+use Rattle.std.proofs.Common.{◌≡◌, ◌≢◌, ℕ, ◌+◌, ◌<◌, ℤ, pos, Bool, true, List, [], ◌∷◌, length, reverse, set, get_or, slice_get, Some, refl, sym, ap, ◌∙◌, subst, arith, append_assoc, ◌⊎◌, inl, inr}
+use Rattle.std.proofs.lemmas.List.{get_or-set_same, get_or-set_other, length-set, length-reverse}
 use Rattle.pfc_types.specs.declared.types.TypeId.{TypeId}
 use Rattle.pfc_types.specs.declared.scope.Meaning.TheVariants.{Variable}
-use Rattle.pfc_state.specs.Stands.{Stand, Is_idle, Is_ready, Waits, is_unfinished, ticket_at, ticket_of, due_of}
+use Rattle.pfc_state.specs.Stands.{Stand, Is_idle, Is_ready, Waits, ticket_at}
 use Rattle.pfc_state.specs.declared.waits.Arm.{Arm as WaitArm}
-use Rattle.pfc_state.specs.declared.waits.Why.TheVariants.{Call, Meeting, Barred}
+use Rattle.pfc_state.specs.declared.waits.Why.TheVariants.{Call, Meeting}
 use Rattle.pfc_world.specs.Partners.{caller}
 use Rattle.pfc_world.specs.Rendezvous.{taken}
 use Rattle.pfc_world.specs.Tables.{Table, at}
-use Rattle.pfc_world.specs.Transitions.{placed, ticked}
+use Rattle.pfc_world.specs.Transitions.{ticked}
 use Rattle.pfc_semantics.specs.Values.{Value, Location, ordinal, points}
 use Rattle.pfc_semantics.specs.Programs.{Program, Block}
 use Rattle.pfc_semantics.specs.Remainders.{Context, Accepting}
-use Rattle.pfc_semantics.specs.Store.{Store, values_in}
+use Rattle.pfc_semantics.specs.Store.{Store}
 use Rattle.pfc_semantics.specs.Configurations.{empty_hand, Activity, Config, activity_of}
 use Rattle.pfc_translation.specs.Sites.{is_accept}
 use Rattle.pfc_translation.specs.Selects.{accept_cell, accept_cells}
@@ -39,7 +39,6 @@ use Rattle.pfc_representation.specs.Processes.{RepresentsProcess}
 use Rattle.pfc_representation.specs.Acting.{IsActing}
 use Rattle.pfc_kept_object_actions.proofs.Change.{row_here, row_there, within_rows}
 use Rattle.pfc_kept_object_actions.proofs.Finding.{first_has}
-use Rattle.pfc_kept_messages.proofs.Held.{WaitsForNone}
 use Rattle.pfc_kept_messages.proofs.Passing.{LiesOver, lies_over}
 use Rattle.pfc_kept_messages.proofs.Stacks.{written_same, changed_cells, written_alike}
 use Rattle.pfc_kept_meetings.specs.Owners.{HasTypedEntries}

@@ -1,24 +1,18 @@
 -- A process at one of its accepts: it is in its first activation, which stands for the block of its declaration.
-use Rattle.std.proofs.Common.{◌≡◌, ◌≢◌, ℕ, zero, suc, ◌+◌, ◌*◌, ◌^◌, ◌<◌, ◌≤◌, ◌==◌, ℤ, pos, Bool, true, false, ◌||◌, if◌then◌else◌, List, [], ◌∷◌, ◌++◌, length, map, drop, slice_get, get_or, Option, Some, None, unwrap_or, refl, sym, ap, ap₂, ◌∙◌, subst, arith, length-append, ◌⊎◌, inl, inr}
+use Rattle.std.proofs.Common.{◌≡◌, ◌≢◌, ℕ, zero, suc, ◌+◌, ◌*◌, ◌^◌, ◌<◌, ◌≤◌, ◌==◌, ℤ, pos, Bool, true, false, if◌then◌else◌, List, [], ◌∷◌, ◌++◌, length, drop, slice_get, get_or, Some, None, unwrap_or, refl, sym, ap, ◌∙◌, subst, arith, length-append, ◌⊎◌, inl, inr}
 use Rattle.std.specs.Prelude.{position}
 use Rattle.std.specs.List.{list_any}
-use Rattle.pfc_code.specs.declared.instructions.Instr.{Instr}
 use Rattle.pfc_code.specs.declared.instructions.Instr.TheVariants.{END, RET, RETF}
-use Rattle.pfc_code.specs.declared.images.Block.{Block as CodeBlock}
 use Rattle.pfc_types.specs.Blocks.{process_at, entry_at}
-use Rattle.pfc_types.specs.Scopes.{Names, scope_at}
-use Rattle.pfc_types.specs.declared.heads.Formal.{Formal}
-use Rattle.pfc_types.specs.declared.scope.Meaning.{Meaning}
 use Rattle.pfc_world.specs.Tables.{Table}
-use Rattle.pfc_semantics.specs.Displays.{Frame, Display, frame_of, accept_frames}
-use Rattle.pfc_semantics.specs.Layouts.{Layout, laid_names, sub_with}
+use Rattle.pfc_semantics.specs.Layouts.{sub_with}
 use Rattle.pfc_semantics.specs.Processes.{declaration_of, process_block}
 use Rattle.pfc_semantics.specs.Programs.{Block, Program, block_at}
 use Rattle.pfc_semantics.specs.Remainders.{Context}
 use Rattle.pfc_semantics.specs.Store.{Store}
 use Rattle.pfc_semantics.specs.Configurations.{Mark, of_nobody, of_remainder, of_value, Caller, Activation, Config, activity_of}
-use Rattle.pfc_translation.specs.Images.{image_of, end_of}
-use Rattle.pfc_translation.specs.Sites.{Site, is_mains, linked, level_of, links_to, is_accept, laid_before, layout_with, before_accept}
+use Rattle.pfc_translation.specs.Images.{end_of}
+use Rattle.pfc_translation.specs.Sites.{Site, is_mains, linked, links_to}
 use Rattle.pfc_stacks.specs.declared.refs.Ref.{Ref}
 use Rattle.pfc_stacks.specs.Refs.{word_of, ref_of}
 use Rattle.pfc_stacks.specs.Stacks.{stack_of, cells_of, last_activation, link_place}
@@ -28,30 +22,25 @@ use Rattle.pfc_cells.specs.Memory.{Entry, Entries}
 use Rattle.pfc_machines.specs.declared.machine.Machine.{Machine}
 use Rattle.pfc_machines.specs.Communications.{Communicating}
 use Rattle.pfc_machines.specs.Descriptors.{descriptor_of}
-use Rattle.pfc_standing_code.specs.Settings.{Trial, of_own, IsMains, IsBeside, same_block, both_mains, site_of}
+use Rattle.pfc_standing_code.specs.Settings.{Trial, of_own, IsMains, IsBeside, same_block, both_mains}
 use Rattle.pfc_standing_code.specs.Performs.{own_block}
 use Rattle.pfc_standing_code.specs.TypedStatements.{AcceptsEntry}
-use Rattle.pfc_standing_code.specs.Typed.{variables_of}
 use Rattle.pfc_standing_code.specs.Words.{IsChecked, is_known}
-use Rattle.pfc_views.specs.Views.{own_place, first_number, IsLiving, latest, earlier, IsKept, AreLinked, block_site}
+use Rattle.pfc_views.specs.Views.{own_place, IsLiving, latest, earlier, IsKept, AreLinked, block_site}
 use Rattle.pfc_views.proofs.Living.{own_of}
 use Rattle.pfc_views.proofs.Links.{ref_back, link_is}
 use Rattle.pfc_call_laws.specs.Around.{HasScopes, IsNested, scopes_around}
-use Rattle.pfc_call_laws.proofs.Displays.{is_same, same_of, is_other, place_of_scope, no_place, linked_not_mains, any_at, at_any}
+use Rattle.pfc_call_laws.proofs.Displays.{is_same, same_of, place_of_scope, no_place, linked_not_mains, any_at, at_any}
 use Rattle.pfc_call_laws.proofs.Places.{or_left, or_right}
-use Rattle.pfc_nesting_laws.proofs.Programs.{has_scopes, is_laid as block_laid, nested_in_mains, main_alone, main_has_none}
-use Rattle.pfc_meeting_laws.specs.Meetings.{display_of, StandIn}
-use Rattle.pfc_meeting_laws.proofs.Frames.{frame_of_accept}
-use Rattle.pfc_meeting_laws.proofs.Laid.{accept_stands}
+use Rattle.pfc_nesting_laws.proofs.Programs.{has_scopes, nested_in_mains, main_alone, main_has_none}
 use Rattle.pfc_representation.specs.Levels.{Facts, program_in, LivingLevel, block_of}
-use Rattle.pfc_representation.specs.Rooms.{process_count}
-use Rattle.pfc_representation.specs.Callers.{GoesBack, ending_of, linkage_words, first_block, IsFirst, IsCalled, AreCallers}
+use Rattle.pfc_representation.specs.Callers.{GoesBack, ending_of, first_block, IsFirst, AreCallers}
 use Rattle.pfc_representation.specs.Hands.{entry_formals}
 use Rattle.pfc_representation.specs.Holding.{holders_in}
 use Rattle.pfc_representation.specs.Machines.{AreAlike}
 use Rattle.pfc_representation.specs.Processes.{IsAtLevel}
 use Rattle.pfc_kept_messages.proofs.Sight.{same_program}
-use Rattle.pfc_kept_meetings.specs.Accepts.{IsProcessBlock, HasProcesses, KeepsAccepts}
+use Rattle.pfc_kept_meetings.specs.Accepts.{IsProcessBlock, HasProcesses}
 
 bit_false : (c : Bool) → (c ≡ true → ⊥) → c ≡ false
 bit_false true h = absurd (h refl)

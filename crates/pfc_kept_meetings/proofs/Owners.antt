@@ -2,14 +2,14 @@
 use Rattle.std.proofs.Common.{◌≡◌, ℕ, ◌+◌, ◌^◌, ◌%◌, ◌<◌, ◌≤◌, ℤ, pos, true, List, [], ◌∷◌, ◌++◌, length, get_or, Option, Some, None, refl, sym, ap, ap₂, ◌∙◌, subst, arith}
 use Rattle.std.specs.Prelude.{unsigned_abs, ◌||◌, Bool}
 use Rattle.std.specs.List.{slice_get}
-use Rattle.pfc_types.specs.Types.{Forms, form_of, process_form, semaphore, condition, is_same}
+use Rattle.pfc_types.specs.Types.{form_of, process_form, semaphore, condition, is_same}
 use Rattle.pfc_types.specs.declared.types.TypeId.{TypeId}
 use Rattle.pfc_types.specs.declared.types.TypeForm.{TypeForm}
 use Rattle.pfc_types.specs.declared.types.TypeForm.TheVariants.{Process as ProcessForm}
 use Rattle.pfc_types.specs.declared.scope.Meaning.{Meaning}
 use Rattle.pfc_types.specs.declared.scope.Meaning.TheVariants.{Process}
 use Rattle.pfc_semantics.specs.Values.{Value, Location, ordinal, ordinal_of, part, path_of}
-use Rattle.pfc_semantics.specs.Displays.{Spot, Display, frame_of, own_location, located, reached}
+use Rattle.pfc_semantics.specs.Displays.{Spot, Display, own_location, reached}
 use Rattle.pfc_semantics.specs.Processes.{declaration_of}
 use Rattle.pfc_semantics.specs.Programs.{Block, Program, block_at}
 use Rattle.pfc_semantics.specs.Remainders.{Context}
@@ -25,9 +25,9 @@ use Rattle.pfc_standing_code.specs.Shapes.{has_object_form, is_object_type}
 use Rattle.pfc_standing_code.specs.Settings.{Setting, of_own, site_of}
 use Rattle.pfc_standing_code.specs.Typed.{unlined, StandsAt, whole_of, IsDeclaredAt}
 use Rattle.pfc_standing_code.specs.TypedStatements.{IsProcessType}
-use Rattle.pfc_standing_code.specs.Words.{IsWordAt, IsObject, IsChecked}
+use Rattle.pfc_standing_code.specs.Words.{IsObject, IsChecked}
 use Rattle.pfc_call_laws.specs.Calls.{first_home}
-use Rattle.pfc_views.specs.Views.{Sees, LiesAt, IsNamed, block_site}
+use Rattle.pfc_views.specs.Views.{Sees, LiesAt, IsNamed}
 use Rattle.pfc_views.proofs.Named.{lies_in_view}
 use Rattle.pfc_stack_laws.specs.Standing.{HoldStore, IsAtHand}
 use Rattle.pfc_representation.specs.Levels.{Facts, program_in, LivingLevel}

@@ -1,5 +1,5 @@
 -- The parameters of an accept: where they stand, and what a caller gives them.
-use Rattle.std.proofs.Common.{◌≡◌, ◌≢◌, ℕ, zero, suc, ◌+◌, ◌-◌, ◌<◌, ◌≤◌, ℤ, pos, Bool, true, false, ◌&&◌, if◌then◌else◌, List, [], ◌∷◌, ◌++◌, length, map, take, drop, get_or, set, slice_get, Option, Some, None, refl, sym, ap, ap₂, ◌∙◌, subst, arith, length-append, ◌⊎◌, inl, inr}
+use Rattle.std.proofs.Common.{◌≡◌, ◌≢◌, ℕ, zero, suc, ◌+◌, ◌-◌, ◌<◌, ◌≤◌, pos, Bool, true, ◌&&◌, if◌then◌else◌, List, [], ◌∷◌, ◌++◌, length, map, take, drop, get_or, set, Option, Some, refl, sym, ap, ap₂, ◌∙◌, arith, length-append, ◌⊎◌, inl, inr}
 use Rattle.std.specs.Prelude.{nat_le, nat_lt}
 use Rattle.std.proofs.lemmas.List.{get_or-drop, get_or-set_other}
 use Rattle.std.proofs.lemmas.List.Sums.{sum_by-cons}
@@ -13,7 +13,7 @@ use Rattle.pfc_types.specs.declared.scope.Meaning.TheVariants.{Variable}
 use Rattle.pfc_types.specs.rules.Declarations.{name_cells, scope_cells}
 use Rattle.pfc_types.specs.rules.Kinds.{variable_meaning}
 use Rattle.pfc_semantics.specs.Values.{Value, ordinal}
-use Rattle.pfc_semantics.specs.Layouts.{Layout, is_laid, laid_names, accepts_laid, process_layout}
+use Rattle.pfc_semantics.specs.Layouts.{Layout, is_laid, laid_names, accepts_laid}
 use Rattle.pfc_semantics.specs.Programs.{Block, Program, layout_cells}
 use Rattle.pfc_semantics.specs.Rendezvous.{taken_from}
 use Rattle.pfc_translation.specs.Sites.{is_accept, before_accept}

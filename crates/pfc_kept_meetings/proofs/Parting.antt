@@ -1,5 +1,5 @@
 -- The end of an accept: the process goes on behind it, and the caller of the meeting is ready.
-use Rattle.std.proofs.Common.{◌≡◌, ◌≢◌, ℕ, zero, suc, ◌+◌, ◌<◌, ◌==◌, ℤ, true, false, List, [], ◌∷◌, ◌++◌, length, drop, set, slice_get, get_or, Some, None, refl, sym, ap, ◌∙◌, subst, arith, ◌⊎◌, inl, inr}
+use Rattle.std.proofs.Common.{◌≡◌, ◌≢◌, ℕ, suc, ◌<◌, ◌==◌, ℤ, true, false, List, [], ◌∷◌, ◌++◌, length, drop, set, slice_get, get_or, Some, None, refl, sym, ap, ◌∙◌, subst, arith, ◌⊎◌, inl, inr}
 use Rattle.std.proofs.lemmas.Option.{slice_get-get_or}
 use Rattle.std.specs.List.{list_any}
 use Rattle.std.proofs.lemmas.List.{get_or-set_same, get_or-set_other, length-set}
@@ -14,7 +14,7 @@ use Rattle.pfc_semantics.specs.Programs.{Block, Program}
 use Rattle.pfc_semantics.specs.Rewriting.{Doing}
 use Rattle.pfc_semantics.specs.Configurations.{Activity, Config, nobody, activity_of, at_work}
 use Rattle.pfc_stacks.specs.Refs.{word_of}
-use Rattle.pfc_stacks.specs.Stacks.{Stack, Stacks, no_stack, stack_of, operands_of, last_activation}
+use Rattle.pfc_stacks.specs.Stacks.{Stack, Stacks, no_stack, stack_of, last_activation}
 use Rattle.pfc_stacks.specs.Effects.{moved}
 use Rattle.pfc_cells.specs.Homes.{Homes}
 use Rattle.pfc_cells.specs.Memory.{Entry, Entries, MemoryIs}
@@ -27,18 +27,18 @@ use Rattle.pfc_standing_code.specs.Performs.{own_view, own_accepts, own_block}
 use Rattle.pfc_stack_laws.proofs.Moves.{hold_moved}
 use Rattle.pfc_representation.specs.Levels.{Facts, program_in, LivingLevel, block_of, is_met_by, DoesOn, SeesThrough, IsSeenBy}
 use Rattle.pfc_representation.specs.Rooms.{own_address}
-use Rattle.pfc_representation.specs.Callers.{IsWithin, AreCallers}
+use Rattle.pfc_representation.specs.Callers.{IsWithin}
 use Rattle.pfc_representation.specs.Hands.{shows_nothing}
 use Rattle.pfc_representation.specs.Holding.{Holders, holders_in, Holds, waits_for_monitor, waits_for_resource, is_quiet, waits_at_coend}
 use Rattle.pfc_call_laws.proofs.Places.{or_right}
 use Rattle.pfc_representation.specs.Trials.{TrialIs, HasTried}
 use Rattle.pfc_representation.specs.Processes.{AreMet, IsAtLevel, IsUnderWay, RepresentsProcess}
-use Rattle.pfc_representation.specs.Keeping.{IsSameStack, IsLender, IsUntouched, IsLeftAlone}
+use Rattle.pfc_representation.specs.Keeping.{IsSameStack, IsLender, IsUntouched}
 use Rattle.pfc_representation.specs.Acting.{IsActor, IsActing}
 use Rattle.pfc_representation.proofs.Kept.{process_still}
 use Rattle.pfc_representation.proofs.Quiet.{actor_moved, others_moved}
 use Rattle.pfc_kept_own_actions.proofs.Arrived.{has_setting, hold_store, stack_there}
-use Rattle.pfc_kept_object_actions.specs.Freed.{IsFreed, StandsStill}
+use Rattle.pfc_kept_object_actions.specs.Freed.{IsFreed}
 use Rattle.pfc_kept_object_actions.proofs.Change.{row_here, row_there, within_rows}
 use Rattle.pfc_kept_object_actions.proofs.Freed.{process_freed}
 use Rattle.pfc_kept_messages.proofs.Others.{IsBarredStand}
@@ -100,16 +100,16 @@ module _ (facts : Facts) (homes : Homes) (entries : Entries) (store : Store) (ta
   behind_accept (of_turn scan back) same there is = absurd (let no : of_turn scan back ≡ of_own = same in cc)
   behind_accept (of_another attempt) same there is = absurd (let no : of_another attempt ≡ of_own = same in cc)
 
--- who is open behind it was open
-without_first : (accepts : List ℕ) (i : ℕ) → list_any (λ j. j == i) (drop 1 accepts) ≡ true → list_any (λ j. j == i) accepts ≡ true
-without_first [] i open = open
-without_first (n ∷ accepts) i open = or_right (n == i) (list_any (λ j. j == i) accepts) open
+-- what is open without it was open
+among_all : (accepts : List ℕ) (i : ℕ) → list_any (λ j. j == i) (drop 1 accepts) ≡ true → list_any (λ j. j == i) accepts ≡ true
+among_all [] i is_open = is_open
+among_all (n ∷ accepts) i is_open = or_right (n == i) (list_any (λ j. j == i) accepts) is_open
 
-without_last : (t : Trial) (accepts : List ℕ) (i : ℕ) → list_any (λ j. j == i) (own_accepts t (drop 1 accepts)) ≡ true
+own_among_all : (t : Trial) (accepts : List ℕ) (i : ℕ) → list_any (λ j. j == i) (own_accepts t (drop 1 accepts)) ≡ true
     → list_any (λ j. j == i) (own_accepts t accepts) ≡ true
-without_last of_own accepts i open = without_first accepts i open
-without_last (of_turn scan back) accepts i open = without_first accepts i open
-without_last (of_another attempt) accepts i open = open
+own_among_all of_own accepts i is_open = among_all accepts i is_open
+own_among_all (of_turn scan back) accepts i is_open = among_all accepts i is_open
+own_among_all (of_another attempt) accepts i is_open = is_open
 
 -- ## Both sides
 
@@ -245,7 +245,7 @@ module _ (facts : Facts) (m : Machine) (c : Config) (p : ℕ) (level : LivingLev
               callers_less facts acting.homes acting.entries c.store c.table (ticked table) p caller row_other awake only (stack_of stacks p).room level'
               (word_of (last_activation stacks p)) latest a.activations (acting.entries p) has_not
               (callers_then level level.setting.view (drop 1 level.setting.accepts) (drop 1 level.setting.meetings)
-              (λ old i open. old i (without_last level.setting.trial level.setting.accepts i open)) d.communications latest.callers fewer
+              (λ old i is_open. old i (own_among_all level.setting.trial level.setting.accepts i is_open)) d.communications latest.callers fewer
               facts acting.homes acting.entries c.store c.table p (stack_of stacks p).room (word_of (last_activation stacks p)) a.activations
               (acting.entries p) old.callers);
           room = old.room;
@@ -275,7 +275,8 @@ module _ (facts : Facts) (m : Machine) (c : Config) (p : ℕ) (level : LivingLev
           within =
               subst (λ (t : Trial). IsWithin facts level' (own_address t (stack_of stacks p).at) latest) (sym own)
               (subst (λ (s : Stack). IsWithin facts level' s.at latest) (sym moved_here)
-              (within_then level level.setting.view (drop 1 level.setting.accepts) (drop 1 level.setting.meetings) d.communications latest.callers fewer
+              (within_then level level.setting.view (drop 1 level.setting.accepts) (drop 1 level.setting.meetings)
+              (λ old i is_open. old i (own_among_all level.setting.trial level.setting.accepts i is_open)) d.communications latest.callers fewer
               facts to within));
           hand = (
             acting.actor.offered,

@@ -1,26 +1,26 @@
 -- The end of an accept.
-use Rattle.std.proofs.Common.{◌≡◌, ℕ, ◌+◌, ◌≤◌, ℤ, false, List, [], ◌∷◌, ◌++◌, length, drop, slice_get, Option, Some, None, IfSome, Ok, refl, sym, ap, ◌∙◌, subst, arith}
+use Rattle.std.proofs.Common.{◌≡◌, ℕ, ◌+◌, ℤ, List, [], ◌++◌, drop, slice_get, Option, Some, IfSome, Ok, refl, sym, ap, ◌∙◌, subst, arith}
 use Rattle.pfc_code.specs.declared.instructions.Instr.TheVariants.{EACC}
 use Rattle.pfc_code.specs.Images.{PlainImage}
 use Rattle.pfc_meet.specs.Meetings.{IsInMeeting}
-use Rattle.pfc_state.specs.Stands.{Stand, Is_ready}
+use Rattle.pfc_state.specs.Stands.{Is_ready}
 use Rattle.pfc_world.specs.Tables.{Table, at}
 use Rattle.pfc_world.specs.Transitions.{rested, placed}
 use Rattle.pfc_semantics.specs.Programs.{Block, Program}
-use Rattle.pfc_semantics.specs.Remainders.{Context, Remainder, Action, parts}
+use Rattle.pfc_semantics.specs.Remainders.{Context, Remainder, parts}
 use Rattle.pfc_semantics.specs.Rendezvous.{parted as parted_in_text}
 use Rattle.pfc_semantics.specs.Rewriting.{Doing, going}
-use Rattle.pfc_semantics.specs.Configurations.{Config, activity_of}
+use Rattle.pfc_semantics.specs.Configurations.{Config}
 use Rattle.pfc_translation.specs.Images.{image_of}
 use Rattle.pfc_stacks.specs.Stacks.{stack_of, operands_of}
 use Rattle.pfc_machines.specs.declared.machine.Machine.{Machine}
 use Rattle.pfc_machines.specs.declared.descriptors.Descriptor.{Descriptor}
 use Rattle.pfc_machines.specs.Actions.{at_rest, Effect as MachineEffect}
-use Rattle.pfc_machines.specs.Descriptors.{descriptor_of, met}
+use Rattle.pfc_machines.specs.Descriptors.{descriptor_of}
 use Rattle.pfc_machines.specs.Quiet.{left_by}
 use Rattle.pfc_meeting_actions.specs.Meetings.{last_caller, parted_from}
 use Rattle.pfc_machine_acts.specs.Performing.{silent}
-use Rattle.pfc_standing_code.specs.Settings.{Trial, of_own, IsBeside, IsAt, parted}
+use Rattle.pfc_standing_code.specs.Settings.{Trial, of_own, IsAt, parted}
 use Rattle.pfc_standing_code.specs.Words.{IsChecked}
 use Rattle.pfc_standing_code.specs.Performs.{IsCheckedFor, Performs}
 use Rattle.pfc_standing_code.specs.Following.{DoesIn}

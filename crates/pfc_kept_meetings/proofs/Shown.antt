@@ -1,22 +1,21 @@
 -- What the owner sees in a meeting: what it saw, and the accept's parameters.
-use Rattle.std.proofs.Common.{◌≡◌, ◌≢◌, ℕ, zero, suc, ◌+◌, ◌-◌, ◌*◌, ◌^◌, ◌<◌, ◌≤◌, ◌==◌, ℤ, pos, Bool, true, false, ◌||◌, if◌then◌else◌, List, [], ◌∷◌, ◌++◌, length, take, drop, get_or, slice_get, Option, Some, None, refl, sym, ap, ap₂, ◌∙◌, subst, arith, length-append, ◌⊎◌, inl, inr}
+use Rattle.std.proofs.Common.{◌≡◌, ℕ, suc, ◌+◌, ◌-◌, ◌^◌, ◌<◌, ◌≤◌, ◌==◌, ℤ, pos, Bool, true, ◌||◌, List, [], ◌∷◌, ◌++◌, length, drop, get_or, slice_get, Some, refl, sym, ap, ◌∙◌, subst, arith, length-append, ◌⊎◌, inl, inr}
 use Rattle.std.specs.List.{list_any}
-use Rattle.pfc_types.specs.Scopes.{scope_at}
 use Rattle.pfc_types.specs.declared.types.TypeId.{TypeId}
 use Rattle.pfc_types.specs.declared.scope.Meaning.{Meaning}
 use Rattle.pfc_types.specs.declared.scope.Meaning.TheVariants.{Variable}
 use Rattle.pfc_world.specs.Tables.{Table, at}
-use Rattle.pfc_semantics.specs.Values.{Value, Location, ordinal, compound, points}
-use Rattle.pfc_semantics.specs.Displays.{Spot, Frame, Display, frame_of}
-use Rattle.pfc_semantics.specs.Layouts.{Layout, is_laid, laid_names, sub_with}
+use Rattle.pfc_semantics.specs.Values.{Value, Location, ordinal, points}
+use Rattle.pfc_semantics.specs.Displays.{Spot, Display}
+use Rattle.pfc_semantics.specs.Layouts.{Layout, is_laid}
 use Rattle.pfc_semantics.specs.Programs.{Block, Program}
 use Rattle.pfc_semantics.specs.Remainders.{Context, Accepting}
 use Rattle.pfc_semantics.specs.Rendezvous.{taken_from}
 use Rattle.pfc_semantics.specs.Store.{Store, values_in}
 use Rattle.pfc_semantics.specs.Configurations.{Activation, Config, activity_of}
-use Rattle.pfc_translation.specs.Sites.{Site, is_mains, linked, is_accept, before_accept, laid_before, layout_with, links_to, place_of, cell_of}
+use Rattle.pfc_translation.specs.Sites.{Site, is_mains, linked, is_accept, laid_before, layout_with, links_to, place_of, cell_of}
 use Rattle.pfc_stacks.specs.Refs.{word_of}
-use Rattle.pfc_stacks.specs.Stacks.{Stacks, stack_of, cells_of, last_activation, written}
+use Rattle.pfc_stacks.specs.Stacks.{Stacks, cells_of, last_activation, written}
 use Rattle.pfc_cells.specs.Homes.{Home, Homes}
 use Rattle.pfc_cells.specs.Memory.{AreCells, Entry, Entries, Lives, IsAmong}
 use Rattle.pfc_cells.proofs.Stores.{values_kept}
@@ -25,13 +24,13 @@ use Rattle.pfc_machines.specs.Descriptors.{descriptor_of}
 use Rattle.pfc_meeting_actions.specs.Meetings.{parameter_cell}
 use Rattle.pfc_translation.specs.Selects.{accept_cell}
 use Rattle.pfc_views.proofs.Living.{is_among}
-use Rattle.pfc_standing_code.specs.Settings.{View, Setting, of_own, site_of, IsBeside}
-use Rattle.pfc_standing_code.specs.Typed.{variables_by, variables_of}
+use Rattle.pfc_standing_code.specs.Settings.{View, of_own, site_of, IsBeside}
+use Rattle.pfc_standing_code.specs.Typed.{variables_of}
 use Rattle.pfc_standing_code.specs.TypedStatements.{AcceptsEntry}
 use Rattle.pfc_standing_code.specs.Words.{IsChecked, is_known}
 use Rattle.pfc_views.specs.Views.{first_number, block_site, Sees}
 use Rattle.pfc_call_laws.proofs.Calling.{is_addressed}
-use Rattle.pfc_call_laws.proofs.Displays.{is_same, same_of, any_at}
+use Rattle.pfc_call_laws.proofs.Displays.{is_same, same_of}
 use Rattle.pfc_call_laws.proofs.Lists.{slice_front, slice_back}
 use Rattle.pfc_call_laws.proofs.Places.{or_cases, or_left, or_right}
 use Rattle.pfc_meeting_laws.proofs.Taking.{taken_length, taken_there, values_count}
@@ -48,11 +47,11 @@ use Rattle.pfc_kept_code.specs.Kept.{SeesAlike}
 use Rattle.pfc_kept_meetings.proofs.Alike.{seen_alike}
 use Rattle.pfc_kept_meetings.proofs.Anew as anew
 use Rattle.pfc_kept_meetings.proofs.Anew.{AreOther, IsNewScope, sees_anew}
-use Rattle.pfc_kept_meetings.proofs.Arguments.{first_with, seen_plainly}
+use Rattle.pfc_kept_meetings.proofs.Arguments.{first_with}
 use Rattle.pfc_kept_meetings.proofs.Given.{is_passed, passed_there, may_lend, kept_lives, out_of}
 use Rattle.pfc_kept_meetings.proofs.Owner as owner
 use Rattle.pfc_kept_meetings.proofs.Giving as giving
-use Rattle.pfc_kept_meetings.proofs.Parameters.{taken_other, own_before, accepts_apart}
+use Rattle.pfc_kept_meetings.proofs.Parameters.{taken_other}
 
 some_same : {A : Type 0} (x y : A) → Some x ≡ Some y → x ≡ y
 some_same x y h = cc

@@ -1,5 +1,5 @@
 -- The process that acts goes on to an address, and waits there, with something to show; nothing else changes.
-use Rattle.std.proofs.Common.{◌≡◌, ◌≢◌, ℕ, ◌+◌, ◌^◌, ◌<◌, ◌≤◌, ℤ, true, false, List, [], ◌∷◌, length, set, get_or, Some, None, refl, sym, ap, ◌∙◌, subst, arith, ◌⊎◌, inl, inr}
+use Rattle.std.proofs.Common.{◌≡◌, ◌≢◌, ℕ, ◌+◌, ◌^◌, ◌<◌, ◌≤◌, ℤ, List, [], length, set, get_or, Some, None, refl, sym, ap, ◌∙◌, subst, arith, ◌⊎◌, inl, inr}
 use Rattle.std.proofs.lemmas.List.{get_or-set_same, get_or-set_other, length-set}
 use Rattle.pfc_state.specs.Stands.{Stand, Is_ready, Waits, is_unfinished, ticket_of, due_of}
 use Rattle.pfc_state.specs.Waits.{due_of_wait}
@@ -16,7 +16,7 @@ use Rattle.pfc_stacks.specs.Effects.{moved}
 use Rattle.pfc_cells.specs.Memory.{MemoryIs}
 use Rattle.pfc_machines.specs.declared.machine.Machine.{Machine}
 use Rattle.pfc_machines.specs.declared.descriptors.Descriptor.{Descriptor}
-use Rattle.pfc_machines.specs.Descriptors.{descriptor_by, descriptor_of}
+use Rattle.pfc_machines.specs.Descriptors.{descriptor_of}
 use Rattle.pfc_standing_code.specs.Settings.{Trial, of_own}
 use Rattle.pfc_stack_laws.proofs.Moves.{hold_moved}
 use Rattle.pfc_representation.specs.Levels.{Facts, program_in, LivingLevel, is_met_by}

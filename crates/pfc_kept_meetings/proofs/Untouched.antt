@@ -1,11 +1,10 @@
 -- Nobody else keeps the owner's activation, so a meeting leaves what the others see.
-use Rattle.std.proofs.Common.{◌≡◌, ◌≢◌, ℕ, ◌<◌, ℤ, pos, Bool, true, false, List, [], ◌∷◌, get_or, slice_get, Some, None, refl, sym, ap, ◌∙◌, subst, arith, inl, inr}
+use Rattle.std.proofs.Common.{◌≡◌, ◌≢◌, ℕ, ◌<◌, ℤ, pos, Bool, true, false, List, [], ◌∷◌, get_or, Some, refl, sym, ap, ◌∙◌, subst, arith, inl, inr}
 use Rattle.pfc_state.specs.Stands.{is_unfinished}
 use Rattle.pfc_world.specs.Tables.{Table, at}
 use Rattle.pfc_semantics.specs.Values.{Value, ordinal}
-use Rattle.pfc_semantics.specs.Programs.{Program}
 use Rattle.pfc_semantics.specs.Store.{Store, values_in}
-use Rattle.pfc_semantics.specs.Configurations.{Activation, Activity, Config, activity_of}
+use Rattle.pfc_semantics.specs.Configurations.{Activation, Activity, Config}
 use Rattle.pfc_stacks.specs.Refs.{word_of}
 use Rattle.pfc_stacks.specs.Stacks.{Stacks, stack_of, last_activation}
 use Rattle.pfc_cells.specs.Homes.{Home, Homes}

@@ -1,5 +1,5 @@
 -- What is told of a program and of a run, by which entries and their owners are known.
-use Rattle.std.specs.Prelude.{ℕ, ◌≡◌, ◌<◌, ◌≤◌, pos, length, get_or, Some}
+use Rattle.std.specs.Prelude.{ℕ, ◌≡◌, ◌<◌, pos, length, get_or, Some}
 use Rattle.std.specs.List.{slice_get}
 use Rattle.pfc_tree.specs.trees.Parts.{ProgramTree}
 use Rattle.pfc_types.specs.Blocks.{entry_at}
@@ -10,7 +10,7 @@ use Rattle.pfc_semantics.specs.Programs.{block_at, program_of}
 use Rattle.pfc_semantics.specs.Processes.{declaration_of}
 use Rattle.pfc_semantics.specs.Configurations.{Config}
 use Rattle.pfc_call_laws.specs.Blocks.{AreLaidAs}
-use Rattle.pfc_representation.specs.Levels.{Facts, program_in, LivingLevel}
+use Rattle.pfc_representation.specs.Levels.{Facts, program_in}
 use Rattle.pfc_representation.specs.Hands.{laid_parameters}
 
 -- Each parameter of an entry has a type: so it is in a program that breaks no rule.

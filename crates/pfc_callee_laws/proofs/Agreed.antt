@@ -47,8 +47,9 @@ module _ (s : State) (mains : ℕ → Bool) (is_block : ℕ → Block) where
     parts_agree h in_process i n outer next no_parts apart lawful found = tt
     parts_agree h in_process i n outer next (more_parts q qs) apart lawful found =
         let further = passed_part (scope_at s.blocks.scopes i) n q in
-        let two = every_parted IsFound (part_blocks s in_process i n outer next q) (parts_blocks s in_process i further outer (next + part_scopes q) qs) found in
-        (part_agrees h in_process i n outer next q apart lawful.0 two.0, parts_agree h in_process i further outer (next + part_scopes q) qs apart lawful.1 two.1)
+        let middle = next + part_scopes q in
+        let two = every_parted IsFound (part_blocks s in_process i n outer next q) (parts_blocks s in_process i further outer middle qs) found in
+        (part_agrees h in_process i n outer next q apart lawful.0 two.0, parts_agree h in_process i further outer middle qs apart lawful.1 two.1)
 
     sub_agrees : (h : Home) (in_process : Bool) (i n : ℕ) (outer : List Level) (next : ℕ) (b : SubTree) → IsLawfulSub h (forget_sub b)
         → Every IsFound (sub_blocks s in_process i n outer next b) → SubAgrees mains is_block i next b
@@ -73,8 +74,11 @@ module _ (s : State) (mains : ℕ → Bool) (is_block : ℕ → Block) where
       let own = scope_at s.blocks.scopes next in
       let count = passed_entries own (passed_groups own 0 gs) es in
       let around = level 0 (passed (scope_at s.blocks.scopes 0) n x) ∷ [] in
-      let two = every_parted IsFound (parts_blocks s true next count around (next + 1) ps) _ found in
-      (ap (λ (b : Block). b.outer) two.1.0, ap (λ (b : Block). is_some b.guard) two.1.0, parts_agree of_other true next count around (next + 1) ps (λ e. e) lawful.2 two.0)
+      let two = every_parted IsFound (parts_blocks s true next count around (next + 1) ps) _ found in (
+        ap (λ (b : Block). b.outer) two.1.0,
+        ap (λ (b : Block). is_some b.guard) two.1.0,
+        parts_agree of_other true next count around (next + 1) ps (λ e. e) lawful.2 two.0,
+      )
 
   -- of a program, whose modules have main's scopes
   pub program_agrees : (n next : ℕ) (qs : PartTrees) → AreLawfulParts of_program (forget_parts qs) → mains 0 ≡ true

@@ -47,6 +47,7 @@ use Rattle.pfc_nesting_laws.proofs.Programs.{has_scopes, own_not_mains, no_accep
 use Rattle.pfc_callee_laws.specs.Callees.{IsActivated, IsSubBlock, IsProcessBlock, HasResultAt}
 use Rattle.pfc_callee_laws.proofs.Fine.{IsOwn}
 use Rattle.pfc_callee_laws.proofs.Known.{are_known, own_is_known}
+use Rattle.pfc_callee_laws.proofs.Mains.{of_mains}
 use Rattle.pfc_callee_laws.proofs.Values.{simple_part_plain}
 use Rattle.pfc_callee_laws.proofs.Images.{IsInImage, block_in_image}
 use Rattle.pfc_callee_laws.proofs.Laid.{IsLaidBy, all_take, all_drop, laid_true, laid_at, in_two, behind_two, accepts_true, are_laid_as}
@@ -54,13 +55,6 @@ use Rattle.pfc_callee_laws.proofs.Program.{HoldsNone, IsPlainName, own_plain, na
 
 one_block : (x y : Block) → Some x ≡ Some y → x ≡ y
 one_block x y e = cc
-
-block_scope : (scope outer : ℕ) (env : Env) (next : ℕ) (b : BodyTree) (layout : Layout) (accepts : ℕ) (guard : Option Guard)
-    → (block_of scope outer env next b layout accepts guard).scope ≡ scope
-block_scope scope outer env next (body ss first last) layout accepts guard = refl
-
-main_scope : (t : ProgramTree) → (program_of t).main.scope ≡ 0
-main_scope t = block_scope 0 _ _ _ t.body _ _ _
 
 module _ (t : ProgramTree) (lawful : IsLawful (forget_program t)) (clean : broken t ≡ []) where
   abbrev g : Program
@@ -71,19 +65,9 @@ module _ (t : ProgramTree) (lawful : IsLawful (forget_program t)) (clean : broke
 
   -- ## Whatever block it is
 
-  main_is_mains : is_mains bs g.main.scope ≡ true
-  main_is_mains = subst (λ (i : ℕ). is_mains bs i ≡ true) (sym (main_scope t)) refl
-
   -- none of main's bodies has its scope
   not_main : (k : ℕ) (b : Block) → slice_get g.blocks k ≡ Some b → (i : ℕ) → slice_get (g.main ∷ g.modules) i ≡ Some b → ⊥
-  not_main k b at i e = clash (own_not_mains t lawful k b at) (scope_of i e)
-    where
-      clash : is_mains bs b.scope ≡ false → is_mains bs b.scope ≡ true → ⊥
-      clash p q = let both : true ≡ false = sym q ∙ p in cc
-
-      scope_of : (i : ℕ) → slice_get (g.main ∷ g.modules) i ≡ Some b → is_mains bs b.scope ≡ true
-      scope_of zero e = subst (λ (x : Block). is_mains bs x.scope ≡ true) (one_block g.main b e) main_is_mains
-      scope_of (suc i) e = (each_of (IsInitial g) g.modules i b (initial_placed t lawful) e).1
+  not_main k b at i e = let both : true ≡ false = sym (of_mains t lawful i b e).own ∙ own_not_mains t lawful k b at in absurd (cc)
 
   abbrev IsPlainLayout : Layout → Type 0
   IsPlainLayout l = (j : ℕ) (m : Meaning) → slice_get l j ≡ Some m → HoldsNone (finished t).forms m
@@ -146,7 +130,8 @@ module _ (t : ProgramTree) (lawful : IsLawful (forget_program t)) (clean : broke
     size : length (map formal_meaning head.formals) ≡ count
     size = length-map head.formals formal_meaning
 
-    result_plain : (sort : SubSort) (j : ℕ) (m : Meaning) → slice_get (result_laid sort) j ≡ Some m → (u : TypeId) × (m ≡ Variable u false) × (sort ≡ Function (Some u))
+    result_plain : (sort : SubSort) (j : ℕ) (m : Meaning) → slice_get (result_laid sort) j ≡ Some m
+        → (u : TypeId) × (m ≡ Variable u false) × (sort ≡ Function (Some u))
     result_plain Procedure j m e = absurd (cc)
     result_plain Guarded j m e = absurd (cc)
     result_plain (Function None) j m e = absurd (cc)
@@ -219,7 +204,8 @@ module _ (t : ProgramTree) (lawful : IsLawful (forget_program t)) (clean : broke
         let scopes = has_scopes t lawful (block_number g head.scope) b h.there in
         let mains : is_mains bs b.scope ≡ false = own_not_mains t lawful (block_number g head.scope) b h.there in
         let headed_by : sub_with bs.subs b.scope ≡ Some head = ap (λ (i : ℕ). sub_with bs.subs i) h.scope ∙ own_sub t n below in
-        let none : is_accept b b.scope ≡ false = (no_accept t lawful (block_number g head.scope) b h.there b.scope (own_is_known g b (own_not_mains t lawful (block_number g head.scope) b h.there)
+        let none : is_accept b b.scope ≡ false = (no_accept t lawful (block_number g head.scope) b h.there b.scope
+        (own_is_known g b (own_not_mains t lawful (block_number g head.scope) b h.there)
         (its_numbers t lawful (block_number g head.scope) b h.there).below (its_layout t lawful (block_number g head.scope) b h.there).sees_own)) in
         let own : own_variables g b ≡ length b.layout =
         ap (λ (r : Bool). if r then length (layout_with (block_site g b) b.scope) else variables_by (block_site g b) b.scope (sub_with bs.subs b.scope)) mains
@@ -326,7 +312,8 @@ module _ (t : ProgramTree) (lawful : IsLawful (forget_program t)) (clean : broke
 
         count_is : own_variables g p ≡ length (laid_names own_names)
         count_is =
-            ap (λ (r : Bool). if r then length (layout_with (block_site g p) p.scope) else variables_by (block_site g p) p.scope (sub_with bs.subs p.scope)) mains
+            ap (λ (r : Bool). if r then length (layout_with (block_site g p) p.scope) else variables_by (block_site g p) p.scope (sub_with bs.subs p.scope))
+            mains
             ∙ ap (λ (i : ℕ). variables_by (block_site g p) i (sub_with bs.subs i)) there.scope
             ∙ ap (λ (o : Option SubHead). variables_by (block_site g p) its.scope o) no_sub
 

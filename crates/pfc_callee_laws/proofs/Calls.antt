@@ -48,13 +48,13 @@ module _ (t : ProgramTree) (lawful : IsLawful (forget_program t)) (clean : broke
   mains_seen : (b : Block) → IsMainsBody t b → (env : Env) (line i : ℕ) → is_in_block (site b env line) i ≡ true → is_mains bs i ≡ true
   mains_seen b is env line i seen =
       elim (or_cases (is_mains bs i) (list_any (λ (level : Level). level.scope == i) b.env.view || is_accept b i) seen) [
-      | inl m ↦ m
-      | inr rest ↦
-          elim (or_cases (list_any (λ (level : Level). level.scope == i) b.env.view) (is_accept b i) rest) [
-            | inl e ↦ is.mains i (any_sees b.env.view i e)
-            | inr e ↦ absurd (let both : true ≡ false = sym e ∙ is.no_accept i in cc)
-          ]
-    ]
+        | inl m ↦ m
+        | inr rest ↦
+            elim (or_cases (list_any (λ (level : Level). level.scope == i) b.env.view) (is_accept b i) rest) [
+              | inl e ↦ is.mains i (any_sees b.env.view i e)
+              | inr e ↦ absurd (let both : true ≡ false = sym e ∙ is.no_accept i in cc)
+            ]
+      ]
 
   -- ## From any body
 
@@ -62,13 +62,13 @@ module _ (t : ProgramTree) (lawful : IsLawful (forget_program t)) (clean : broke
       → callee.outer ≡ i → is_in_block (site b env line) i ≡ true → (is_mains bs i || sees b.env.view i) ≡ true
   block_seen j k b callee at at_callee env line i is seen =
       elim (or_cases (is_mains bs i) (list_any (λ (level : Level). level.scope == i) b.env.view || is_accept b i) seen) [
-      | inl m ↦ or_left (is_mains bs i) (sees b.env.view i) m
-      | inr rest ↦
-          elim (or_cases (list_any (λ (level : Level). level.scope == i) b.env.view) (is_accept b i) rest) [
-            | inl e ↦ or_right (is_mains bs i) (sees b.env.view i) (any_sees b.env.view i e)
-            | inr e ↦ absurd (outside_accepts t lawful j k b callee at at_callee (subst (λ (n : ℕ). is_accept b n ≡ true) (sym is) e))
-          ]
-    ]
+        | inl m ↦ or_left (is_mains bs i) (sees b.env.view i) m
+        | inr rest ↦
+            elim (or_cases (list_any (λ (level : Level). level.scope == i) b.env.view) (is_accept b i) rest) [
+              | inl e ↦ or_right (is_mains bs i) (sees b.env.view i) (any_sees b.env.view i e)
+              | inr e ↦ absurd (outside_accepts t lawful j k b callee at at_callee (subst (λ (n : ℕ). is_accept b n ≡ true) (sym is) e))
+            ]
+      ]
 
   -- where the block that is called is nested
   record IsInside (b callee : Block) : Type 0 where
@@ -126,3 +126,7 @@ module _ (t : ProgramTree) (lawful : IsLawful (forget_program t)) (clean : broke
   pub nested_in_main_code : (i k : ℕ) (b callee : Block) → slice_get (g.main ∷ g.modules) i ≡ Some b → slice_get g.blocks k ≡ Some callee
       → is_mains bs callee.outer ≡ true → IsNested g b callee (links_from bs b callee.outer)
   nested_in_main_code i k b callee at at_callee mains = mains_nested b (of_mains t lawful i b at) k callee at_callee mains
+
+  pub nested_in_main : (k : ℕ) (callee : Block) → slice_get g.blocks k ≡ Some callee → is_mains bs callee.outer ≡ true → IsNested g g.main callee 0
+  nested_in_main k callee at mains =
+      let main = of_mains t lawful 0 g.main refl in nested_in_mains t lawful g.main main.alone main.no_accept k callee at mains

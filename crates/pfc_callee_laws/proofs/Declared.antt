@@ -46,7 +46,8 @@ declare_few s i x m below = by (is_some (meaning_in (scope_at s.blocks.scopes i)
     more : Names
     more = scope_at s.blocks.scopes i ++ (x.0, m) ∷ []
 
-    by : (r : Bool) → length (scope_at (if r then note s (unless false x.1 302) else add_name s i x.0 m).blocks.scopes i) ≤ length (scope_at s.blocks.scopes i) + 1
+    by : (r : Bool) → length (scope_at (if r then note s (unless false x.1 302) else add_name s i x.0 m).blocks.scopes i)
+        ≤ length (scope_at s.blocks.scopes i) + 1
     by true = omega arith
     by false =
         let one = ap length (get_or-set_same s.blocks.scopes i more [] below) in
@@ -324,7 +325,8 @@ module _ (mains : ℕ → Bool) (block : ℕ → Block) where
 
   -- ## Entries
 
-  entry_formals_fine : (reference : Bool) (t : Option TypeId) (h : EntryHeading) (xs : List (Text × Place)) → F h.state → F (entry_formals reference t h xs).state
+  entry_formals_fine : (reference : Bool) (t : Option TypeId) (h : EntryHeading) (xs : List (Text × Place)) → F h.state
+      → F (entry_formals reference t h xs).state
   entry_formals_fine reference t h [] f = f
   entry_formals_fine reference t h (x ∷ xs) f =
       entry_formals_fine reference t (entry_formal reference t h x) xs

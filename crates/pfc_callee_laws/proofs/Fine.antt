@@ -184,7 +184,8 @@ module _ (mains : ℕ → Bool) (block : ℕ → Block) where
   open_sub scopes head h =
       record {
         below = (let more = length-append scopes ([] ∷ []) in let low = h.below in omega (arith, low, more));
-        own = scope_pushed scopes head.scope (λ (names : Names). All (λ x. IsOwn x.1) (drop (length head.formals) names)) h.own (none_own (length head.formals));
+        own = scope_pushed scopes head.scope (λ (names : Names). All (λ x. IsOwn x.1) (drop (length head.formals) names)) h.own
+            (none_own (length head.formals));
         guard = h.guard;
       }
 
@@ -192,7 +193,8 @@ module _ (mains : ℕ → Bool) (block : ℕ → Block) where
   open_process scopes head h =
       record {
         below = (let more = length-append scopes ([] ∷ []) in let low = h.below in omega (arith, low, more));
-        own = scope_pushed scopes head.scope (λ (names : Names). All (λ x. IsOwn x.1) (drop (length head.formals) names)) h.own (none_own (length head.formals));
+        own = scope_pushed scopes head.scope (λ (names : Names). All (λ x. IsOwn x.1) (drop (length head.formals) names)) h.own
+            (none_own (length head.formals));
         outer = h.outer;
         guard = h.guard;
       }

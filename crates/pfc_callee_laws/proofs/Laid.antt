@@ -92,8 +92,8 @@ all_both P Q R f (x ∷ names) h k =
     All-cons R x names (f x (All-head P x names h) (All-head Q x names k)) (all_both P Q R f names (All-tail P x names h) (All-tail Q x names k))
 
 -- what is true of each name is true of each variable
-pub laid_true : (P : Meaning → Type 0) (names : Names) (k : ℕ) (m : Meaning) → All (λ (x : Text × Meaning). P x.1) names → slice_get (laid_names names) k ≡ Some m
-    → P m
+pub laid_true : (P : Meaning → Type 0) (names : Names) (k : ℕ) (m : Meaning) → All (λ (x : Text × Meaning). P x.1) names
+    → slice_get (laid_names names) k ≡ Some m → P m
 laid_true P [] k m h e = absurd (cc)
 laid_true P (x ∷ names) k m h e = by k (is_laid x.1) e (λ j q. laid_true P names j m (All-tail (λ (y : Text × Meaning). P y.1) x names h) q)
   where
@@ -143,7 +143,8 @@ accepts_true P (names ∷ accepts) k m h e =
 
 pub are_laid_as : (formals : List Formal) → all_typed formals ≡ true → AreLaidAs formals (map formal_meaning formals)
 are_laid_as [] h = tt
-are_laid_as (f ∷ formals) h = (one f.t f.reference (and_left (is_some f.t) (all_typed formals) h), are_laid_as formals (and_right (is_some f.t) (all_typed formals) h))
+are_laid_as (f ∷ formals) h =
+    (one f.t f.reference (and_left (is_some f.t) (all_typed formals) h), are_laid_as formals (and_right (is_some f.t) (all_typed formals) h))
   where
     one : (o : Option TypeId) (r : Bool) → is_some o ≡ true → (t : TypeId) × (o ≡ Some t) × (variable_meaning r o ≡ Variable t r)
     one None r h = absurd (cc)

@@ -13,3 +13,7 @@ pub mod Program
 pub mod Blocks
 pub mod Mains
 pub mod Calls
+pub mod Modules
+pub mod Processes
+pub mod Guarded
+pub mod Requeues

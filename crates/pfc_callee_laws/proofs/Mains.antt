@@ -28,14 +28,14 @@ one_block x y e = cc
 
 -- ## Initialising bodies
 
--- it has no accepts, and the cells of its own layout
+-- it has no accepts, and the cells of its own layout, and is no guarded procedure's
 abbrev IsSmall : State → Block → Type 0
-IsSmall s b = (b.accepts ≡ 0) × (b.cells ≡ layout_cells s.forms b.layout)
+IsSmall s b = (b.accepts ≡ 0) × (b.cells ≡ layout_cells s.forms b.layout) × (b.env.around.guarded ≡ false)
 
 module _ (s : State) where
   init_small : (scope : ℕ) (view : List Level) (next : ℕ) (b : Option BodyTree) → All (IsSmall s) (init_block s scope view next b)
   init_small scope view next None = All-nil (IsSmall s)
-  init_small scope view next (Some (body ss first last)) = All-cons (IsSmall s) _ [] (refl, refl) (All-nil (IsSmall s))
+  init_small scope view next (Some (body ss first last)) = All-cons (IsSmall s) _ [] (refl, refl, refl) (All-nil (IsSmall s))
 
   module_small : (n next : ℕ) (m : ModuleTree) → All (IsSmall s) (module_inits s n next m)
   module_small n next (the_module x exports ps b last p) = init_small next _ (next + 1 + parts_scopes ps) b
@@ -76,6 +76,13 @@ main_env_is : (scope outer : ℕ) (env : Env) (next : ℕ) (b : BodyTree) (layou
     → (block_of scope outer env next b layout accepts guard).env ≡ env
 main_env_is scope outer env next (body ss from to) layout accepts guard = refl
 
+main_scope_is : (scope outer : ℕ) (env : Env) (next : ℕ) (b : BodyTree) (layout : Layout) (accepts : ℕ) (guard : Option Guard)
+    → (block_of scope outer env next b layout accepts guard).scope ≡ scope
+main_scope_is scope outer env next (body ss from to) layout accepts guard = refl
+
+pub main_scope : (t : ProgramTree) → (program_of t).main.scope ≡ 0
+main_scope t = main_scope_is 0 _ _ _ t.body _ _ _
+
 main_sees : (t : ProgramTree) (i : ℕ) → sees (program_of t).main.env.view i ≡ true → is_mains (program_of t).state.blocks i ≡ true
 main_sees t i h =
     by (0 == i) refl
@@ -89,17 +96,22 @@ pub of_mains : (t : ProgramTree) → IsLawful (forget_program t) → (i : ℕ) (
     → slice_get ((program_of t).main ∷ (program_of t).modules) i ≡ Some b → IsMainsBody t b
 of_mains t lawful zero b e =
     subst (IsMainsBody t) (one_block (program_of t).main b e) (record {
+      own = subst (λ (i : ℕ). is_mains (program_of t).state.blocks i ≡ true) (sym (main_scope t)) refl;
       mains = main_sees t;
       alone = main_alone t lawful;
+      unguarded = ap (λ (e : Env). e.around.guarded) (main_env_is 0 0 (env_of_main (finished t)) (1 + parts_scopes t.parts) t.body _ 0 None);
       no_accept = main_has_none t lawful;
       cells = main_cells_are t;
     })
 of_mains t lawful (suc i) b e =
     let small = each_of (IsSmall (finished t)) (program_of t).modules i b (parts_small (finished t) 0 1 t.parts) e in
-    let mains = (each_of (IsInitial (program_of t)) (program_of t).modules i b (initial_placed t lawful) e).2 in
+    let placed = each_of (IsInitial (program_of t)) (program_of t).modules i b (initial_placed t lawful) e in
+    let mains = placed.2 in
     record {
+      own = placed.1;
       mains = mains;
       alone = nothing_linked (program_of t).state.blocks b.env.view mains;
+      unguarded = small.2;
       no_accept = no_accept_by b small.0;
       cells = small.1;
     }

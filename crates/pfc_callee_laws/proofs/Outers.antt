@@ -198,7 +198,7 @@ mutual
       high_only : (j high accepts : ℕ) → j < high → (nat_le high j && nat_lt j (high + accepts)) ≡ true → ⊥
       high_only j high accepts less h = grind (arith, h, less)
 
-      low : (next high accepts : ℕ) (c : Block) → StandsIn next (next + 1) high c → next < high → (nat_le high c.outer && nat_lt c.outer (high + accepts)) ≡ true
-          → ⊥
+      low : (next high accepts : ℕ) (c : Block) → StandsIn next (next + 1) high c → next < high
+          → (nat_le high c.outer && nat_lt c.outer (high + accepts)) ≡ true → ⊥
       low next high accepts c (inl at) more e = high_only c.outer high accepts (omega (arith, at, more)) e
       low next high accepts c (inr k) more e = high_only c.outer high accepts k.1 e

@@ -219,7 +219,7 @@ module _ (g : Setting) (b : Block) (names : List Level) (around : Around) (check
       (q : ℕ) (args : ActualTrees) (at n : ℕ) (ops : List ℤ)
       → (let sub = sub_at g.program.state.blocks q in
       let code = args_code s sub.formals args ⨾ one s (REQ (resource_of s) (block_number g.program sub.scope)) in
-      IsSubCall s ByRequeue q args → AreOver g ops → Stands g at n (length ops) code → Follows g (from_args x sub.formals args [] (to_requeue sub.scope)) at ops [])
+      IsSubCall s (ByRequeue b) q args → AreOver g ops → Stands g at n (length ops) code → Follows g (from_args x sub.formals args [] (to_requeue sub.scope)) at ops [])
   requeue_follows q args at n ops is over st =
       let sub = sub_at g.program.state.blocks q in
       let code = args_code s sub.formals args in

@@ -76,7 +76,7 @@ ModuleCallFollows g b x =
 
 abbrev pub RequeueFollows : Setting → Block → Context → Type 0
 RequeueFollows g b x =
-    IsChecked g b x.env → g.trial ≡ of_own → (q : ℕ) (args : ActualTrees) (go : Action) → IsSubCall (site_of g b x) ByRequeue q args
+    IsChecked g b x.env → g.trial ≡ of_own → (q : ℕ) (args : ActualTrees) (go : Action) → IsSubCall (site_of g b x) (ByRequeue b) q args
     → (at i : ℕ) (ops : List ℤ) → AreOver g ops → Stands g at i (length ops) (requeue_code (site_of g b x) (Some (Sub q)) args)
     → Follows g (from_requeue x (Some (Sub q)) args go) at ops []
 

@@ -12,10 +12,10 @@ use Rattle.pfc_semantics.specs.Displays.{Spot}
 use Rattle.pfc_semantics.specs.Programs.{Program}
 use Rattle.pfc_semantics.specs.Remainders.{Context, Replica, Accepting, Offer, Open, Otherwise, Selecting, Scan, Remainder, to_send, to_receive, to_accept, to_wait, to_end, perform, in_names, part_from}
 use Rattle.pfc_semantics.specs.Statements.{behind}
-use Rattle.pfc_semantics.specs.Configurations.{Hand, empty_hand, offering, asking, barred_at, Mark, Activation, Config, activity_of, goes_on, showing, written_for}
-use Rattle.pfc_semantics.specs.Channels.{arm_of, arms_of_all, is_communication, communications, behind_replica, behind_open, Side, is_arm, first_open, side_in, side_of, goes_behind, delivered, sent_into, sent_to, received_out, received_from}
+use Rattle.pfc_semantics.specs.Configurations.{Hand, empty_hand, offering, asking, barred_at, Mark, Activation, Config, activity_of, goes_on}
+use Rattle.pfc_semantics.specs.Channels.{arm_of, is_communication, communications, behind_replica, behind_open, Side, is_arm, first_open, side_in, side_of, goes_behind, delivered, sent_into, sent_to, received_out, received_from}
 use Rattle.pfc_semantics.specs.Rendezvous.{parameters_taken, meeting_of, met_by, called_into, called_at, asked, accepts_from}
-use Rattle.pfc_semantics.specs.Selects.{communicates_by, communicates, partner_at, plainly, meets_or_waits, meets_at, matched_places, place_taken, open_at, takes, Timeout, timeout_at, or_timeout, open_timeout, latest, waits_until, waits_or_closed, times_out, goes_otherwise, decides_by}
+use Rattle.pfc_semantics.specs.Selects.{communicates_by, communicates, partner_at, meets_or_waits, meets_at, matched_places, place_taken, open_at, takes, Timeout, timeout_at, or_timeout, open_timeout, latest, waits_until, waits_or_closed, times_out, goes_otherwise, decides_by}
 use Rattle.pfc_guard_laws.specs.Remainders.{SuitsOffer, SuitsOpen, SuitOpens, SuitsOtherwise, SuitsSelecting, SuitsRemainder}
 use Rattle.pfc_guard_laws.specs.Configurations.{mark_in, SuitsHand, SuitsConfig}
 use Rattle.pfc_guard_laws.proofs.Statements.{behind_suits}
@@ -269,10 +269,11 @@ module _ (g : Program) (scanned : List Activation → Scan → Type 0) where
 
         otherwise_suits :
             (other : Option Otherwise) → SuitsOtherwise g (mark_in (owns p)) x.env other → SuitsEffect g scanned (goes_otherwise g c p x s k other)
-        otherwise_suits (Some other) stmts =
-            (owns,
-             on_it_goes g scanned owns c p x (behind other.next other.stmts k) suits
-             (behind_suits g (mark_in (owns p)) (scanned (owns p)) x.env other.next other.stmts k stmts left))
+        otherwise_suits (Some other) stmts = (
+          owns,
+          on_it_goes g scanned owns c p x (behind other.next other.stmts k) suits
+              (behind_suits g (mark_in (owns p)) (scanned (owns p)) x.env other.next other.stmts k stmts left),
+        )
         otherwise_suits None stmts = out_suits (open_timeout s.offered) (open_timeout_suits g (mark_in (owns p)) x.env s.offered all.0)
 
         pub decides_suit : (choice : ℕ) (places : List ℕ) → SuitsEffect g scanned (decides_by g c p x s k choice places)

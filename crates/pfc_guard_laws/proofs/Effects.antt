@@ -16,7 +16,7 @@ use Rattle.pfc_world.specs.Tables.{at, some_created}
 use Rattle.pfc_world.specs.Transitions.{placed, blocked, all_started, finished}
 use Rattle.pfc_world.specs.Partners.{is_accepting, is_empty_condition, next_barred}
 use Rattle.pfc_world.specs.Rendezvous.{is_uncalled, called as called_in}
-use Rattle.pfc_world.specs.Semaphores.{counting, is_overfull, signalled}
+use Rattle.pfc_world.specs.Semaphores.{is_overfull, signalled}
 use Rattle.pfc_world.specs.Monitors.{entered}
 use Rattle.pfc_world.specs.Resources.{resource_entered}
 use Rattle.pfc_semantics.specs.Values.{Value, ordinal}
@@ -28,7 +28,7 @@ use Rattle.pfc_semantics.specs.Programs.{Guard, Block, Program, block_at}
 use Rattle.pfc_semantics.specs.Remainders.{Context, Argument, Bar, Call, Remainder, AwaitsValue, Scan, Tried, Way, leave, own as trying, in_names, scan_on, try_guard, try_other, to_procedure, to_function, to_module, to_requeue, to_process, to_entry, Action, reads, writes, turns, calls, finishes, prints, inputs, skips, asks_eof, asks_eoln, asks_clock, asks_empty, draws, joins, initials, waits, signals, delays, resumes, sleeps, meets, decides, parts, scans, bars, passes, faults}
 use Rattle.pfc_semantics.specs.Rewriting.{going, holding}
 use Rattle.pfc_semantics.specs.Configurations.{Mark, plain, of_monitor, of_resource, Caller, of_nobody, of_remainder, of_value, Activation, Activity, Hand, empty_hand, offering, asking, barred_at, Config, Effect, activity_of, goes_on, showing, value_for, number_for, written_for, all_passed, with_table, counted, with_counted, monitors_held, with_monitors, resources_held, with_resources, body_of}
-use Rattle.pfc_semantics.specs.Calls.{cells_above, new_number, new_values, new_activation, activated, result_in, unless_full, left_by}
+use Rattle.pfc_semantics.specs.Calls.{cells_above, new_number, new_values, new_activation, activated, result_in, unless_full}
 use Rattle.pfc_semantics.specs.Processes.{declaration_of, process_block, created, creates, joined, ended_activity, without_all, ended_process}
 use Rattle.pfc_semantics.specs.Semaphores.{initials_at, signals_to}
 use Rattle.pfc_semantics.specs.Monitors.{enters_monitor}
@@ -76,9 +76,10 @@ module _ (g : Program) (program : SuitsProgram g) (scanned : List Activation →
       (scope : ℕ) (m : Mark) → MayRequeue g m scope → (own : List Activation)
       → (let b = block_at g scope in let r = resource_marked m in
       SuitsRemainder g m (scanned own) b.env (scan_on (scan_of g r (way_to g r b b.guard)) (in_names b.env (body_of b))))
-  requeue_left scope (of_resource r) may own =
-      (by (block_at g scope).guard refl may.1,
-       λ (i : Env). body_suits g program (of_resource r) (scanned own) (block_at g scope) (entered_suits g program scope r may.0))
+  requeue_left scope (of_resource r) may own = (
+    by (block_at g scope).guard refl may.1,
+    λ (i : Env). body_suits g program (of_resource r) (scanned own) (block_at g scope) (entered_suits g program scope r may.0),
+  )
     where
       by : (o : Option Guard) → (block_at g scope).guard ≡ o → is_some o ≡ true
           → SuitsScan g (scanned own) (scan_of g r (way_to g r (block_at g scope) o))
@@ -88,7 +89,7 @@ module _ (g : Program) (program : SuitsProgram g) (scanned : List Activation →
   requeue_left scope plain may own = absurd may
 
   module _ (c : Config) (owns : ℕ → List Activation) (suits : SuitsConfig g scanned owns c) (p : ℕ) (ready : is_ready (at c.table.rows p) ≡ true)
-      (returned_so : IsReturned g scanned c p) where
+      (act : Action) (returned_so : (line : ℕ) → act ≡ finishes line → IsReturned g scanned c p) where
     -- what is left of the process, and what awaited there
     abbrev Left : Env → Remainder → Type 0
     Left env k = SuitsRemainder g (mark_in (owns p)) (scanned (owns p)) env k
@@ -148,10 +149,11 @@ module _ (g : Program) (program : SuitsProgram g) (scanned : List Activation →
         let values = new_values g b (all_passed g c p args) in
         let new : Activation = record a { number = new_number c; scope = b.scope; cells = cells_above below b } in
         let here : MayRequeue g a.mark scope = subst (λ (l : List Activation). MayRequeue g (mark_in l) scope) stands may in
-        full_suits g scanned p (cells_above below b) (requeued_in g c p b args a below)
-        (instead owns p (new ∷ below),
-         instead_suits g scanned owns (record c { store = with_room (without c.store a.number) (new_number c) values }) p (new ∷ below) _ suits
-         (record { stands = refl; doing = requeue_left scope a.mark here (new ∷ below); activations = all; hand = tt }))
+        full_suits g scanned p (cells_above below b) (requeued_in g c p b args a below) (
+          instead owns p (new ∷ below),
+          instead_suits g scanned owns (record c { store = with_room (without c.store a.number) (new_number c) values }) p (new ∷ below) _ suits
+              (record { stands = refl; doing = requeue_left scope a.mark here (new ∷ below); activations = all; hand = tt }),
+        )
 
     creates_suits :
         (x : Context) (s : Spot) (args : List Argument) (k : Remainder) → Left x.env k → SuitsEffect g scanned (creates g c p x s args k)
@@ -186,10 +188,11 @@ module _ (g : Program) (program : SuitsProgram g) (scanned : List Activation →
         by true e = tt
         by false e =
             let apart = apart_from c.table.rows p n ready e in
-            full_suits g scanned n (cells_above [] b) (goes_on g new p x k)
-            (instead owns n own,
-             on_it_goes g scanned (instead owns n own) new p x k new_suits
-             (subst (λ (l : List Activation). SuitsRemainder g (mark_in l) (scanned l) x.env k) (sym (other_instead owns n own p apart)) left))
+            full_suits g scanned n (cells_above [] b) (goes_on g new p x k) (
+              instead owns n own,
+              on_it_goes g scanned (instead owns n own) new p x k new_suits
+                  (subst (λ (l : List Activation). SuitsRemainder g (mark_in l) (scanned l) x.env k) (sym (other_instead owns n own p apart)) left),
+            )
 
     enters_suit :
         (x : Context) (s : Spot) (entry : ℕ) (args : List Argument) (k : Remainder) → Left x.env k → SuitsEffect g scanned (enters g c p x s entry args k)
@@ -222,13 +225,14 @@ module _ (g : Program) (program : SuitsProgram g) (scanned : List Activation →
 
     ended_suits : SuitsEffect g scanned (Ok (ended_process g c p))
     ended_suits =
-        let a : Activity = activity_of g c p in
-        (owns,
-         with_activity_suits g scanned owns (record c { store = without_all c.store a.activations; table = finished c.table p }) p (ended_activity a) suits
-         (record { stands = tt; doing = (suits p).doing; activations = tt; hand = tt }))
+        let a : Activity = activity_of g c p in (
+          owns,
+          with_activity_suits g scanned owns (record c { store = without_all c.store a.activations; table = finished c.table p }) p (ended_activity a) suits
+              (record { stands = tt; doing = (suits p).doing; activations = tt; hand = tt }),
+        )
 
     module _ (a : Activation) (below : List Activation) (innermost : (activity_of g c p).activations ≡ a ∷ below)
-        (others : SuitActivations g scanned below) (own : List Activation) (stands : StandsOn own below) where
+        (others : SuitActivations g scanned below) (own : List Activation) (stands : StandsOn own below) (returned : IsReturned g scanned c p) where
       returns_suit :
           (env : Env) (k : Remainder) (mark : Mark) → a.caller ≡ of_remainder env k → a.mark ≡ mark
           → SuitsRemainder g (mark_in own) (scanned own) env k → SuitsEffect g scanned (Ok (returns_to g c p a below env k mark))
@@ -236,7 +240,7 @@ module _ (g : Program) (program : SuitsProgram g) (scanned : List Activation →
       returns_suit env k (of_monitor m) is marked left = left_suits g scanned owns c p a below own (going env k) suits stands others left
       returns_suit env k (of_resource r) is marked left =
           left_suits g scanned owns c p a below own (going env (scan_on (scan_of g r leave) (in_names env k))) suits stands others
-          ((returned_so a below own env k r innermost is stands marked, tt), λ (i : Env). left)
+          ((returned a below own env k r innermost is stands marked, tt), λ (i : Env). left)
 
       ends_suit : (caller : Caller) → a.caller ≡ caller → SuitsCaller g scanned own caller → SuitsEffect g scanned (Ok (ends_for g c p a below caller))
       ends_suit of_nobody is awaited = ended_suits
@@ -244,10 +248,10 @@ module _ (g : Program) (program : SuitsProgram g) (scanned : List Activation →
       ends_suit (of_value x u) is awaited = left_suits g scanned owns c p a below own (holding x (result_in g c a) u) suits stands others awaited
 
     body_ends :
-        (activations : List Activation) → (activity_of g c p).activations ≡ activations → SuitActivations g scanned activations
+        IsReturned g scanned c p → (activations : List Activation) → (activity_of g c p).activations ≡ activations → SuitActivations g scanned activations
         → SuitsEffect g scanned (ends_body g c p activations)
-    body_ends [] is all = ended_suits
-    body_ends (a ∷ below) is all = ends_suit a below is all.1 all.0.0 all.0.1 a.caller refl all.0.2
+    body_ends returned [] is all = ended_suits
+    body_ends returned (a ∷ below) is all = ends_suit a below is all.1 all.0.0 all.0.1 returned a.caller refl all.0.2
 
     -- ## Input, draws and time
 
@@ -333,33 +337,33 @@ module _ (g : Program) (program : SuitsProgram g) (scanned : List Activation →
 
     -- ## Every action
 
-    pub effect_suits : (choice : ℕ) (n : Action) → SuitsAction g (mark_in (owns p)) (scanned (owns p)) n → SuitsEffect g scanned (effect g c p choice n)
-    effect_suits choice (reads x s u) n = (owns, it_holds g scanned owns c p x (value_for g c p s) u suits n)
-    effect_suits choice (writes x s v k) n = (owns, on_it_goes g scanned owns (written_for g c p s v) p x k suits n)
-    effect_suits choice (turns x k) n = on x k n
-    effect_suits choice (calls x call args) n = calls_suit x call args n
-    effect_suits choice (finishes line) n = body_ends (activity_of g c p).activations refl (suits p).activations
-    effect_suits choice (prints x bytes k) n = (owns, on_it_goes g scanned owns (record c { output = c.output ++ bytes }) p x k suits n)
-    effect_suits choice (inputs x t s k) n = read_suits x s k (item (simple_of t) c.input.bytes) n
-    effect_suits choice (skips x k) n = skipped_suits x k (skipped c.input.whole_lines c.input.bytes) n
-    effect_suits choice (asks_eof x u) n = (owns, it_holds g scanned owns c p x (ordinal (truth (at_end c.input.bytes))) u suits n)
-    effect_suits choice (asks_eoln x u) n = (owns, it_holds g scanned owns c p x (ordinal (truth (at_line_end c.input.bytes))) u suits n)
-    effect_suits choice (asks_clock x u) n = clocked_suits x u (fitting (pos (c.table.moment / 1000))) n
-    effect_suits choice (asks_empty x s u) n =
-        (owns, it_holds g scanned owns c p x (ordinal (truth (is_empty_condition c.table.rows (number_for g c p s)))) u suits n)
-    effect_suits choice (draws x m u) n = drawn_suits x u (after_draw c.words m) (drawn c.words m) n
-    effect_suits choice (joins x k) n = joined_suits x k n
-    effect_suits choice (initials x s m k) n = initials_suit x k n s m
-    effect_suits choice (waits x s k) n = on x k n
-    effect_suits choice (signals x s k) n = signals_suit x k n s
-    effect_suits choice (delays x s rank k) n = on x k n
-    effect_suits choice (resumes x s k) n = on x k n
-    effect_suits choice (sleeps x m k) n = sleeps_suit x k n m
-    effect_suits choice (meets x o k) n = meets_suit g scanned owns c suits p x o k n.0 n.1
-    effect_suits choice (decides x s k) n = decides_suit g scanned owns c suits p x s n.0 k n.1 choice (matched_places g c p s)
-    effect_suits choice (parts x caller k) n = on x k n
-    effect_suits choice (scans x s k) n =
-        let q = next_barred c.table.rows s.resource s.after in scanned_suits x k n.2 s (tried_at g c q) n.1 (tried_at_suits q)
-    effect_suits choice (bars x b k) n = barred_suits x k n.2 b n.1
-    effect_suits choice (passes x w s k) n = passed_suits x k n.2 w s.resource s.way n.1.1
-    effect_suits choice (faults x f) n = tt
+    pub effect_suits : (choice : ℕ) (m : Action) → act ≡ m → SuitsAction g (mark_in (owns p)) (scanned (owns p)) m → SuitsEffect g scanned (effect g c p choice m)
+    effect_suits choice (reads x s u) e suited = (owns, it_holds g scanned owns c p x (value_for g c p s) u suits suited)
+    effect_suits choice (writes x s v k) e suited = (owns, on_it_goes g scanned owns (written_for g c p s v) p x k suits suited)
+    effect_suits choice (turns x k) e suited = on x k suited
+    effect_suits choice (calls x call args) e suited = calls_suit x call args suited
+    effect_suits choice (finishes line) e suited = body_ends (returned_so line e) (activity_of g c p).activations refl (suits p).activations
+    effect_suits choice (prints x bytes k) e suited = (owns, on_it_goes g scanned owns (record c { output = c.output ++ bytes }) p x k suits suited)
+    effect_suits choice (inputs x t s k) e suited = read_suits x s k (item (simple_of t) c.input.bytes) suited
+    effect_suits choice (skips x k) e suited = skipped_suits x k (skipped c.input.whole_lines c.input.bytes) suited
+    effect_suits choice (asks_eof x u) e suited = (owns, it_holds g scanned owns c p x (ordinal (truth (at_end c.input.bytes))) u suits suited)
+    effect_suits choice (asks_eoln x u) e suited = (owns, it_holds g scanned owns c p x (ordinal (truth (at_line_end c.input.bytes))) u suits suited)
+    effect_suits choice (asks_clock x u) e suited = clocked_suits x u (fitting (pos (c.table.moment / 1000))) suited
+    effect_suits choice (asks_empty x s u) e suited =
+        (owns, it_holds g scanned owns c p x (ordinal (truth (is_empty_condition c.table.rows (number_for g c p s)))) u suits suited)
+    effect_suits choice (draws x m u) e suited = drawn_suits x u (after_draw c.words m) (drawn c.words m) suited
+    effect_suits choice (joins x k) e suited = joined_suits x k suited
+    effect_suits choice (initials x s m k) e suited = initials_suit x k suited s m
+    effect_suits choice (waits x s k) e suited = on x k suited
+    effect_suits choice (signals x s k) e suited = signals_suit x k suited s
+    effect_suits choice (delays x s rank k) e suited = on x k suited
+    effect_suits choice (resumes x s k) e suited = on x k suited
+    effect_suits choice (sleeps x m k) e suited = sleeps_suit x k suited m
+    effect_suits choice (meets x o k) e suited = meets_suit g scanned owns c suits p x o k suited.0 suited.1
+    effect_suits choice (decides x s k) e suited = decides_suit g scanned owns c suits p x s suited.0 k suited.1 choice (matched_places g c p s)
+    effect_suits choice (parts x caller k) e suited = on x k suited
+    effect_suits choice (scans x s k) e suited =
+        let q = next_barred c.table.rows s.resource s.after in scanned_suits x k suited.2 s (tried_at g c q) suited.1 (tried_at_suits q)
+    effect_suits choice (bars x b k) e suited = barred_suits x k suited.2 b suited.1
+    effect_suits choice (passes x w s k) e suited = passed_suits x k suited.2 w s.resource s.way suited.1.1
+    effect_suits choice (faults x f) e suited = tt

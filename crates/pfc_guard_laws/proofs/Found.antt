@@ -1,8 +1,8 @@
 -- Blocks by their scopes: whatever has a guard is found by its scope.
-use Rattle.std.proofs.Common.{◌≡◌, ℕ, zero, suc, ◌+◌, Bool, true, false, not, cond, if◌then◌else◌, List, [], ◌∷◌, length, Option, Some, None, refl, ap, sym, ◌∙◌, subst, arith}
+use Rattle.std.proofs.Common.{◌≡◌, ℕ, suc, ◌+◌, Bool, true, false, not, cond, if◌then◌else◌, List, [], ◌∷◌, length, Some, None, refl, ap, sym, ◌∙◌, arith}
 use Rattle.std.proofs.lemmas.Bool.Decides.{nat_tests}
 use Rattle.std.specs.Prelude.{◌==◌, nat_lt, unwrap_or, slice_get}
-use Rattle.std.specs.List.{AllByRecursion, prefix_len, position_or_len}
+use Rattle.std.specs.List.{AllByRecursion, position_or_len}
 use Rattle.pfc_semantics.specs.Programs.{Block, Guard, Program, found_block, block_at, block_number}
 
 number_equal : (m n : ℕ) → (m == n) ≡ true → m ≡ n

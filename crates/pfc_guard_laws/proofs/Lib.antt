@@ -8,3 +8,4 @@ pub mod Steps
 pub mod Communications
 pub mod Effects
 pub mod Runs
+pub mod Leaving

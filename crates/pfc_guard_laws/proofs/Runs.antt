@@ -1,7 +1,6 @@
 -- Wherever a run comes what is left calls what the rules ask, and each guard is of its own resource.
 use Rattle.std.proofs.Common.{◌≡◌, ℕ, zero, suc, Bool, true, false, if◌then◌else◌, List, [], ◌∷◌, get_or, map, Some, Ok, Err, refl, subst}
 use Rattle.std.specs.List.{AllByRecursion}
-use Rattle.pfc_types.specs.Blocks.{process_at}
 use Rattle.pfc_types.specs.rules.Expressions.{Env}
 use Rattle.pfc_state.specs.Stands.{Stand, may_end, is_ready}
 use Rattle.pfc_world.specs.Tables.{Table, at}
@@ -9,7 +8,7 @@ use Rattle.pfc_world.specs.Transitions.{ticked}
 use Rattle.pfc_world.specs.Settling.{may_all_end, settled}
 use Rattle.pfc_semantics.specs.Programs.{Block, Program}
 use Rattle.pfc_semantics.specs.Remainders.{Action, Bar, Scan, Remainder, in_names, scans, bars}
-use Rattle.pfc_semantics.specs.Configurations.{Mark, plain, Activation, Activity, Hand, barred_at, Config, Effect, nobody, activity_of, body_of, initialising, main_activation, main_activity, idle_activity, start, done_at, after}
+use Rattle.pfc_semantics.specs.Configurations.{Mark, plain, Activation, Activity, Hand, barred_at, Config, Effect, nobody, activity_of, body_of, initialising, main_activation, idle_activity, start, done_at, after}
 use Rattle.pfc_semantics.specs.Processes.{ended_activity}
 use Rattle.pfc_semantics.specs.Steps.{next_of, effect, line_of}
 use Rattle.pfc_semantics.specs.Events.{step}
@@ -20,9 +19,9 @@ use Rattle.pfc_guard_laws.specs.Remainders.{SuitsBar, SuitsRemainder, SuitsActio
 use Rattle.pfc_guard_laws.specs.Configurations.{SuitsProgram, mark_in, SuitsHand, SuitsActivity, SuitsConfig}
 use Rattle.pfc_guard_laws.specs.Runs.{RunsTo, at_first, acts}
 use Rattle.pfc_guard_laws.proofs.Statements.{behind_suits}
-use Rattle.pfc_guard_laws.proofs.Rewriting.{GoesPast, next_suits}
+use Rattle.pfc_guard_laws.proofs.Rewriting.{next_suits}
 use Rattle.pfc_guard_laws.proofs.Steps.{SuitsEffect, body_suits, with_activity_suits}
-use Rattle.pfc_guard_laws.proofs.Effects.{IsRequeued, IsReturned, effect_suits}
+use Rattle.pfc_guard_laws.proofs.Effects.{effect_suits}
 
 module _ (g : Program) (scanned : List Activation → Scan → Type 0) where
   -- ## Settling
@@ -50,10 +49,11 @@ module _ (g : Program) (scanned : List Activation → Scan → Type 0) where
   -- ## Steps
 
   done_suits : (c : Config) (p line : ℕ) → SuitsEffect g scanned (Ok c) → SuitsEffect g scanned (Ok (done_at g c p line))
-  done_suits c p line so =
-      (so.0,
-       with_activity_suits g scanned so.0 (record c { table = ticked c.table }) p _ so.1
-       (record { stands = (so.1 p).stands; doing = (so.1 p).doing; activations = (so.1 p).activations; hand = (so.1 p).hand }))
+  done_suits c p line so = (
+    so.0,
+    with_activity_suits g scanned so.0 (record c { table = ticked c.table }) p _ so.1
+        (record { stands = (so.1 p).stands; doing = (so.1 p).doing; activations = (so.1 p).activations; hand = (so.1 p).hand }),
+  )
 
   pub after_suits :
       (c : Config) (p line : ℕ) (e : Effect) → SuitsEffect g scanned (Ok c) → SuitsEffect g scanned e → SuitsEffect g scanned (Ok (after g c p line e))
@@ -101,7 +101,8 @@ module _ (g : Program) (program : SuitsProgram g) where
       let doing = (activity_of g c p).doing in
       let suits = next_suits g (mark_in (so.0 p)) (anything (so.0 p)) (λ s ticket is. tt) doing (so.1 p).doing in
       after_suits g anything c p (line_of (next_of g c p)) (effect g c p choice (next_of g c p)) so
-      (effect_suits g program anything (λ own r bar. tt) c so.0 so.1 p ready (λ a below own env k r is caller stands marked. tt) choice (next_of g c p) suits)
+      (effect_suits g program anything (λ own r bar. tt) c so.0 so.1 p ready (next_of g c p) (λ line e a below own env k r is caller stands marked. tt)
+      choice (next_of g c p) refl suits)
 
   pub all_come_suited : (first c : Config) → SuitsEffect g anything (Ok first) → RunsTo g first c → SuitsEffect g anything (Ok c)
   all_come_suited first _ so at_first = so

@@ -171,15 +171,17 @@ module _ (g : Program) (scanned : List Activation → Scan → Type 0) where
     activated_suits c p b mark caller args k suits waits left =
         let a = activity_of g c p in
         let values = new_values g b (all_passed g c p args) in
-        let own = new_activation c a a.activations b mark caller a.display ∷ a.activations in
-        (instead owns p own,
-         instead_suits owns (record c { store = with_room c.store (new_number c) values }) p own _ suits
-         (record { stands = refl; doing = left; activations = ((owns p, (suits p).stands, waits), (suits p).activations); hand = tt }))
+        let own = new_activation c a a.activations b mark caller a.display ∷ a.activations in (
+          instead owns p own,
+          instead_suits owns (record c { store = with_room c.store (new_number c) values }) p own _ suits
+              (record { stands = refl; doing = left; activations = ((owns p, (suits p).stands, waits), (suits p).activations); hand = tt }),
+        )
 
     pub left_suits :
         (c : Config) (p : ℕ) (a : Activation) (below own : List Activation) (doing : Doing) → SuitsConfig g scanned owns c → StandsOn own below
         → SuitActivations g scanned below → SuitsDoing g (mark_in own) (scanned own) doing → SuitsEffect (Ok (left_by g c p a below doing))
-    left_suits c p a below own doing suits stands others does =
-        (instead owns p own,
-         instead_suits owns (record c { store = without c.store a.number }) p own _ suits
-         (record { stands = stands; doing = does; activations = others; hand = tt }))
+    left_suits c p a below own doing suits stands others does = (
+      instead owns p own,
+      instead_suits owns (record c { store = without c.store a.number }) p own _ suits
+          (record { stands = stands; doing = does; activations = others; hand = tt }),
+    )

@@ -1,11 +1,12 @@
 -- Programs and configurations in which what is called is as the rules ask.
-use Rattle.std.specs.Prelude.{ℕ, ◌≡◌, List, [], ◌∷◌, Option, Some, None}
+use Rattle.std.specs.Prelude.{ℕ, ◌≡◌, ◌≢◌, List, [], ◌∷◌, Option, Some, None, All}
 use Rattle.std.specs.List.{AllByRecursion}
 use Rattle.pfc_semantics.specs.Programs.{Guard, Block, Program}
-use Rattle.pfc_semantics.specs.Remainders.{Scan}
+use Rattle.pfc_semantics.specs.Remainders.{Way, Scan, Action, leave, own as trying, scans, passes}
 use Rattle.pfc_semantics.specs.Configurations.{Mark, plain, of_resource, Caller, of_nobody, of_remainder, of_value, Activation, Hand, empty_hand, offering, asking, barred_at, Activity, Config, declared_block, activity_of}
 use Rattle.pfc_translation.specs.Calls.{resource_of}
 use Rattle.pfc_translation.specs.Images.{site_in}
+use Rattle.pfc_run_rules.specs.Rules.{HasLeft}
 use Rattle.pfc_guard_laws.specs.Written.{SuitsExpr, SuitStmts}
 use Rattle.pfc_guard_laws.specs.Remainders.{SuitsBar, SuitOpens, SuitsRemainder, SuitsAwaiting, SuitsDoing}
 
@@ -66,3 +67,19 @@ module _ (g : Program) (scanned : List Activation → Scan → Type 0) where
 
   abbrev pub SuitsConfig : (ℕ → List Activation) → Config → Type 0
   SuitsConfig owns c = (q : ℕ) → SuitsActivity (owns q) (activity_of g c q)
+
+-- ## Who has left
+
+-- behind a return from a resource none of the activations that are left has entered it
+abbrev pub LeftFor : Way → ℕ → List Activation → Type 0
+LeftFor leave r own = All (λ (a : Activation). a.mark ≢ of_resource r) own
+LeftFor (trying bar) r own = Unit {0}
+
+abbrev pub Left : List Activation → Scan → Type 0
+Left own s = LeftFor s.way s.resource own
+
+-- what the rules of runs say of who scans
+abbrev pub ScansByRules : Program → Config → ℕ → Action → Type 0
+ScansByRules g c p (scans x s k) = HasLeft g c p s s.way
+ScansByRules g c p (passes x w s k) = HasLeft g c p s s.way
+ScansByRules g c p n = Unit {0}

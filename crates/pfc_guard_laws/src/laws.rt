@@ -6,8 +6,8 @@ ghost use Rattle.pfc_semantics.specs.Steps.{next_of};
 ghost use Rattle.pfc_semantics.specs.Time.{settled_config};
 ghost use Rattle.pfc_run_rules.specs.Rules.{AreBarredAtTheirOwn};
 ghost use Rattle.pfc_guard_laws.specs.Remainders.{GuardsByRules};
-ghost use Rattle.pfc_guard_laws.specs.Configurations.{SuitsProgram};
-ghost use Rattle.pfc_guard_laws.specs.Runs.{RunsTo};
+ghost use Rattle.pfc_guard_laws.specs.Configurations.{SuitsProgram, ScansByRules};
+ghost use Rattle.pfc_guard_laws.specs.Runs.{RunsTo, RunsOnce};
 
 /// Where a program calls what the rules ask, each guard at which a process is barred, and the guard at which one is about to be, is of the resource in which
 /// its procedure stands, wherever a run comes.
@@ -16,4 +16,10 @@ pub fn guards_are_of_their_resources()
         → AreBarredAtTheirOwn g (settled_config c) }
     ensures next { (g : Program) (input : List ℕ) (seed : ℕ) (c : Config) (p : ℕ) → SuitsProgram g → RunsTo g (start g input seed) c
         → GuardsByRules g (next_of g (settled_config c) p) }
+{}
+
+/// Where a run returns from each resource but once, as it enters it, no activation of who scans behind such a return has entered that resource.
+pub fn who_scans_has_left()
+    ensures { (g : Program) (input : List ℕ) (seed : ℕ) (c : Config) (p : ℕ) → SuitsProgram g → RunsOnce g (start g input seed) c
+        → ScansByRules g (settled_config c) p (next_of g (settled_config c) p) }
 {}

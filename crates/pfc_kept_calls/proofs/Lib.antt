@@ -14,3 +14,4 @@ pub mod Turned
 pub mod Returned
 pub mod Returning
 pub mod Scanning
+pub mod Callable

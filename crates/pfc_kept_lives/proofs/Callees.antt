@@ -66,7 +66,8 @@ not_nowhere scope (y ∷ ys) b there its none =
     first_not_none (position (λ (c : Block). c.scope == scope) (y ∷ ys)) first none
   where
     first_not_none : (o : Option ℕ) → o ≡ Some 0 → o ≡ None → ⊥
-    first_not_none o h k = (let no : Some 0 ≡ None = sym h ∙ k in cc)
+    first_not_none None h k = absurd (cc)
+    first_not_none (Some i) h k = absurd (cc)
 
     same : (i : ℕ) → i ≡ scope → (i == scope) ≡ true
     same i h = grind (arith, h)

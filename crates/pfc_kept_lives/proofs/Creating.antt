@@ -249,7 +249,7 @@ module _ (facts : Facts) (m : Machine) (c : Config) (p choice : ℕ) (level : Li
   among_all = subst (λ (z : Program). n < length z.state.blocks.processes) same among
 
   can : IsProcessBlock facts.tree (block_at g0 head.scope) number head.formals
-  can = is_process_block facts.tree acting.alike.program.lawful acting.alike.program.unbroken n among_all (all_can.each n among_all)
+  can = is_process_block facts.tree acting.alike.program.lawful acting.alike.program.unbroken n among_all (all_can n among_all)
 
   known : AreKnown g0 b level.setting.accepts x.env
   known = subst (λ (z : Program). AreKnown z b level.setting.accepts x.env) same checked.known
@@ -278,7 +278,7 @@ module _ (facts : Facts) (m : Machine) (c : Config) (p choice : ℕ) (level : Li
   is_there = subst (λ (z : Program). IsAt level.setting (stack_of m.stacks p).at (NEW (block_number z (process_at z.state.blocks n).scope)) x.line) same there
 
   maker : IsMaker facts m c p level acting own
-  maker = is_maker facts m c p level acting own all_can number x.line is_there goes
+  maker = is_maker facts m c p level acting own number x.line is_there goes
 
   its : IsProcessNumber facts m c p level acting own b checked.beside x known v i n
   its = process_number facts m c p level acting own b checked.beside x known v i singles n t is_process is_object

@@ -109,7 +109,8 @@ declared_there s n next (more_parts (resource m) qs) j e =
     behind j (part_blocks s false 0 n [] next q) (parts_blocks s false 0 further [] (next + part_scopes q) qs)
     (declared_there s further (next + part_scopes q) qs j e)
 declared_there s n next (more_parts (process_part p) qs) j e =
-    by (next == j) refl e (λ rest. declared_there s (passed_part (scope_at s.blocks.scopes 0) n (process_part p)) (next + part_scopes (process_part p)) qs j rest)
+    by (next == j) refl e
+    (λ rest. declared_there s (passed_part (scope_at s.blocks.scopes 0) n (process_part p)) (next + part_scopes (process_part p)) qs j rest)
   where
     by : (r : Bool) → (next == j) ≡ r → (r || among j (processes_from (next + part_scopes (process_part p)) qs)) ≡ true
         → (among j (processes_from (next + part_scopes (process_part p)) qs) ≡ true

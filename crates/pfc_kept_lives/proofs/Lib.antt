@@ -6,6 +6,9 @@ pub mod Finished
 pub mod Only
 pub mod Ended
 pub mod Ending
+pub mod Quiet
+pub mod Outside
+pub mod Creators
 pub mod Makers
 pub mod Numbers
 pub mod Begun

@@ -38,13 +38,13 @@ use Rattle.pfc_nesting_laws.proofs.Programs.{main_alone}
 use Rattle.pfc_represented_start.proofs.Setting.{main_end}
 use Rattle.pfc_representation.specs.Levels.{Facts, program_in, LivingLevel, block_of, is_met_by, MayKeep, of_main, of_own as of_own_stack, lent}
 use Rattle.pfc_representation.specs.Levels.{SeesThrough}
-use Rattle.pfc_representation.specs.Rooms.{own_address}
+use Rattle.pfc_representation.specs.Rooms.{end_in, own_address}
 use Rattle.pfc_representation.specs.Callers.{first_block, IsWithin, AreCallers}
 use Rattle.pfc_representation.specs.Holding.{is_quiet, waits_at_coend}
 use Rattle.pfc_representation.specs.Acting.{IsActing}
 use Rattle.pfc_kept_own_actions.proofs.Arrived.{has_setting, code_there}
 use Rattle.pfc_kept_calls.proofs.Caller.{g, a, w, outer, seen_here, hand, shows}
-use Rattle.pfc_kept_lives.specs.Creatable.{AreCreatable}
+use Rattle.pfc_kept_lives.proofs.Creators.{created_in_main}
 use Rattle.pfc_kept_lives.proofs.Callees.{process_is_not_main}
 use Rattle.pfc_kept_lives.proofs.Only.{IsOnly, only_of}
 
@@ -141,7 +141,7 @@ pub record IsMaker (facts : Facts) (m : Machine) (c : Config) (p : ℕ) (level :
   pub main_alone : (y : ℕ) → hand.keeps y ≡ true → y ≡ 0
 
 module _ (facts : Facts) (m : Machine) (c : Config) (p : ℕ) (level : LivingLevel) (acting : IsActing facts m c p level) (own : level.setting.trial ≡ of_own)
-    (can : AreCreatable facts.tree) (n line : ℕ) (there : IsAt level.setting (stack_of m.stacks p).at (NEW n) line)
+    (n line : ℕ) (there : IsAt level.setting (stack_of m.stacks p).at (NEW n) line)
     (goes : IsWithin facts level (own_address level.setting.trial (stack_of m.stacks p).at) (descriptor_of m.descriptors p).communications) where
   abbrev q : Program
   q = program_in facts
@@ -154,16 +154,14 @@ module _ (facts : Facts) (m : Machine) (c : Config) (p : ℕ) (level : LivingLev
 
   block_is_main : block_of level ≡ q.main
   block_is_main =
-      let (k, code, is, on) = subst (λ (t : Trial). IsWithin facts level (own_address t here) its.communications) own goes in
-      let last : k ≡ length q.blocks = can.in_main k here n code is.0 on.entry on.before (code_there facts m c p level acting here (NEW n) line there) in
-      by is.2 last
+      let (k, code, is, on) = subst (λ (t : Trial). IsWithin facts level (own_address t here) its.communications) own goes in by k is.2 on.before
     where
-      by : {k : ℕ} → (slice_get q.blocks k ≡ Some (block_of level)) ⊎ ((k ≡ length q.blocks) × (block_of level ≡ q.main)) → k ≡ length q.blocks
-          → block_of level ≡ q.main
-      by {k} (inl among) last =
-          let less : k < length q.blocks = slice_get_within q.blocks k (block_of level) among in
-          absurd (omega (arith, less, last))
-      by {k} (inr is) last = is.1
+      by : (k : ℕ) → (slice_get q.blocks k ≡ Some (block_of level)) ⊎ ((k ≡ length q.blocks) × (block_of level ≡ q.main))
+          → here < end_in facts k → block_of level ≡ q.main
+      by k (inl among) before =
+          absurd (created_in_main facts.tree acting.alike.program.lawful acting.alike.program.unbroken k here n
+          (slice_get_within q.blocks k (block_of level) among) before (code_there facts m c p level acting here (NEW n) line there))
+      by k (inr is) before = is.1
 
   setting_block : level.setting.block ≡ q.main
   setting_block = ap (λ (t : Trial). own_block t level.setting.block) (sym own) ∙ block_is_main

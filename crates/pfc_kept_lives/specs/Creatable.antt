@@ -1,14 +1,12 @@
--- What is told once, of a program, of its processes: of the blocks of their declarations, and of who creates them.
-use Rattle.std.specs.Prelude.{ℕ, ◌+◌, ◌≡◌, ◌≤◌, ◌<◌, List, length, drop, Some}
+-- What is told once, of a program, of the blocks of its processes.
+use Rattle.std.specs.Prelude.{ℕ, ◌≡◌, ◌<◌, List, length, Some}
 use Rattle.std.specs.List.{slice_get}
 use Rattle.pfc_code.specs.declared.images.Block.{Block as CodeBlock}
-use Rattle.pfc_code.specs.declared.instructions.Instr.TheVariants.{NEW}
 use Rattle.pfc_tree.specs.trees.Parts.{ProgramTree}
 use Rattle.pfc_types.specs.Blocks.{process_at}
 use Rattle.pfc_types.specs.declared.heads.Formal.{Formal}
 use Rattle.pfc_semantics.specs.Programs.{Block, block_at, program_of}
 use Rattle.pfc_translation.specs.Images.{image_of}
-use Rattle.pfc_machines.specs.Rooms.{end_of}
 use Rattle.pfc_call_laws.specs.Blocks.{Takes}
 use Rattle.pfc_call_laws.specs.Calls.{HasNoObjects}
 use Rattle.pfc_representation.specs.Levels.{number_in}
@@ -18,11 +16,8 @@ pub record IsCreatable (t : ProgramTree) (callee : Block) (formals : List Formal
   pub takes : (code : CodeBlock) → slice_get (image_of t).blocks (number_in (program_of t) callee) ≡ Some code → Takes (program_of t) callee formals code
   pub objects : HasNoObjects (program_of t) callee
 
--- The block of each declaration is such a one. Processes are created in main's code alone: what activates one stands in a `cobegin`, and that in the main
--- body.
-pub record AreCreatable (t : ProgramTree) : Type 0 where
-  pub each : (n : ℕ) → n < length (program_of t).state.blocks.processes
-      → (let head = process_at (program_of t).state.blocks n in IsCreatable t (block_at (program_of t) head.scope) head.formals)
-  pub in_main : (k at n : ℕ) (c : CodeBlock) → slice_get (image_of t).blocks k ≡ Some c → c.entry ≤ at
-      → at < end_of (image_of t).code (drop (k + 1) (image_of t).blocks) → slice_get (image_of t).code at ≡ Some (NEW n)
-      → k ≡ length (program_of t).blocks
+-- The block of each declaration of a process is such a one.
+abbrev pub AreCreatable : ProgramTree → Type 0
+AreCreatable t =
+    (n : ℕ) → n < length (program_of t).state.blocks.processes
+    → (let head = process_at (program_of t).state.blocks n in IsCreatable t (block_at (program_of t) head.scope) head.formals)

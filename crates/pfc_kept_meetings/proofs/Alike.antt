@@ -19,7 +19,8 @@ use Rattle.pfc_kept_meetings.proofs.Ranges.{range_has_not}
 use Rattle.pfc_kept_meetings.proofs.Anew.{view', AreOther, is_own, laid, cell}
 
 module _ (g : Program) (sound : AreCounted g.state.forms) (homes : Homes) (entries : Entries) (store store' : Store) (keeps keeps' : ℕ → Bool)
-    (display : Display) (b : Block) (accepts : List ℕ) (w : ℤ) (chain : List ℕ) (view : View) (a : ℕ) (home : Home) (cells : List ℤ) (from to : ℕ) (accepts' : List ℕ)
+    (display : Display) (b : Block) (accepts : List ℕ) (w : ℤ) (chain : List ℕ) (view : View) (a : ℕ) (home : Home) (cells : List ℤ) (from to : ℕ) (accepts' :
+    List ℕ)
     (sees : Sees g homes entries store keeps display b accepts w chain view)
     (are : AreOther g sound homes entries store store' keeps keeps' display b accepts w chain view a home cells from to accepts') where
   abbrev here : Site
@@ -49,13 +50,16 @@ module _ (g : Program) (sound : AreCounted g.state.forms) (homes : Homes) (entri
     of_own : links_to here v.scope ≡ 0 → SeesAlike view other (links_to here v.scope) d
     of_own links =
         let old : IsNamed g homes store keeps display b chain view v meaning = sees.names v meaning known own there variable_laid in
-        let laid_so = laid g sound homes entries store store' keeps keeps' display b accepts w chain view a home cells from to accepts' sees are v meaning old there
+        let laid_so = laid g sound homes entries store store' keeps keeps' display b accepts w chain view a home cells from to accepts' sees are v meaning old
+        there
         variable_laid shown own links in
         let at : d ≡ cells_before g.state.forms b.layout k =
-        cell g sound homes entries store store' keeps keeps' display b accepts w chain view a home cells from to accepts' sees are v meaning old there variable_laid
+        cell g sound homes entries store store' keeps keeps' display b accepts w chain view a home cells from to accepts' sees are v meaning old there
+        variable_laid
         shown own links in
         let is = range_has_not g.state.forms b.layout from to k meaning laid_so (are.sized k meaning laid_so variable_laid) (out links) in
-        let act = is_own g sound homes entries store store' keeps keeps' display b accepts w chain view a home cells from to accepts' sees are v meaning old there
+        let act = is_own g sound homes entries store store' keeps keeps' display b accepts w chain view a home cells from to accepts' sees are v meaning old
+        there
         variable_laid shown own links in
         let start : view.first 0 ≡ first_number home =
         sees.firsts 0 (frame_of display v.scope).activation home (ap (λ n. slice_get chain n) (sym links) ∙ old.linked) (ap homes act ∙ are.at) in

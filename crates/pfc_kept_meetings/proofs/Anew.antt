@@ -62,7 +62,8 @@ inside_or_not from to k = by (either k from)
         last (inr over) = inr (λ other high. below k to high over)
 
 module _ (g : Program) (sound : AreCounted g.state.forms) (homes : Homes) (entries : Entries) (store store' : Store) (keeps keeps' : ℕ → Bool)
-    (display : Display) (b : Block) (accepts : List ℕ) (w : ℤ) (chain : List ℕ) (view : View) (a : ℕ) (home : Home) (cells : List ℤ) (from to : ℕ) (accepts' : List ℕ) where
+    (display : Display) (b : Block) (accepts : List ℕ) (w : ℤ) (chain : List ℕ) (view : View) (a : ℕ) (home : Home) (cells : List ℤ) (from to : ℕ) (accepts' :
+    List ℕ) where
   abbrev layout : Layout
   layout = b.layout
 
@@ -237,7 +238,8 @@ module _ (g : Program) (sound : AreCounted g.state.forms) (homes : Homes) (entri
         let its_home : cell.home ≡ home = some_same cell.home home (sym cell.at ∙ ap homes same ∙ are.at) in
         let its_layout : layout_at g cell.home ≡ layout = ap (λ (y : Home). layout_at g y) its_home ∙ are.is_layout in
         let laid : slice_get layout cell.place ≡ Some (Variable cell.t true) = ap (λ (x : Layout). slice_get x cell.place) (sym its_layout) ∙ cell.laid in
-        let first : cells_before g.state.forms layout cell.place ≡ d = ap (λ (x : Layout). cells_before g.state.forms x cell.place) (sym its_layout) ∙ cell.first in
+        let first : cells_before g.state.forms layout cell.place ≡ d = ap (λ (x : Layout). cells_before g.state.forms x cell.place) (sym its_layout) ∙
+        cell.first in
         let out : from ≤ cell.place → cell.place < to → ⊥ =
         λ low high. both_ways (ranged d)
         (ap (λ n. ranged n) (sym first)

@@ -114,7 +114,7 @@ module _ (facts : Facts) (m : Machine) (c : Config) (p choice : ℕ) (level : Li
     pub owner : IsOwner facts m c p level acting own b x v i checked n
     owner = is_owner facts m c p level acting own b x v i checked n t singles process object
 
-    left_is : drop z ops ≡ i ∷ below
+    pub left_is : drop z ops ≡ i ∷ below
     left_is = arguments_left facts m c p level acting own b x checked formals given over laid held ∙ over_is
 
     -- the same process on both sides
@@ -214,7 +214,8 @@ module _ (facts : Facts) (m : Machine) (c : Config) (p choice : ℕ) (level : Li
       waits_same : ComeToSame facts m c p x.line (silent (machine_by false false q0 world)) (source_by false false)
       waits_same =
           comes_then facts m c p level acting x.line
-          (stopping.activities facts m c p level acting own (Call q0 entry) undue (here + 1) ops doing (asking values) x.line within shows) m.descriptors c.store
+          (stopping.activities facts m c p level acting own (Call q0 entry) undue (here + 1) ops doing (asking values) x.line within shows) m.descriptors
+          c.store
           (moved m.stacks p (here + 1) ops) waiting
           (stops_behind facts m c p level acting own (Call q0 entry) undue (here + 1) ops doing (asking values) x.line within shows)
           (blocked world p (Call q0 entry) []) refl

@@ -77,18 +77,30 @@ module _ (facts : Facts) (m : Machine) (c : Config) (homes : Homes) (entries : E
   program_is = same_program facts m c homes entries alike q (descriptor_of m.descriptors q) level stands own
 
   -- what is seen before and then
-  abbrev pub seen_plain : SeesThrough facts homes entries c.store c.table q (entries q) (shown.w facts m c homes entries alike q level stands own there processes b x checked acc accepts typed runs of_block apart args words hold given stacks' same size r lenders_r kept table' stay met main) (shown.display facts m c homes entries alike q level stands own there processes b x checked acc accepts typed runs of_block apart args words hold given stacks' same size r lenders_r kept table' stay met main) level.setting level.setting.block
+  abbrev pub seen_plain : SeesThrough facts homes entries c.store c.table q (entries q) (shown.w facts m c homes entries alike q level stands own there
+      processes b x checked acc accepts typed runs of_block apart args words hold given stacks' same size r lenders_r kept table' stay met main) (shown.display
+      facts m c homes entries alike q level stands own there processes b x checked acc accepts typed runs of_block apart args words hold given stacks' same
+      size r lenders_r kept table' stay met main) level.setting level.setting.block
       level.setting.view stands.seen.others level.setting.accepts level.setting.meetings
   seen_plain =
-      seen_plainly facts homes entries c.store c.table q (entries q) (shown.w facts m c homes entries alike q level stands own there processes b x checked acc accepts typed runs of_block apart args words hold given stacks' same size r lenders_r kept table' stay met main) (shown.display facts m c homes entries alike q level stands own there processes b x checked acc accepts typed runs of_block apart args words hold given stacks' same size r lenders_r kept table' stay met main) level.setting stands.seen.others level.setting.trial own
+      seen_plainly facts homes entries c.store c.table q (entries q) (shown.w facts m c homes entries alike q level stands own there processes b x checked acc
+      accepts typed runs of_block apart args words hold given stacks' same size r lenders_r kept table' stay met main) (shown.display facts m c homes
+      entries alike q level stands own there processes b x checked acc accepts typed runs of_block apart args words hold given stacks' same size r
+      lenders_r kept table' stay met main) level.setting stands.seen.others level.setting.trial own
       stands.seen.sees
 
   abbrev pub view : View
-  view = view_then facts m c homes entries alike q level stands own there processes b x checked acc accepts typed runs of_block apart args words hold given stacks' same size r lenders_r kept table' stay met main
+  view = view_then facts m c homes entries alike q level stands own there processes b x checked acc accepts typed runs of_block apart args words hold given
+      stacks' same size r lenders_r kept table' stay met main
 
-  abbrev pub then_seen : SeesThrough facts homes entries (shown.new_store facts m c homes entries alike q level stands own there processes b x checked acc accepts typed runs of_block apart args words hold given stacks' same size r lenders_r kept table' stay met main) table' q (entries q) (shown.w facts m c homes entries alike q level stands own there processes b x checked acc accepts typed runs of_block apart args words hold given stacks' same size r lenders_r kept table' stay met main) (shown.display facts m c homes entries alike q level stands own there processes b x checked acc accepts typed runs of_block apart args words hold given stacks' same size r lenders_r kept table' stay met main) level.setting
+  abbrev pub then_seen : SeesThrough facts homes entries (shown.new_store facts m c homes entries alike q level stands own there processes b x checked acc
+      accepts typed runs of_block apart args words hold given stacks' same size r lenders_r kept table' stay met main) table' q (entries q) (shown.w facts m c
+      homes entries alike q level stands own there processes b x checked acc accepts typed runs of_block apart args words hold given stacks' same size r
+      lenders_r kept table' stay met main) (shown.display facts m c homes entries alike q level stands own there processes b x checked acc accepts typed runs
+      of_block apart args words hold given stacks' same size r lenders_r kept table' stay met main) level.setting
       level.setting.block view stands.seen.others (i ∷ level.setting.accepts) (r ∷ level.setting.meetings)
-  then_seen = seen_then facts m c homes entries alike q level stands own there processes b x checked acc accepts typed runs of_block apart args words hold given stacks' same size r lenders_r kept table' stay met main stands.seen.others seen_plain
+  then_seen = seen_then facts m c homes entries alike q level stands own there processes b x checked acc accepts typed runs of_block apart args words hold
+      given stacks' same size r lenders_r kept table' stay met main stands.seen.others seen_plain
 
   -- ## Names
 
@@ -105,7 +117,8 @@ module _ (facts : Facts) (m : Machine) (c : Config) (homes : Homes) (entries : E
 
   agree : Agree level.setting view b names
   agree y env beside among =
-      subst (λ (z : Block). AgreeAt (names_at level.setting z env) level.setting.view view) (sym (owner.beside_b facts m c homes entries alike q level stands own there processes b x checked acc.entry i accepts y beside))
+      subst (λ (z : Block). AgreeAt (names_at level.setting z env) level.setting.view view) (sym (owner.beside_b facts m c homes entries alike q level stands
+      own there processes b x checked acc.entry i accepts y beside))
       (subst (λ (p : Program). AgreeAt (record { program = p; block = b; env = env; line = 0 }) level.setting.view view) (sym program_is) agree_b)
     where
       all_known : are_known g b level.setting.accepts env ≡ true
@@ -115,7 +128,9 @@ module _ (facts : Facts) (m : Machine) (c : Config) (homes : Homes) (entries : E
       agree_b v t declared =
           let known : is_known g.state.blocks b level.setting.accepts v.scope ≡ true = by v.scope (or_cases (is_mains g.state.blocks v.scope)
           (list_any (λ (y : Level). y.scope == v.scope) env.view) declared.seen) in
-          shown.alike_so facts m c homes entries alike q level stands own there processes b x checked acc accepts typed runs of_block apart args words hold given stacks' same size r lenders_r kept table' stay met main stands.seen.others seen_plain v declared.meaning known declared.own declared.laid declared.variable
+          shown.alike_so facts m c homes entries alike q level stands own there processes b x checked acc accepts typed runs of_block apart args words hold
+          given stacks' same size r lenders_r kept table' stay met main stands.seen.others seen_plain v declared.meaning known declared.own declared.laid
+          declared.variable
         where
           by : (j : ℕ) → (is_mains g.state.blocks j ≡ true) ⊎ (list_any (λ (y : Level). y.scope == j) env.view ≡ true)
               → is_known g.state.blocks b level.setting.accepts j ≡ true
@@ -130,8 +145,11 @@ module _ (facts : Facts) (m : Machine) (c : Config) (homes : Homes) (entries : E
   number_is : level.setting.number ≡ facts.number
   number_is = (owner.first facts m c homes entries alike q level stands own there processes b x checked acc.entry i accepts).stands.setting.number
 
-  holds : HoldStore (record level.setting { program = g; number = facts.number }) homes entries (shown.new_store facts m c homes entries alike q level stands own there processes b x checked acc accepts typed runs of_block apart args words hold given stacks' same size r lenders_r kept table' stay met main) stacks'
-  holds = giving.holds_then facts m c homes entries alike q level stands own there processes b x checked acc accepts typed runs of_block args words hold stacks' same size
+  holds : HoldStore (record level.setting { program = g; number = facts.number }) homes entries (shown.new_store facts m c homes entries alike q level stands
+      own there processes b x checked acc accepts typed runs of_block apart args words hold given stacks' same size r lenders_r kept table' stay met main)
+      stacks'
+  holds = giving.holds_then facts m c homes entries alike q level stands own there processes b x checked acc accepts typed runs of_block args words hold
+      stacks' same size
 
   known_then : AreKnown level.setting.program b (i ∷ level.setting.accepts) (within_accept x.env i)
   known_then j seen = by (or_cases (is_mains blocks j) ((i == j) || list_any (λ (y : Level). y.scope == j) x.env.view) seen)
@@ -166,15 +184,30 @@ module _ (facts : Facts) (m : Machine) (c : Config) (homes : Homes) (entries : E
   pub checked_then : IsChecked setting_then b (within_accept x.env i)
   checked_then =
       let top = then_seen.0 in
-      names_checked setting_then homes entries (shown.new_store facts m c homes entries alike q level stands own there processes b x checked acc accepts typed runs of_block apart args words hold given stacks' same size r lenders_r kept table' stay met main) top.keeps (shown.display facts m c homes entries alike q level stands own there processes b x checked acc accepts typed runs of_block apart args words hold given stacks' same size r lenders_r kept table' stay met main) b (shown.w facts m c homes entries alike q level stands own there processes b x checked acc accepts typed runs of_block apart args words hold given stacks' same size r lenders_r kept table' stay met main) top.chain stacks'
+      names_checked setting_then homes entries (shown.new_store facts m c homes entries alike q level stands own there processes b x checked acc accepts typed
+      runs of_block apart args words hold given stacks' same size r lenders_r kept table' stay met main) top.keeps (shown.display facts m c homes entries
+      alike q level stands own there processes b x checked acc accepts typed runs of_block apart args words hold given stacks' same size r lenders_r kept
+      table' stay met main) b (shown.w facts m c homes entries alike q level stands own there processes b x checked acc accepts typed runs of_block apart
+      args words hold given stacks' same size r lenders_r kept table' stay met main) top.chain stacks'
       (subst (λ (p : Program). AreTypes p.state.forms) (sym program_is) alike.program.types).counted
       (subst (λ (p : Program). AreTypes p.state.forms) (sym program_is) alike.program.types).sound
-      (subst (λ (p : Program). MemoryIs p homes entries (shown.new_store facts m c homes entries alike q level stands own there processes b x checked acc accepts typed runs of_block apart args words hold given stacks' same size r lenders_r kept table' stay met main) stacks') (sym program_is) holds.memory) holds.few
-      (subst (λ (p : Program). AreObjects p homes entries (shown.new_store facts m c homes entries alike q level stands own there processes b x checked acc accepts typed runs of_block apart args words hold given stacks' same size r lenders_r kept table' stay met main) level.setting.number) (sym program_is)
-      (subst (λ (f : ℤ → Option ℤ). AreObjects g homes entries (shown.new_store facts m c homes entries alike q level stands own there processes b x checked acc accepts typed runs of_block apart args words hold given stacks' same size r lenders_r kept table' stay met main) f) (sym number_is) holds.objects))
-      (subst (λ (p : Program). Sees p homes entries (shown.new_store facts m c homes entries alike q level stands own there processes b x checked acc accepts typed runs of_block apart args words hold given stacks' same size r lenders_r kept table' stay met main) top.keeps (shown.display facts m c homes entries alike q level stands own there processes b x checked acc accepts typed runs of_block apart args words hold given stacks' same size r lenders_r kept table' stay met main) b (i ∷ level.setting.accepts) (shown.w facts m c homes entries alike q level stands own there processes b x checked acc accepts typed runs of_block apart args words hold given stacks' same size r lenders_r kept table' stay met main) top.chain view)
+      (subst (λ (p : Program). MemoryIs p homes entries (shown.new_store facts m c homes entries alike q level stands own there processes b x checked acc
+      accepts typed runs of_block apart args words hold given stacks' same size r lenders_r kept table' stay met main) stacks') (sym program_is)
+      holds.memory) holds.few
+      (subst (λ (p : Program). AreObjects p homes entries (shown.new_store facts m c homes entries alike q level stands own there processes b x checked acc
+      accepts typed runs of_block apart args words hold given stacks' same size r lenders_r kept table' stay met main) level.setting.number) (sym
+      program_is)
+      (subst (λ (f : ℤ → Option ℤ). AreObjects g homes entries (shown.new_store facts m c homes entries alike q level stands own there processes b x checked
+      acc accepts typed runs of_block apart args words hold given stacks' same size r lenders_r kept table' stay met main) f) (sym number_is)
+      holds.objects))
+      (subst (λ (p : Program). Sees p homes entries (shown.new_store facts m c homes entries alike q level stands own there processes b x checked acc accepts
+      typed runs of_block apart args words hold given stacks' same size r lenders_r kept table' stay met main) top.keeps (shown.display facts m c homes
+      entries alike q level stands own there processes b x checked acc accepts typed runs of_block apart args words hold given stacks' same size r
+      lenders_r kept table' stay met main) b (i ∷ level.setting.accepts) (shown.w facts m c homes entries alike q level stands own there processes b x
+      checked acc accepts typed runs of_block apart args words hold given stacks' same size r lenders_r kept table' stay met main) top.chain view)
       (sym program_is) (top.sees b checked.beside))
-      (within_accept x.env i) known_then checked.state (beside_then level view (i ∷ level.setting.accepts) (r ∷ level.setting.meetings) level.setting.block b checked.beside)
+      (within_accept x.env i) known_then checked.state (beside_then level view (i ∷ level.setting.accepts) (r ∷ level.setting.meetings) level.setting.block b
+      checked.beside)
       (subst (λ (t : Trial). IsInTrial t (within_accept x.env i)) (sym own) tt)
 
   module _ (k : Remainder) (o : Open) (to : ℕ) (ops : List ℤ) (end : ℕ) (rest : Performs level.setting b x.env end ops [] k)

@@ -135,12 +135,14 @@ module _ (facts : Facts) (m : Machine) (c : Config) (homes : Homes) (entries : E
             let before : laid_before here v.scope ≡ 0 =
             ap (λ j. laid_before here j) same
             ∙ ap (λ (t : Bool). if t then before_accept here b.scope else 0)
-            ((owner.scopes facts m c homes entries alike q level stands own there processes b x checked acc.entry i accepts).no_accept b.scope (owner.own_known facts m c homes entries alike q level stands own there processes b x checked acc.entry i accepts)) in
+            ((owner.scopes facts m c homes entries alike q level stands own there processes b x checked acc.entry i accepts).no_accept b.scope (owner.own_known
+            facts m c homes entries alike q level stands own there processes b x checked acc.entry i accepts)) in
             let size : variables_of here v.scope ≡ length (laid_names (scope_at g.state.blocks.scopes b.scope)) =
             ap (λ j. variables_of here j) same
             ∙ ap (λ (t : Bool). if t then length (layout_with here b.scope) else variables_by here b.scope (sub_with g.state.blocks.subs b.scope))
             (owner.own_not_mains facts m c homes entries alike q level stands own there processes b x checked acc.entry i accepts)
-            ∙ ap (λ o. variables_by here b.scope o) (owner.of_process facts m c homes entries alike q level stands own there processes b x checked acc.entry i accepts).no_sub in
+            ∙ ap (λ o. variables_by here b.scope o) (owner.of_process facts m c homes entries alike q level stands own there processes b x checked acc.entry i
+            accepts).no_sub in
             under (length (laid_names (scope_at g.state.blocks.scopes b.scope))) from (place_of here v) v.variable (variables_of here v.scope)
             (ap (λ n. n + v.variable) before) own_variable size (own_before g b i) low
 
@@ -150,19 +152,23 @@ module _ (facts : Facts) (m : Machine) (c : Config) (homes : Homes) (entries : E
             ap (λ (t : Bool). (if t then before_accept here v.scope else 0) + v.variable) is in
             let size : variables_of here v.scope ≡ length (laid_names (scope_at g.state.blocks.scopes v.scope)) =
             ap (λ (t : Bool). if t then length (layout_with here v.scope) else variables_by here v.scope (sub_with g.state.blocks.subs v.scope)) none
-            ∙ ap (λ o. variables_by here v.scope o) ((owner.of_process facts m c homes entries alike q level stands own there processes b x checked acc.entry i accepts).accepts v.scope is) in
+            ∙ ap (λ o. variables_by here v.scope o) ((owner.of_process facts m c homes entries alike q level stands own there processes b x checked acc.entry i
+            accepts).accepts v.scope is) in
             accepts_apart g b i v.scope v.variable of_block is (λ same. other (sym same))
             (subst (λ n. v.variable < n) size own_variable) (subst (λ n. from ≤ n) before low) (subst (λ n. n < to) before high)
 
         by_rest : (list_any (λ j. j == v.scope) (linked g.state.blocks b.env.view) ≡ true) ⊎ (list_any (λ j. j == v.scope) open_ones ≡ true)
             → (t : Bool) → is_mains g.state.blocks v.scope ≡ t → ⊥
-        by_rest h true mains = one_or_none (links_to here v.scope) links (owner.links_mains facts m c homes entries alike q level stands own there processes b x checked acc.entry i accepts v.scope mains)
-        by_rest (inl around) false none = of_own_scope (owner.around_is facts m c homes entries alike q level stands own there processes b x checked acc.entry i accepts v.scope around)
+        by_rest h true mains = one_or_none (links_to here v.scope) links (owner.links_mains facts m c homes entries alike q level stands own there processes b
+            x checked acc.entry i accepts v.scope mains)
+        by_rest (inl around) false none = of_own_scope (owner.around_is facts m c homes entries alike q level stands own there processes b x checked acc.entry
+            i accepts v.scope around)
         by_rest (inr among) false none = (let one = apart v.scope among in of_accept one.0 one.1 none)
 
         by : (is_mains g.state.blocks v.scope ≡ true)
             ⊎ ((list_any (λ j. j == v.scope) (linked g.state.blocks b.env.view) || list_any (λ j. j == v.scope) open_ones) ≡ true) → ⊥
-        by (inl mains) = one_or_none (links_to here v.scope) links (owner.links_mains facts m c homes entries alike q level stands own there processes b x checked acc.entry i accepts v.scope mains)
+        by (inl mains) = one_or_none (links_to here v.scope) links (owner.links_mains facts m c homes entries alike q level stands own there processes b x
+            checked acc.entry i accepts v.scope mains)
         by (inr other) =
             by_rest (or_cases (list_any (λ j. j == v.scope) (linked g.state.blocks b.env.view)) (list_any (λ j. j == v.scope) open_ones) other)
             (is_mains g.state.blocks v.scope) refl

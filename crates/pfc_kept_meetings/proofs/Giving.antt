@@ -161,7 +161,8 @@ module _ (facts : Facts) (m : Machine) (c : Config) (homes : Homes) (entries : E
   pub parameters_are : parameters ≡ laid_parameters (entry_formals g q acc.entry)
   parameters_are =
       names_laid (scope_at g.state.blocks.scopes i) (entry_at g.state.blocks of_names.process acc.entry) of_names.parameters typed_so
-      ∙ ap (λ (fs : List Formal). laid_parameters fs) (formals_are facts m c homes entries alike q level stands own there processes b x checked acc.entry i accepts)
+      ∙ ap (λ (fs : List Formal). laid_parameters fs) (formals_are facts m c homes entries alike q level stands own there processes b x checked acc.entry i
+      accepts)
 
   program_is : level.setting.program ≡ g
   program_is = same_program facts m c homes entries alike q (descriptor_of m.descriptors q) level stands own
@@ -173,15 +174,18 @@ module _ (facts : Facts) (m : Machine) (c : Config) (homes : Homes) (entries : E
   cells_are =
       ap (λ (y : Program). scope_cells y.state.forms (scope_at y.state.blocks.scopes i)) program_is
       ∙ names_cells g.state.forms (scope_at g.state.blocks.scopes i) (entry_at g.state.blocks of_names.process acc.entry) of_names.parameters typed_so
-      ∙ ap (λ (fs : List Formal). layout_cells g.state.forms (laid_parameters fs)) (formals_are facts m c homes entries alike q level stands own there processes b x checked acc.entry i accepts)
+      ∙ ap (λ (fs : List Formal). layout_cells g.state.forms (laid_parameters fs)) (formals_are facts m c homes entries alike q level stands own there
+      processes b x checked acc.entry i accepts)
 
   pub stand : StandIn b.layout parameters from
   stand =
       accept_stands g b i
-      (block_laid facts.tree alike.program.lawful (first facts m c homes entries alike q level stands own there processes b x checked acc.entry i accepts).own.block b (in_blocks facts m c homes entries alike q level stands own there processes b x checked acc.entry i accepts) i of_block) of_block
+      (block_laid facts.tree alike.program.lawful (first facts m c homes entries alike q level stands own there processes b x checked acc.entry i
+      accepts).own.block b (in_blocks facts m c homes entries alike q level stands own there processes b x checked acc.entry i accepts) i of_block) of_block
 
-  stand_home : StandIn (layout_at g home) parameters from
-  stand_home = subst (λ (l : Layout). StandIn l parameters from) (sym (its_layout facts m c homes entries alike q level stands own there processes b x checked acc.entry i accepts)) stand
+  pub stand_home : StandIn (layout_at g home) parameters from
+  stand_home = subst (λ (l : Layout). StandIn l parameters from) (sym (its_layout facts m c homes entries alike q level stands own there processes b x checked
+      acc.entry i accepts)) stand
 
   abbrev s0 : Setting
   s0 = record level.setting { program = g; number = facts.number }
@@ -190,36 +194,43 @@ module _ (facts : Facts) (m : Machine) (c : Config) (homes : Homes) (entries : E
   hold_before = record { types = alike.program.types; memory = alike.holds.memory; few = alike.holds.few; objects = alike.holds.objects }
 
   home_scope : home.scope ≡ b.scope
-  home_scope = (first facts m c homes entries alike q level stands own there processes b x checked acc.entry i accepts).stands.scope ∙ sym (first facts m c homes entries alike q level stands own there processes b x checked acc.entry i accepts).stands.block ∙ ap (λ (y : Block). y.scope) (block_is facts m c homes entries alike q level stands own there processes b x checked acc.entry i accepts)
+  home_scope = (first facts m c homes entries alike q level stands own there processes b x checked acc.entry i accepts).stands.scope ∙ sym (first facts m c
+      homes entries alike q level stands own there processes b x checked acc.entry i accepts).stands.block ∙ ap (λ (y : Block). y.scope) (block_is facts m c
+      homes entries alike q level stands own there processes b x checked acc.entry i accepts)
 
   block_home : block_at g home.scope ≡ b
-  block_home = ap (λ j. block_at g j) home_scope ∙ (scopes facts m c homes entries alike q level stands own there processes b x checked acc.entry i accepts).by_scope
+  block_home = ap (λ j. block_at g j) home_scope ∙ (scopes facts m c homes entries alike q level stands own there processes b x checked acc.entry i
+      accepts).by_scope
 
   pub at_home : homes act.number ≡ Some home
   at_home = (first facts m c homes entries alike q level stands own there processes b x checked acc.entry i accepts).stands.at
 
   pub lives_own : Lives entries act.number
-  lives_own = subst (λ n. Lives entries n) (first facts m c homes entries alike q level stands own there processes b x checked acc.entry i accepts).stands.number (lives entries q e (living facts m c homes entries alike q level stands own there processes b x checked acc.entry i accepts))
+  lives_own = subst (λ n. Lives entries n) (first facts m c homes entries alike q level stands own there processes b x checked acc.entry i
+      accepts).stands.number (lives entries q e (living facts m c homes entries alike q level stands own there processes b x checked acc.entry i accepts))
 
   -- its first cell is the first of all
   pub at_bottom : home.cell ≡ 0
-  at_bottom = by_entries (entries q) (only facts m c homes entries alike q level stands own there processes b x checked acc.entry i accepts).entries_are (alike.holds.memory q)
+  at_bottom = by_entries (entries q) (only facts m c homes entries alike q level stands own there processes b x checked acc.entry i accepts).entries_are
+      (alike.holds.memory q)
     where
       by_entries : (es : List Entry) → es ≡ e ∷ [] → ProcessIs g homes c.store q es (cells_of m.stacks q) → home.cell ≡ 0
       by_entries es same is =
           let (lower, none, over) = subst (λ (xs : List Entry). ProcessIs g homes c.store q xs (cells_of m.stacks q)) same is in
-          let its_home : over.home ≡ home = some_same over.home home (sym over.at ∙ ap homes (first facts m c homes entries alike q level stands own there processes b x checked acc.entry i accepts).stands.number ∙ at_home) in
+          let its_home : over.home ≡ home = some_same over.home home (sym over.at ∙ ap homes (first facts m c homes entries alike q level stands own there
+          processes b x checked acc.entry i accepts).stands.number ∙ at_home) in
           ap (λ (y : Home). y.cell) (sym its_home) ∙ over.place ∙ ap (λ (ws : List ℤ). length ws) none
 
   before_taken : take from b.layout ≡ stand_home.before
   before_taken =
-      ap (λ (l : Layout). take from l) (sym (its_layout facts m c homes entries alike q level stands own there processes b x checked acc.entry i accepts) ∙ stand_home.is)
+      ap (λ (l : Layout). take from l) (sym (its_layout facts m c homes entries alike q level stands own there processes b x checked acc.entry i accepts) ∙
+      stand_home.is)
       ∙ take_at stand_home.before (parameters ++ stand_home.behind) from stand_home.place
 
   abbrev r : Ref
   r = record { process = home.process; cell = home.cell + own_cells + layout_cells g.state.forms stand_home.before }
 
-  d_is : d ≡ layout_cells g.state.forms stand_home.before
+  pub d_is : d ≡ layout_cells g.state.forms stand_home.before
   d_is =
       ap
       (λ (y : Program).
@@ -228,7 +239,8 @@ module _ (facts : Facts) (m : Machine) (c : Config) (homes : Homes) (entries : E
 
   place_is : r ≡ parameter_cell q d
   place_is =
-      ap₂ (λ p n. record { process = p; cell = n }) (first facts m c homes entries alike q level stands own there processes b x checked acc.entry i accepts).stands.process
+      ap₂ (λ p n. record { process = p; cell = n }) (first facts m c homes entries alike q level stands own there processes b x checked acc.entry i
+      accepts).stands.process
       (start home.cell (layout_cells g.state.forms stand_home.before) d at_bottom d_is)
     where
       start : (h l k : ℕ) → h ≡ 0 → k ≡ l → h + 8 + l ≡ 8 + k
@@ -261,7 +273,8 @@ module _ (facts : Facts) (m : Machine) (c : Config) (homes : Homes) (entries : E
     by_law : HoldStore s0 homes entries new_store with_same
     by_law =
         held s0 homes entries c.store m.stacks act.number from home parameters args words stand_home hold_before lives_own at_home
-        (subst (λ (y : Block). HasNoObjects g y) (sym block_home) (of_process facts m c homes entries alike q level stands own there processes b x checked acc.entry i accepts).objects) hold_so q (stack_of wrote q).operands
+        (subst (λ (y : Block). HasNoObjects g y) (sym block_home) (of_process facts m c homes entries alike q level stands own there processes b x checked
+        acc.entry i accepts).objects) hold_so q (stack_of wrote q).operands
 
     wrote_size : length wrote ≡ length m.stacks
     wrote_size = length-set m.stacks r.process _
@@ -286,7 +299,8 @@ module _ (facts : Facts) (m : Machine) (c : Config) (homes : Homes) (entries : E
         pub few : 8 + length cells < 2 ^ 32
 
       pub given_cells : GivenCells
-      given_cells = by_entries (entries q) (only facts m c homes entries alike q level stands own there processes b x checked acc.entry i accepts).entries_are (holds_then.memory q)
+      given_cells = by_entries (entries q) (only facts m c homes entries alike q level stands own there processes b x checked acc.entry i accepts).entries_are
+          (holds_then.memory q)
         where
           fits : (n l j k r : ℕ) → n ≡ l + r → r ≡ j + k → j ≡ 8 → n < 2 ^ 32 → 8 + k < 2 ^ 32
           fits n l j k r one two three less = omega (arith, one, two, three, less)
@@ -294,13 +308,15 @@ module _ (facts : Facts) (m : Machine) (c : Config) (homes : Homes) (entries : E
           by_entries : (es : List Entry) → es ≡ e ∷ [] → ProcessIs g homes new_store q es (cells_of stacks' q) → GivenCells
           by_entries es same_entries is =
               let (lower, none, over) = subst (λ (xs : List Entry). ProcessIs g homes new_store q xs (cells_of stacks' q)) same_entries is in
-              let number : e.activation ≡ act.number = (first facts m c homes entries alike q level stands own there processes b x checked acc.entry i accepts).stands.number in
+              let number : e.activation ≡ act.number = (first facts m c homes entries alike q level stands own there processes b x checked acc.entry i
+              accepts).stands.number in
               let its_home : over.home ≡ home = some_same over.home home (sym over.at ∙ ap homes number ∙ at_home) in
               record {
                 cells = over.block;
                 holds =
                     subst (λ (l : Layout). AreCells g homes l (values_in new_store act.number) over.block)
-                    (ap (λ (y : Home). layout_at g y) its_home ∙ its_layout facts m c homes entries alike q level stands own there processes b x checked acc.entry i accepts)
+                    (ap (λ (y : Home). layout_at g y) its_home ∙ its_layout facts m c homes entries alike q level stands own there processes b x checked
+                    acc.entry i accepts)
                     (subst (λ n. AreCells g homes (layout_at g over.home) (values_in new_store n) over.block) number over.holds);
                 few =
                     fits (length (cells_of stacks' q)) (length lower) (length e.own) (length over.block) (length (e.own ++ over.block))

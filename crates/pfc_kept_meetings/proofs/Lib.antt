@@ -23,3 +23,13 @@ pub mod Begins
 pub mod Untouched
 pub mod Caller
 pub mod Meets
+pub mod Told
+pub mod Few
+pub mod Live
+pub mod Together
+pub mod Joining
+pub mod Waiting
+pub mod Granted
+pub mod Granting
+pub mod Answering
+pub mod Calling

@@ -49,7 +49,7 @@ use Rattle.pfc_kept_meetings.proofs.Lenders.{ready_unmet}
 use Rattle.pfc_kept_meetings.proofs.Owner as owner
 use Rattle.pfc_kept_meetings.proofs.Untouched.{others_alike, main_lives}
 
-calls_unmet : (s : Stand) (p e t r : ℕ) (arms : List WaitArm) → s ≡ Waits (Call p e) t arms → is_met_by s r → ⊥
+pub calls_unmet : (s : Stand) (p e t r : ℕ) (arms : List WaitArm) → s ≡ Waits (Call p e) t arms → is_met_by s r → ⊥
 calls_unmet s p e t r arms is met = (let none : is_met_by (Waits (Call p e) t arms) r = subst (λ (y : Stand). is_met_by y r) is met in none)
 
 module _ (facts : Facts) (m : Machine) (c : Config) (p : ℕ) (level : LivingLevel) (acting : IsActing facts m c p level) (own : level.setting.trial ≡ of_own)
@@ -160,7 +160,8 @@ module _ (facts : Facts) (m : Machine) (c : Config) (p : ℕ) (level : LivingLev
       either n k = grind arith
 
       by : (0 ≡ p) ⊎ (0 ≢ p) → Lives acting.entries 0
-      by (inl is) = absurd (none p (owner.child facts m c acting.homes acting.entries acting.alike p level acting.actor.stands own acting.actor.process processes b x checked acc.entry i accepts) (sym is))
+      by (inl is) = absurd (none p (owner.child facts m c acting.homes acting.entries acting.alike p level acting.actor.stands own acting.actor.process
+          processes b x checked acc.entry i accepts) (sym is))
         where
           none : (n : ℕ) → 0 < n → n ≡ 0 → ⊥
           none n less is = grind (arith, less, is)
@@ -182,7 +183,8 @@ module _ (facts : Facts) (m : Machine) (c : Config) (p : ℕ) (level : LivingLev
   pub words_count : length words ≡ z
   words_count =
       block_length g acting.alike.program.types.counted acting.homes (laid_parameters (entry_formals g p acc.entry)) values words hold
-      ∙ sym (giving.cells_are facts m c acting.homes acting.entries acting.alike p level acting.actor.stands own acting.actor.process processes b x checked acc accepts typed runs of_block)
+      ∙ sym (giving.cells_are facts m c acting.homes acting.entries acting.alike p level acting.actor.stands own acting.actor.process processes b x checked acc
+      accepts typed runs of_block)
 
   pub over : LiesOver (operands_of m.stacks q) (reverse words) below asking_so.asks.number z
   over =
@@ -244,7 +246,8 @@ module _ (facts : Facts) (m : Machine) (c : Config) (p : ℕ) (level : LivingLev
   -- ## What becomes of the caller
 
   abbrev pub new_store : Store
-  new_store = giving.new_store facts m c acting.homes acting.entries acting.alike p level acting.actor.stands own acting.actor.process processes b x checked acc accepts typed runs of_block values words hold
+  new_store = giving.new_store facts m c acting.homes acting.entries acting.alike p level acting.actor.stands own acting.actor.process processes b x checked
+      acc accepts typed runs of_block values words hold
 
   awake : (s : ℕ) → is_met_by (at c.table.rows p) s → ⊥
   awake s met_by = ready_unmet (at c.table.rows p) s acting.actor.ready met_by
@@ -253,9 +256,16 @@ module _ (facts : Facts) (m : Machine) (c : Config) (p : ℕ) (level : LivingLev
       → ((y : ℕ) → keeps y ≡ true → (others : List ℕ) × MayKeep c.table acting.entries r others (acting.entries r) y)
       → IsLike g keeps acting.homes acting.homes acting.entries acting.entries c.store new_store
   like_of r away =
-      others_alike facts m c acting.homes acting.entries acting.alike p (giving.act facts m c acting.homes acting.entries acting.alike p level acting.actor.stands own acting.actor.process processes b x checked acc accepts typed runs of_block).number (giving.home facts m c acting.homes acting.entries acting.alike p level acting.actor.stands own acting.actor.process processes b x checked acc accepts typed runs of_block) (giving.at_home facts m c acting.homes acting.entries acting.alike p level acting.actor.stands own acting.actor.process processes b x checked acc accepts typed runs of_block)
-      (owner.first facts m c acting.homes acting.entries acting.alike p level acting.actor.stands own acting.actor.process processes b x checked acc.entry i accepts).stands.process (owner.child facts m c acting.homes acting.entries acting.alike p level acting.actor.stands own acting.actor.process processes b x checked acc.entry i accepts) awake new_store
-      (λ y other. values_kept c.store (giving.act facts m c acting.homes acting.entries acting.alike p level acting.actor.stands own acting.actor.process processes b x checked acc accepts typed runs of_block).number _ y other) r away
+      others_alike facts m c acting.homes acting.entries acting.alike p (giving.act facts m c acting.homes acting.entries acting.alike p level
+      acting.actor.stands own acting.actor.process processes b x checked acc accepts typed runs of_block).number (giving.home facts m c acting.homes
+      acting.entries acting.alike p level acting.actor.stands own acting.actor.process processes b x checked acc accepts typed runs of_block)
+      (giving.at_home facts m c acting.homes acting.entries acting.alike p level acting.actor.stands own acting.actor.process processes b x checked acc
+      accepts typed runs of_block)
+      (owner.first facts m c acting.homes acting.entries acting.alike p level acting.actor.stands own acting.actor.process processes b x checked acc.entry i
+      accepts).stands.process (owner.child facts m c acting.homes acting.entries acting.alike p level acting.actor.stands own acting.actor.process
+      processes b x checked acc.entry i accepts) awake new_store
+      (λ y other. values_kept c.store (giving.act facts m c acting.homes acting.entries acting.alike p level acting.actor.stands own acting.actor.process
+      processes b x checked acc accepts typed runs of_block).number _ y other) r away
 
   pub caller_then : RepresentsProcess facts acting.homes acting.entries new_store stacks' table' h q (record aq { hand = empty_hand }) dq
   caller_then =

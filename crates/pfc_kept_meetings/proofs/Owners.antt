@@ -130,7 +130,8 @@ module _ (facts : Facts) (m : Machine) (c : Config) (p : ℕ) (level : LivingLev
   typed_owner : (n : ℕ) (t : TypeId) → form_of program.state.forms t ≡ Some (ProcessForm n) → IsObject g (site_of g b x) v (Some t) i → IsOwner n
   typed_owner n t form object =
       let is_object : is_object_type program.state.forms (Some t) ≡ true =
-      ap (λ (f : Option TypeForm). (is_same t semaphore || is_same t condition) || has_object_form f) form ∙ or_true (is_same t semaphore || is_same t condition) in
+      ap (λ (f : Option TypeForm). (is_same t semaphore || is_same t condition) || has_object_form f) form ∙ or_true (is_same t semaphore || is_same t
+      condition) in
       let at = object_there (Some t) is_object object in
       let kind = acting.alike.kinds.processes here t n at.place at.lies form in
       owner n kind.0 at.value kind.1 kind.3 kind.4

@@ -36,7 +36,8 @@ is_laid_so : (f : Formal) → HasType f (laid_parameter f.t f.reference) → is_
 is_laid_so f (t, typed, laid) = ap is_laid laid
 
 -- the names of the accept's scope are the entry's parameters
-pub names_laid : (names : Names) (formals : List Formal) → map (λ (y : Text × Meaning). y.1) names ≡ map (λ (f : Formal). variable_meaning f.reference f.t) formals
+pub names_laid : (names : Names) (formals : List Formal) → map (λ (y : Text × Meaning). y.1) names ≡ map (λ (f : Formal). variable_meaning f.reference f.t)
+    formals
     → AreLaidAs formals (laid_parameters formals) → laid_names names ≡ laid_parameters formals
 names_laid [] [] same laid = refl
 names_laid [] (f ∷ formals) same laid =

@@ -70,7 +70,11 @@ module _ (table table' : Table) (p gone : ℕ) (rows : (r : ℕ) → r ≢ gone 
 
   met_less : (callers : List ℕ) → AreMet table p (gone ∷ callers) → AreMet table' p callers
   met_less callers met =
-      record { waiting = λ k d below. waiting k d below (slice_get-get_or callers k d below); once = λ j k q one two. less j k (met.once (suc j) (suc k) q one two) }
+      record {
+        waiting = λ k d below. waiting k d below (slice_get-get_or callers k d below);
+        once = λ j k q one two. less j k (met.once (suc j) (suc k) q one
+            two);
+      }
     where
       less : (j k : ℕ) → suc j ≡ suc k → j ≡ k
       less j k h = grind (arith, h)

@@ -113,7 +113,8 @@ module _ (facts : Facts) (m : Machine) (c : Config) (homes : Homes) (entries : E
   new_store = giving.new_store facts m c homes entries alike q level stands own there processes b x checked acc accepts typed runs of_block args words hold
 
   abbrev pub cells : List ℤ
-  cells = (giving.given_cells facts m c homes entries alike q level stands own there processes b x checked acc accepts typed runs of_block args words hold stacks' same size).cells
+  cells = (giving.given_cells facts m c homes entries alike q level stands own there processes b x checked acc accepts typed runs of_block args words hold
+      stacks' same size).cells
 
   abbrev values : List Value
   values = values_in c.store act.number
@@ -140,7 +141,8 @@ module _ (facts : Facts) (m : Machine) (c : Config) (homes : Homes) (entries : E
       fits (length b.layout) (length stand.before) (length (parameters ++ stand.behind)) (length parameters) (length stand.behind) from (length args)
       (length values) (length new_values)
       in_layout (length-append parameters stand.behind) stand.place count
-      (values_count g homes b.layout new_values cells (giving.given_cells facts m c homes entries alike q level stands own there processes b x checked acc accepts typed runs of_block args words hold stacks' same size).holds)
+      (values_count g homes b.layout new_values cells (giving.given_cells facts m c homes entries alike q level stands own there processes b x checked acc
+      accepts typed runs of_block args words hold stacks' same size).holds)
       (ap (λ (vs : List Value). length vs) new_is ∙ taken_length from args values)
     where
       fits : (l f r p z o n v u : ℕ) → l ≡ f + r → r ≡ p + z → f ≡ o → n ≡ p → u ≡ l → u ≡ v → o + n ≤ v
@@ -168,7 +170,8 @@ module _ (facts : Facts) (m : Machine) (c : Config) (homes : Homes) (entries : E
       → (l : Location) × (get_or new_values k (ordinal (pos 0)) ≡ points l) × (is_passed args l.activation ≡ true)
   given_at k t low high laid =
       let one = given (k - from) t
-      (ap (λ (l : Layout). slice_get l (k - from)) (sym (giving.parameters_are facts m c homes entries alike q level stands own there processes b x checked acc accepts typed runs of_block)) ∙ in_parameters k t low high laid) in (
+      (ap (λ (l : Layout). slice_get l (k - from)) (sym (giving.parameters_are facts m c homes entries alike q level stands own there processes b x checked acc
+      accepts typed runs of_block)) ∙ in_parameters k t low high laid) in (
         one.0,
         ap (λ (vs : List Value). get_or vs k (ordinal (pos 0))) new_is
             ∙ ap (λ n. get_or (taken_from from args values) n (ordinal (pos 0))) (back k from low)
@@ -190,7 +193,9 @@ module _ (facts : Facts) (m : Machine) (c : Config) (homes : Homes) (entries : E
       (subst (λ n. n < 1024) (sym (owner.first facts m c homes entries alike q level stands own there processes b x checked acc.entry i accepts).stands.process)
       (under q (length m.stacks) (subst (λ n. q < n) (sym alike.words.stacks) there) alike.holds.few.processes))
       (grind arith)
-      (subst (λ n. n + (8 + length cells) < 2 ^ 32) (sym (giving.at_bottom facts m c homes entries alike q level stands own there processes b x checked acc accepts typed runs of_block)) (least (length cells) (giving.given_cells facts m c homes entries alike q level stands own there processes b x checked acc accepts typed runs of_block args words hold stacks' same size).few))
+      (subst (λ n. n + (8 + length cells) < 2 ^ 32) (sym (giving.at_bottom facts m c homes entries alike q level stands own there processes b x checked acc
+      accepts typed runs of_block)) (least (length cells) (giving.given_cells facts m c homes entries alike q level stands own there processes b x checked
+      acc accepts typed runs of_block args words hold stacks' same size).few))
     where
       under : (k n : ℕ) → k < n → n ≤ 1024 → k < 1024
       under k n h h' = grind (arith, h, h')
@@ -204,7 +209,8 @@ module _ (facts : Facts) (m : Machine) (c : Config) (homes : Homes) (entries : E
       (lends : (v : Spot) (t : TypeId) → is_known g.state.blocks b shown v.scope ≡ true → links_to here v.scope ≡ 0 → v.variable < variables_of here v.scope
       → from ≤ place_of here v → place_of here v < to → slice_get b.layout (place_of here v) ≡ Some (Variable t true)
       → (l : Location) × (get_or new_values (place_of here v) (ordinal (pos 0)) ≡ points l) × (keeps' l.activation ≡ true)) where
-    pub are_other : AreOther g alike.program.types.counted homes entries c.store new_store keeps keeps' display b open_ones w chain level.setting.view act.number
+    pub are_other : AreOther g alike.program.types.counted homes entries c.store new_store keeps keeps' display b open_ones w chain level.setting.view
+        act.number
         home cells from to shown
     are_other =
         record {
@@ -220,7 +226,8 @@ module _ (facts : Facts) (m : Machine) (c : Config) (homes : Homes) (entries : E
           kept = more;
           kept_own = own_kept;
           live = live;
-          holds = (giving.given_cells facts m c homes entries alike q level stands own there processes b x checked acc accepts typed runs of_block args words hold stacks' same size).holds;
+          holds = (giving.given_cells facts m c homes entries alike q level stands own there processes b x checked acc accepts typed runs of_block args words
+              hold stacks' same size).holds;
           small = small;
           others = λ n other. values_kept c.store act.number (taken_from from args values) n other;
           places = places;
@@ -252,7 +259,9 @@ module _ (facts : Facts) (m : Machine) (c : Config) (homes : Homes) (entries : E
       (λ s lender. let waits = lender_waits c.table p s lender in (stay s waits.0 waits.1, refl))
 
   own_among : IsAmong act.number mine
-  own_among = subst (λ n. IsAmong n mine) (owner.first facts m c homes entries alike q level stands own there processes b x checked acc.entry i accepts).stands.number (is_among (giving.e facts m c homes entries alike q level stands own there processes b x checked acc accepts typed runs of_block) mine (owner.living facts m c homes entries alike q level stands own there processes b x checked acc.entry i accepts))
+  own_among = subst (λ n. IsAmong n mine) (owner.first facts m c homes entries alike q level stands own there processes b x checked acc.entry i
+      accepts).stands.number (is_among (giving.e facts m c homes entries alike q level stands own there processes b x checked acc accepts typed runs of_block)
+      mine (owner.living facts m c homes entries alike q level stands own there processes b x checked acc.entry i accepts))
 
   module _ (lenders open_ones : List ℕ) (open_apart : AreApart b i open_ones) (is : SeenBefore lenders open_ones) where
     abbrev outer_keeps : ℕ → Bool
@@ -274,7 +283,8 @@ module _ (facts : Facts) (m : Machine) (c : Config) (homes : Homes) (entries : E
     outer_are =
         are_other is.keeps outer_keeps open_ones open_ones is.chain outer_sees (λ n may. or_right (n == act.number) (is.keeps n) may)
         (or_left (act.number == act.number) (is.keeps act.number) (is_same act.number act.number refl)) outer_lives
-        (λ v t known links own_variable low high laid. absurd (out_of facts m c homes entries alike q level stands own there processes b x checked acc accepts typed runs of_block open_ones open_apart v known links own_variable low high))
+        (λ v t known links own_variable low high laid. absurd (out_of facts m c homes entries alike q level stands own there processes b x checked acc accepts
+        typed runs of_block open_ones open_apart v known links own_variable low high))
 
     with_outer : SeenThen lenders open_ones
     with_outer =
@@ -294,9 +304,11 @@ module _ (facts : Facts) (m : Machine) (c : Config) (homes : Homes) (entries : E
         → slice_get (layout_with here v.scope) (place_of here v) ≡ Some meaning → is_laid meaning ≡ true
         → SeesAlike level.setting.view view_then (links_to here v.scope) (cell_of here v)
     outer_alike v meaning known own_variable laid_there variable_laid =
-        seen_alike g alike.program.types.counted homes entries c.store new_store is.keeps outer_keeps display b open_ones w is.chain level.setting.view act.number
+        seen_alike g alike.program.types.counted homes entries c.store new_store is.keeps outer_keeps display b open_ones w is.chain level.setting.view
+        act.number
         home cells from to open_ones outer_sees outer_are v meaning known own_variable laid_there variable_laid known
-        (λ links low high. out_of facts m c homes entries alike q level stands own there processes b x checked acc accepts typed runs of_block open_ones open_apart v known links own_variable low high)
+        (λ links low high. out_of facts m c homes entries alike q level stands own there processes b x checked acc accepts typed runs of_block open_ones
+        open_apart v known links own_variable low high)
 
   -- ## With the accept that begins
 
@@ -364,14 +376,19 @@ module _ (facts : Facts) (m : Machine) (c : Config) (homes : Homes) (entries : E
               act.number home cells from to (i ∷ open_before) i
           at_i =
               record {
-                frame = giving.frame_is facts m c homes entries alike q level stands own there processes b x checked acc accepts typed runs of_block ∙ ap (λ n. record { scope = i; activation = act.number; first = n }) (sym (giving.before_is facts m c homes entries alike q level stands own there processes b x checked acc accepts typed runs of_block));
+                frame = giving.frame_is facts m c homes entries alike q level stands own there processes b x checked acc accepts typed runs of_block ∙ ap (λ n.
+                    record { scope = i; activation = act.number; first = n }) (sym (giving.before_is facts m c homes entries alike q level stands own there
+                    processes b x checked acc accepts typed runs of_block));
                 links = giving.links_new facts m c homes entries alike q level stands own there processes b x checked acc accepts typed runs of_block;
                 laid = giving.laid_new facts m c homes entries alike q level stands own there processes b x checked acc accepts typed runs of_block;
                 low = λ v same_scope few.
-                    low from v.variable (laid_before here v.scope) (ap (λ n. laid_before here n) same_scope ∙ giving.before_is facts m c homes entries alike q level stands own there processes b x checked acc accepts typed runs of_block);
+                    low from v.variable (laid_before here v.scope) (ap (λ n. laid_before here n) same_scope ∙ giving.before_is facts m c homes entries alike q
+                    level stands own there processes b x checked acc accepts typed runs of_block);
                 high = λ v same_scope few.
-                    high from v.variable (laid_before here v.scope) (length parameters) (ap (λ n. laid_before here n) same_scope ∙ giving.before_is facts m c homes entries alike q level stands own there processes b x checked acc accepts typed runs of_block)
-                    (subst (λ n. v.variable < n) (giving.variables_new facts m c homes entries alike q level stands own there processes b x checked acc accepts typed runs of_block) few);
+                    high from v.variable (laid_before here v.scope) (length parameters) (ap (λ n. laid_before here n) same_scope ∙ giving.before_is facts m c
+                    homes entries alike q level stands own there processes b x checked acc accepts typed runs of_block)
+                    (subst (λ n. v.variable < n) (giving.variables_new facts m c homes entries alike q level stands own there processes b x checked acc accepts
+                    typed runs of_block) few);
               }
             where
               low : (f k l : ℕ) → l ≡ f → f ≤ l + k

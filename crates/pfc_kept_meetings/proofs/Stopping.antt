@@ -143,7 +143,8 @@ module _ (facts : Facts) (m : Machine) (c : Config) (p : ℕ) (level : LivingLev
           hand =
               subst (λ (s : Stand). HandIs facts acting.homes (ticked table) acting.entries p level (stack_of stacks p).at (stack_of stacks p).operands d' s
               doing hand) (sym row_is)
-              (subst (λ (s : Stack). HandIs facts acting.homes (ticked table) acting.entries p level s.at s.operands d' stand doing hand) (sym moved_here) shows);
+              (subst (λ (s : Stack). HandIs facts acting.homes (ticked table) acting.entries p level s.at s.operands d' stand doing hand) (sym moved_here)
+              shows);
           trial = subst (λ (t : Trial). TrialIs t facts acting.homes acting.entries c.store stacks (ticked table) p level a'.activations d') (sym own) at_own;
         }
 

@@ -5,6 +5,8 @@ pub mod Entered
 pub mod Entrances
 pub mod Behind
 pub mod Entering
+pub mod Exports
+pub mod Enterable
 pub mod Settled
 pub mod Leaving
 pub mod Ending

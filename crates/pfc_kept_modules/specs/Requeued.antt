@@ -50,3 +50,12 @@ IsRequeuedBy level given call = ⊥
 abbrev pub Requeues : LivingLevel → Action → Type 0
 Requeues level (calls x call given) = IsRequeuedBy level given call
 Requeues level n = ⊥
+
+-- a requeue, by the action alone but for what it passes by reference
+abbrev pub IsLastingBy : LivingLevel → List Argument → Call → Type 0
+IsLastingBy level given (to_requeue scope) = All (IsLasting (block_site level.setting.program level.setting.block)) given
+IsLastingBy level given call = ⊥
+
+abbrev pub RequeuesLasting : LivingLevel → Action → Type 0
+RequeuesLasting level (calls x call given) = IsLastingBy level given call
+RequeuesLasting level n = ⊥

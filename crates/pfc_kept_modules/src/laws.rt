@@ -1,15 +1,15 @@
 //! The laws. The functions do nothing: their contracts are the laws.
-ghost use Rattle.std.specs.Prelude.{◌≡◌, ℕ};
+ghost use Rattle.std.specs.Prelude.{◌≡◌, ℕ, List};
 ghost use Rattle.pfc_semantics.specs.Configurations.{of_monitor, Config, activity_of};
-ghost use Rattle.pfc_semantics.specs.Remainders.{Action};
+ghost use Rattle.pfc_semantics.specs.Remainders.{Context, Remainder, Argument, Action, calls, to_module, to_requeue};
 ghost use Rattle.pfc_machines.specs.declared.machine.Machine.{Machine};
 ghost use Rattle.pfc_representation.specs.Levels.{Facts, program_in, LivingLevel};
 ghost use Rattle.pfc_representation.specs.Trials.{mark_of};
 ghost use Rattle.pfc_representation.specs.Acting.{IsActing, HasArrived};
 ghost use Rattle.pfc_representation.specs.Actions.{IsKept, AreKept};
-ghost use Rattle.pfc_kept_modules.specs.Groups.{EntersModule};
+ghost use Rattle.pfc_kept_modules.specs.Groups.{MayEnter, EntersModule, IsModuleEntry};
 ghost use Rattle.pfc_kept_modules.specs.Endings.{EndsInMonitor, AreOutside, IsInOnce};
-ghost use Rattle.pfc_kept_modules.specs.Requeued.{HasFewOperands, Requeues};
+ghost use Rattle.pfc_kept_modules.specs.Requeued.{HasFewOperands, MayRequeue, Requeues, RequeuesLasting};
 
 /// A call of a procedure of a monitor or of a resource from outside begins the same activation on both sides, and the process has the module or waits for it
 /// on both, also where it holds it itself; or both find the stack full.
@@ -36,5 +36,30 @@ pub fn procedures_are_left()
 /// A requeue begins the same activation on both sides in place of the last, with the same caller, and the same scan comes first; or both find the stack full.
 pub fn requeues_are_kept()
     ensures { (facts : Facts) (m : Machine) (c : Config) (p choice : ℕ) (level : LivingLevel) (n : Action) → Requeues level n → HasFewOperands m p
+        → IsActing facts m c p level → HasArrived facts m c p level n → IsKept facts m c p choice n }
+{}
+
+/// Wherever the code of a checked program calls a procedure from outside its module, that can be called: the module exports it, and no part of its variables
+/// is an object.
+pub fn checked_programs_may_enter()
+    ensures { (facts : Facts) (m : Machine) (c : Config) (p : ℕ) (level : LivingLevel) (x : Context) (n scope : ℕ) (k : Remainder) (given : List Argument)
+        → IsActing facts m c p level → HasArrived facts m c p level (calls x (to_module n scope k) given) → MayEnter level n scope }
+{}
+
+/// So all calls from outside modules are kept.
+pub fn module_entries_are_kept()
+    ensures { AreKept IsModuleEntry }
+{}
+
+/// Wherever the code of a checked program requeues, it stands in the body of a guarded procedure, in which no accept stands, and names another of the same
+/// resource, which can be called.
+pub fn checked_programs_may_requeue()
+    ensures { (facts : Facts) (m : Machine) (c : Config) (p : ℕ) (level : LivingLevel) (x : Context) (scope : ℕ) (given : List Argument)
+        → IsActing facts m c p level → HasArrived facts m c p level (calls x (to_requeue scope) given) → MayRequeue level scope }
+{}
+
+/// So a requeue is kept where what it passes by reference lasts.
+pub fn lasting_requeues_are_kept()
+    ensures { (facts : Facts) (m : Machine) (c : Config) (p choice : ℕ) (level : LivingLevel) (n : Action) → RequeuesLasting level n → HasFewOperands m p
         → IsActing facts m c p level → HasArrived facts m c p level n → IsKept facts m c p choice n }
 {}

@@ -3,7 +3,6 @@ use Rattle.std.proofs.Common.{◌≡◌, ℕ, ◌+◌, ◌≤◌, ℤ, Bool, Lis
 use Rattle.std.proofs.Common.{refl, sym, ap, ◌∙◌, subst, arith, inl, inr, ◌⊎◌}
 use Rattle.std.proofs.lemmas.List.{get_or-set_same}
 use Rattle.pfc_code.specs.declared.instructions.Instr.TheVariants.{GRD}
-use Rattle.pfc_types.specs.rules.Expressions.{Env}
 use Rattle.pfc_state.specs.Stands.{Stand, is_unfinished}
 use Rattle.pfc_state.specs.declared.waits.Why.TheVariants.{Barred}
 use Rattle.pfc_values.specs.Numbers.{is_true}
@@ -31,7 +30,7 @@ use Rattle.pfc_resource_actions.specs.Guards as machine
 use Rattle.pfc_machine_acts.specs.Acting.{comes_to}
 use Rattle.pfc_machine_acts.specs.Performing.{silent}
 use Rattle.pfc_machine_acts.specs.Running.{IsNoMove}
-use Rattle.pfc_standing_code.specs.Settings.{Trial, of_own, IsAt}
+use Rattle.pfc_standing_code.specs.Settings.{Trial, of_own, IsAt, IsBeside}
 use Rattle.pfc_standing_code.specs.Effects.{Arm}
 use Rattle.pfc_standing_code.specs.Words.{IsChecked}
 use Rattle.pfc_standing_code.specs.Performs.{IsOwnBar, own_block}
@@ -53,6 +52,7 @@ use Rattle.pfc_kept_scans.proofs.Others.{lender_still}
 use Rattle.pfc_kept_scans.proofs.Procedures.{guarded_alone}
 use Rattle.pfc_kept_scans.proofs.Giving.{WaitsFor, holder_within, next_waits, machine_gives, given_holders}
 use Rattle.pfc_kept_scans.proofs.Giving as give
+use Rattle.pfc_kept_scans.proofs.GuardNames.{guard_checked}
 use Rattle.pfc_kept_scans.proofs.Own.{own_number_is, block_there, number_is, own_held}
 use Rattle.pfc_kept_scans.proofs.Own as mine
 use Rattle.pfc_kept_scans.proofs.Step.{stacks, activities, descriptors, IsStep, behind_of}
@@ -92,7 +92,6 @@ module _ (facts : Facts) (m : Machine) (c : Config) (p choice : ℕ) (level : Li
       which (inr is) = absurd (let no : ⊥ = subst (λ (t : Trial). HasTried t facts s level a.activations d) own is in no)
 
   module _ (b : Block) (checked : IsChecked level.setting b x.env) (by : ArrivedBy level.setting b here ops level.arms (bars x bar k))
-      (names : x.env ≡ bar.context.env)
       (of_own_block : IsOfItsBlock level.setting.program bar) where
     there : IsAt level.setting here (GRD r) x.line
     there = by.1.5
@@ -113,6 +112,11 @@ module _ (facts : Facts) (m : Machine) (c : Config) (p choice : ℕ) (level : Li
 
     has_guard : (block_of level).guard ≡ Some guard.0
     has_guard = ap (λ (y : Block). y.guard) (sym own_one) ∙ guard.1
+
+    names : IsChecked level.setting (block_of level) bar.context.env
+    names =
+        guard_checked facts m c p level acting own bar (subst (λ (y : Block). IsOwnBar level.setting y bar) own_one guard)
+        (subst (λ (y : Block). IsBeside level.setting level.setting.block y) own_one checked.beside)
 
     number : (mine.top facts m c p level acting).own.block ≡ bar.procedure
     number =
@@ -169,9 +173,7 @@ module _ (facts : Facts) (m : Machine) (c : Config) (p choice : ℕ) (level : Li
         record {
           own = own;
           guard = subst (λ (y : Block). IsOwnBar level.setting y bar) its_block guard;
-          names =
-              subst (λ (env : Env). IsChecked level.setting level.setting.block env) names
-              (subst (λ (y : Block). IsChecked level.setting y x.env) its_block checked);
+          names = subst (λ (y : Block). IsChecked level.setting y bar.context.env) (sym own_one ∙ its_block) names;
           waits = inr (given.table.done + 1, row_mine);
           behind = does;
         }
@@ -299,5 +301,5 @@ module _ (facts : Facts) (m : Machine) (c : Config) (p choice : ℕ) (level : Li
 
 pub bars_kept : AreKept IsBarring
 bars_kept facts m c p choice level (bars x bar k) is acting arrived chosen =
-    let (b, checked, by) = arrived.arrived in bar_kept facts m c p choice level x bar k acting arrived by.0.0 b checked by is.0 is.1
+    let (b, checked, by) = arrived.arrived in bar_kept facts m c p choice level x bar k acting arrived by.0.0 b checked by is
 bars_kept facts m c p choice level n is acting arrived chosen = absurd is

@@ -91,7 +91,8 @@ module _ (facts : Facts) (m : Machine) (c : Config) (p : ℕ) (level : LivingLev
   abbrev pub b : Block
   b = theirs.setting.block
 
-  pub guard : ShowsGuard facts acting.homes acting.entries c.table q d theirs (stack_of m.stacks q).at (stack_of m.stacks q).operands (at c.table.rows q) a.doing
+  pub guard : ShowsGuard facts acting.homes acting.entries c.table q d theirs (stack_of m.stacks q).at (stack_of m.stacks q).operands (at c.table.rows q)
+      a.doing
       a.hand r k t arms
   guard =
       shows_guard facts acting.homes acting.entries c.table q d theirs (stack_of m.stacks q).at (stack_of m.stacks q).operands (at c.table.rows q) a.doing

@@ -143,7 +143,9 @@ module _ (facts : Facts) (m : Machine) (c : Config) (p : ℕ) (level : LivingLev
   -- ### Standings
 
   abbrev StandsSo : Option ℕ → ℕ → Type 0
-  StandsSo n q = (at (given_to n (resources_held c) r).table.rows q ≡ at c.table.rows q) ⊎ ((n ≡ Some q) × (at (given_to n (resources_held c) r).table.rows q ≡ Is_ready))
+  StandsSo n q =
+      (at (given_to n (resources_held c) r).table.rows q ≡ at c.table.rows q)
+      ⊎ ((n ≡ Some q) × (at (given_to n (resources_held c) r).table.rows q ≡ Is_ready))
 
   stands_so : (n : Option ℕ) → ((q : ℕ) → n ≡ Some q → WaitsFor r (at c.table.rows q)) → (q : ℕ) → StandsSo n q
   stands_so None some q = inl refl

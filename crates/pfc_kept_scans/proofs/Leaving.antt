@@ -115,7 +115,8 @@ module _ (facts : Facts) (m : Machine) (c : Config) (p : ℕ) (level : LivingLev
         })))
         (Ok (record c { activities = set c.activities p (record a { doing = doing; hand = empty_hand }); table = given.table; resources = given.holders }))
     leaves_same world holders same held_same =
-        comes_then facts m c p level acting line (activities facts m c p level acting (own_level level) ended given.table given.holders None doing empty_hand line)
+        comes_then facts m c p level acting line
+        (activities facts m c p level acting (own_level level) ended given.table given.holders None doing empty_hand line)
         (descriptors facts m c p level acting (own_level level) ended given.table given.holders None doing empty_hand line)
         (stacks facts m c p level acting (own_level level) ended given.table given.holders None doing empty_hand line) given.table given.holders
         (behind_of facts m c p level acting (own_level level) ended given.table given.holders None doing empty_hand line back ops None step) world holders

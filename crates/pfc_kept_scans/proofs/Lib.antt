@@ -17,3 +17,7 @@ pub mod Waiting
 pub mod Scanning
 pub mod Barring
 pub mod Passing
+pub mod Nexts
+pub mod NextStatements
+pub mod NextDoings
+pub mod GuardNames

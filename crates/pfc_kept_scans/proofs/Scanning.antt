@@ -59,6 +59,7 @@ use Rattle.pfc_kept_scans.proofs.Levels.{own_level, level_with, does_with, does_
 use Rattle.pfc_kept_scans.proofs.AtTurn.{IsAtTurnOf, at_turn}
 use Rattle.pfc_kept_scans.proofs.Giving.{WaitsFor, holder_within, next_waits, given, machine_gives, given_rested, given_holders}
 use Rattle.pfc_kept_scans.proofs.Leaving.{leaves_same}
+use Rattle.pfc_kept_scans.proofs.NextDoings.{in_line}
 use Rattle.pfc_kept_scans.proofs.Found as found
 use Rattle.pfc_kept_scans.proofs.Step.{stack_apart, stacks, activities, descriptors, IsStep, behind_of}
 
@@ -416,7 +417,8 @@ module _ (facts : Facts) (m : Machine) (c : Config) (p choice : ℕ) (level : Li
         least n = grind arith
 
 pub turns_kept : (facts : Facts) (m : Machine) (c : Config) (p choice : ℕ) (level : LivingLevel) (x : Context) (scan : Scan) (k : Remainder)
-    → x.line ≡ scan.line → AreBarredAtTheirOwn facts c → HasLeft facts c p scan scan.way → IsActing facts m c p level
+    → AreBarredAtTheirOwn facts c → HasLeft facts c p scan scan.way → IsActing facts m c p level
     → HasArrived facts m c p level (scans x scan k) → IsKept facts m c p choice (scans x scan k)
-turns_kept facts m c p choice level x scan k line_is own_bars left acting arrived =
-    let (b, names, by) = arrived.arrived in turn_kept facts m c p choice level x scan k acting arrived b by own_bars left line_is
+turns_kept facts m c p choice level x scan k own_bars left acting arrived =
+    let (b, names, by) = arrived.arrived in turn_kept facts m c p choice level x scan k acting arrived b by own_bars left
+    (in_line (activity_of (program_in facts) c p).doing x scan k arrived.next)

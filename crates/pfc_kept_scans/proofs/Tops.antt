@@ -12,7 +12,8 @@ use Rattle.pfc_representation.specs.Callers.{Linkage, StandsFor, AreCallers}
 use Rattle.pfc_representation.specs.Trials.{mark_of}
 
 -- the last activation, with its own words, and the room for the guards of others
-pub record HasTop (facts : Facts) (homes : Homes) (store : Store) (p room : ℕ) (level : LivingLevel) (w : ℤ) (xs : List Activation) (es : List Entry) : Type 0 where
+pub record HasTop (facts : Facts) (homes : Homes) (store : Store) (p room : ℕ) (level : LivingLevel) (w : ℤ) (xs : List Activation)
+    (es : List Entry) : Type 0 where
   pub top : Activation
   pub rest : List Activation
   pub activations_are : xs ≡ top ∷ rest

@@ -24,7 +24,7 @@ HasLeft facts c p scan leave =
     All (λ (a : Activation). a.mark ≢ of_resource scan.resource) (activity_of (program_in facts) c p).activations
 HasLeft facts c p scan (own bar) = Unit {0}
 
--- a false guard of the own procedure, with the names in view in it
+-- a false guard of the own procedure
 abbrev pub IsBarring : LivingLevel → Action → Type 0
-IsBarring level (bars x bar k) = (x.env ≡ bar.context.env) × IsOfItsBlock level.setting.program bar
+IsBarring level (bars x bar k) = IsOfItsBlock level.setting.program bar
 IsBarring level n = ⊥

@@ -1,5 +1,5 @@
 //! The laws. The functions do nothing: their contracts are the laws.
-ghost use Rattle.std.specs.Prelude.{◌≡◌, ℕ};
+ghost use Rattle.std.specs.Prelude.{ℕ};
 ghost use Rattle.pfc_semantics.specs.Configurations.{Config};
 ghost use Rattle.pfc_semantics.specs.Remainders.{Context, Scan, Tried, Remainder, scans, passes};
 ghost use Rattle.pfc_machines.specs.declared.machine.Machine.{Machine};
@@ -12,7 +12,7 @@ ghost use Rattle.pfc_kept_scans.specs.Groups.{AreBarredAtTheirOwn, HasLeft, IsBa
 /// found, and the process leaves the resource to the same entrant, or tries its own guard.
 pub fn turns_of_scans_are_kept()
     ensures { (facts : Facts) (m : Machine) (c : Config) (p choice : ℕ) (level : LivingLevel) (x : Context) (scan : Scan) (k : Remainder)
-        → x.line ≡ scan.line → AreBarredAtTheirOwn facts c → HasLeft facts c p scan scan.way → IsActing facts m c p level
+        → AreBarredAtTheirOwn facts c → HasLeft facts c p scan scan.way → IsActing facts m c p level
         → HasArrived facts m c p level (scans x scan k) → IsKept facts m c p choice (scans x scan k) }
 {}
 

@@ -7,7 +7,6 @@ use Rattle.pfc_semantics.specs.Configurations.{Config, Effect}
 use Rattle.pfc_semantics.specs.Channels.{arms_of_all}
 use Rattle.pfc_semantics.specs.Selects as text
 use Rattle.pfc_semantics.specs.Selects.{decides_at}
-use Rattle.pfc_translation.specs.Images.{image_of}
 use Rattle.pfc_stacks.specs.Stacks.{stack_of, operands_of}
 use Rattle.pfc_machines.specs.declared.machine.Machine.{Machine}
 use Rattle.pfc_machines.specs.declared.alternatives.KeptAlternative.{KeptAlternative}
@@ -114,50 +113,49 @@ module _ (facts : Facts) (m : Machine) (c : Config) (p choice : ℕ) (level : Li
   less_there =
       subst (λ (ns : List ℕ). i < length ns) (sym (matched_same facts m c p choice level x sel k acting arrived own b checked by)) less
 
-  module _ (few : (image_of facts.tree).arms < 2 ^ 32) where
-    can_take : CanTakeAt i p m
-    can_take =
-        record {
-          offer = may_offer facts m c p choice level x sel k acting arrived own b checked by few;
-          matched = less_there;
-          partner = λ place q one is there met.
-              let place_is : its_one.place ≡ place =
-              same_one its_one.place place (slice_get (matched_places m p) i)
-              (the.place_there facts m c p choice level x sel k acting arrived own b checked by i less) is in
-              let one_is : at_it.kept ≡ one =
-              same_one at_it.kept one (slice_get (communications (open_ones m p)) place)
-              (subst (λ n. slice_get (communications (open_ones m p)) n ≡ Some at_it.kept) place_is
-              (the.own_there facts m c p choice level x sel k acting arrived own b checked by i less)) there in
-              let whom_is : its_one.whom ≡ q =
-              same_one its_one.whom q (machine.partner_at m.world.rows p (slice_get (open_arms m p) place))
-              (subst (λ n. machine.partner_at m.world.rows p (slice_get (open_arms m p) n) ≡ Some its_one.whom) place_is partner_there) met in
-              subst (λ (y : KeptAlternative). CanCommunicate y.alternative.offer y p q m) one_is
-              (subst (λ n. CanCommunicate at_it.kept.alternative.offer at_it.kept p n m) whom_is passes.1);
-        }
-      where
-        partner_there : machine.partner_at m.world.rows p (slice_get (open_arms m p) its_one.place) ≡ Some its_one.whom
-        partner_there =
-            ap (λ y. machine.partner_at m.world.rows p y) (the.arm_there facts m c p choice level x sel k acting arrived own b checked by i less)
-            ∙ the.met_there facts m c p choice level x sel k acting arrived own b checked by i less
+  can_take : CanTakeAt i p m
+  can_take =
+      record {
+        offer = may_offer facts m c p choice level x sel k acting arrived own b checked by;
+        matched = less_there;
+        partner = λ place q one is there met.
+            let place_is : its_one.place ≡ place =
+            same_one its_one.place place (slice_get (matched_places m p) i)
+            (the.place_there facts m c p choice level x sel k acting arrived own b checked by i less) is in
+            let one_is : at_it.kept ≡ one =
+            same_one at_it.kept one (slice_get (communications (open_ones m p)) place)
+            (subst (λ n. slice_get (communications (open_ones m p)) n ≡ Some at_it.kept) place_is
+            (the.own_there facts m c p choice level x sel k acting arrived own b checked by i less)) there in
+            let whom_is : its_one.whom ≡ q =
+            same_one its_one.whom q (machine.partner_at m.world.rows p (slice_get (open_arms m p) place))
+            (subst (λ n. machine.partner_at m.world.rows p (slice_get (open_arms m p) n) ≡ Some its_one.whom) place_is partner_there) met in
+            subst (λ (y : KeptAlternative). CanCommunicate y.alternative.offer y p q m) one_is
+            (subst (λ n. CanCommunicate at_it.kept.alternative.offer at_it.kept p n m) whom_is passes.1);
+      }
+    where
+      partner_there : machine.partner_at m.world.rows p (slice_get (open_arms m p) its_one.place) ≡ Some its_one.whom
+      partner_there =
+          ap (λ y. machine.partner_at m.world.rows p y) (the.arm_there facts m c p choice level x sel k acting arrived own b checked by i less)
+          ∙ the.met_there facts m c p choice level x sel k acting arrived own b checked by i less
 
-    machine_is : machine.decides decision.mark decision.other choice p m ≡ Ok (machine.takes_matched i p m)
-    machine_is =
-        machine_decides decision.mark decision.other choice p i m (matched_places m p) less_there
-        ∙ ap (λ n. Ok (machine.takes_matched n p m)) place_same
+  machine_is : machine.decides decision.mark decision.other choice p m ≡ Ok (machine.takes_matched i p m)
+  machine_is =
+      machine_decides decision.mark decision.other choice p i m (matched_places m p) less_there
+      ∙ ap (λ n. Ok (machine.takes_matched n p m)) place_same
 
-    text_is : decides_at g c p x sel k choice ≡ Ok (text.takes_matched g c p x sel k i)
-    text_is = text_decides g c p i choice x sel k (text.matched_places g c p sel) less
+  text_is : decides_at g c p x sel k choice ≡ Ok (text.takes_matched g c p x sel k i)
+  text_is = text_decides g c p i choice x sel k (text.matched_places g c p sel) less
 
-    pub message_kept : IsKept facts m c p choice (decides x sel k)
-    message_kept =
-        decides_kept facts m c p choice level x sel k acting arrived own b checked by few
-        (λ some. subst (λ n. CanTakeAt n p m) (sym place_same) can_take)
-        (subst (λ (e : MachineEffect). ComeToSame facts m c p x.line (silent e) (decides_at g c p x sel k choice)) (sym machine_is)
-        (subst (λ (e : Effect). ComeToSame facts m c p x.line (silent (Ok (machine.takes_matched i p m))) e) (sym text_is) passes.0))
+  pub message_kept : IsKept facts m c p choice (decides x sel k)
+  message_kept =
+      decides_kept facts m c p choice level x sel k acting arrived own b checked by
+      (λ some. subst (λ n. CanTakeAt n p m) (sym place_same) can_take)
+      (subst (λ (e : MachineEffect). ComeToSame facts m c p x.line (silent e) (decides_at g c p x sel k choice)) (sym machine_is)
+      (subst (λ (e : Effect). ComeToSame facts m c p x.line (silent (Ok (machine.takes_matched i p m))) e) (sym text_is) passes.0))
 
 -- where the alternative that is taken has a message
 pub messages_are_kept : (facts : Facts) (m : Machine) (c : Config) (p choice : ℕ) (level : LivingLevel) (x : Context) (sel : Selecting) (k : Remainder)
-    → (image_of facts.tree).arms < 2 ^ 32 → TakesMessage (program_in facts) c p sel choice
+    → TakesMessage (program_in facts) c p sel choice
     → IsActing facts m c p level → HasArrived facts m c p level (decides x sel k) → IsKept facts m c p choice (decides x sel k)
-messages_are_kept facts m c p choice level x sel k few message acting arrived =
-    let (b, checked, by) = arrived.arrived in message_kept facts m c p choice level x sel k acting arrived by.0 b checked by message few
+messages_are_kept facts m c p choice level x sel k message acting arrived =
+    let (b, checked, by) = arrived.arrived in message_kept facts m c p choice level x sel k acting arrived by.0 b checked by message

@@ -197,7 +197,8 @@ module _ (facts : Facts) (m : Machine) (c : Config) (p : ℕ) (level : LivingLev
           → ComeToSame facts m c p x.line (silent (machine.times_out (if early then Ok (Some due) else Err Late) branch p m))
           (if early then Ok (waits_until g c p x sel k (Some due) (behind_open it.o k)) else Err Late)
       by_early true is =
-          waits_same facts m c p level acting own b x checked sel k opened behind_all arms_fit within ops_fit (Some due) (λ t h. subst (λ i. i ≤ 10 ^ 15) (same_due t h) (is_least due latest is)) branch (behind_open it.o k)
+          waits_same facts m c p level acting own b x checked sel k opened behind_all arms_fit within ops_fit (Some due)
+          (λ t h. subst (λ i. i ≤ 10 ^ 15) (same_due t h) (is_least due latest is)) branch (behind_open it.o k)
           (ahead_within branch is_ahead leads) (λ t h. goes)
         where
           same_due : (t : ℕ) → Some due ≡ Some t → due ≡ t
@@ -209,7 +210,9 @@ module _ (facts : Facts) (m : Machine) (c : Config) (p : ℕ) (level : LivingLev
           (silent (machine.times_out (if zero_wait then Ok None else (if nat_le due latest then Ok (Some due) else Err Late)) branch p m))
           (if zero_wait then Ok (goes_on g c p x (behind_open it.o k)) else
           (if nat_le due latest then Ok (waits_until g c p x sel k (Some due) (behind_open it.o k)) else Err Late))
-      by_zero true = gone_same facts m c p level acting own b x checked sel k opened behind_all arms_fit within ops_fit branch (going x.env (behind_open it.o k)) leads goes
+      by_zero true =
+          gone_same facts m c p level acting own b x checked sel k opened behind_all arms_fit within ops_fit branch (going x.env (behind_open it.o k))
+          leads goes
       by_zero false = by_early (nat_le due latest) refl
 
       machine_due : due_after m.world.moment (seconds_of it.kept.alternative.offer) ≡ due_after c.table.moment it.seconds
@@ -253,7 +256,9 @@ module _ (facts : Facts) (m : Machine) (c : Config) (p : ℕ) (level : LivingLev
   else_same : (mark j : ℕ) (other : Otherwise) → IsAt level.setting here (SEL mark (suc j)) x.line
       → GoesOnAt level.setting b (suc j) ops [] (going x.env (stmts_behind other.next other.stmts k))
       → ComeToSame facts m c p x.line (silent (machine.goes_otherwise (suc j) p m)) (goes_otherwise g c p x sel k (Some other))
-  else_same mark j other there goes = gone_same facts m c p level acting own b x checked sel k opened behind_all arms_fit within ops_fit (suc j) (going x.env (stmts_behind other.next other.stmts k)) (else_within mark j there) goes
+  else_same mark j other there goes =
+      gone_same facts m c p level acting own b x checked sel k opened behind_all arms_fit within ops_fit (suc j)
+      (going x.env (stmts_behind other.next other.stmts k)) (else_within mark j there) goes
 
   -- the instruction, and what it does where nothing is matched
   pub record Decides : Type 0 where

@@ -92,7 +92,8 @@ module _ (facts : Facts) (m : Machine) (c : Config) (p : ℕ) (level : LivingLev
   pub both_go : ComeToSame facts m c p line
       (silent (Ok (record m {
         stacks = stacks';
-        descriptors = both.descriptors facts m c p level acting own q waits latest to doing line alone branch store' stacks' size same_places holds doing_q behind;
+        descriptors =
+            both.descriptors facts m c p level acting own q waits latest to doing line alone branch store' stacks' size same_places holds doing_q behind;
         world = rested (placed m.world q Is_ready);
       })))
       (Ok (record c { activities = activities; store = store'; table = table }))

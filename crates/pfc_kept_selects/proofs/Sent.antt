@@ -378,6 +378,7 @@ module _ (facts : Facts) (m : Machine) (c : Config) (p choice : ℕ) (level : Li
         descriptor = subst (λ j. q < j) (sym acting.alike.words.descriptors) (is_process facts m c p level acting own q waits_open);
         offered = is_offering facts m c p level acting own q (From n0) ticket;
         message =
-            subst (λ (kept : Option KeptAlternative). IfSome kept (λ (y : KeptAlternative). CanHandOver m p (ref_of (target_of y.alternative.offer)) at_it.kept))
+            subst (λ (kept : Option KeptAlternative). IfSome kept
+            (λ (y : KeptAlternative). CanHandOver m p (ref_of (target_of y.alternative.offer)) at_it.kept))
             (sym (in_machine facts m c p level acting own q (From n0) ticket)) can_hand_over;
       })

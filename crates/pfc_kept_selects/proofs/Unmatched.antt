@@ -108,7 +108,8 @@ module _ (facts : Facts) (m : Machine) (c : Config) (p : ℕ) (level : LivingLev
 
   pub its_branches : HasBranches facts acting.homes acting.entries c.store c.table p level latest_gone
   its_branches =
-      branches_of facts acting.homes acting.entries c.store c.table p level s.room (word_of (last_activation m.stacks p)) n d.communications a.activations (acting.entries p) count_is
+      branches_of facts acting.homes acting.entries c.store c.table p level s.room (word_of (last_activation m.stacks p)) n d.communications
+      a.activations (acting.entries p) count_is
       acting.actor.stands.callers
 
   module _ (to : ℕ) (doing : Doing) (leads : IsInBlock facts its_branches.number to) (goes : GoesOnAt level.setting b to ops [] doing) where

@@ -1,10 +1,9 @@
 //! The laws. The functions do nothing: their contracts are the laws.
-ghost use Rattle.std.specs.Prelude.{◌≡◌, ◌<◌, ◌^◌, ℕ, [], ◌⊎◌};
+ghost use Rattle.std.specs.Prelude.{◌≡◌, ℕ, [], ◌⊎◌};
 ghost use Rattle.pfc_semantics.specs.Configurations.{Config};
 ghost use Rattle.pfc_semantics.specs.Remainders.{Context, Selecting, Remainder, decides};
 ghost use Rattle.pfc_semantics.specs.Selects.{choices, matched_places};
 ghost use Rattle.pfc_semantics.specs.Programs.{Program};
-ghost use Rattle.pfc_translation.specs.Images.{image_of};
 ghost use Rattle.pfc_stacks.specs.Stacks.{stack_of};
 ghost use Rattle.pfc_machines.specs.declared.machine.Machine.{Machine};
 ghost use Rattle.pfc_representation.specs.Levels.{Facts, program_in, LivingLevel};
@@ -16,7 +15,7 @@ ghost use Rattle.pfc_kept_selects.specs.Groups.{LeadAhead, TakesMessage, TakesEn
 /// gone, or the process waits with all that is open, or both sides end in the same fault.
 pub fn unmatched_selects_are_kept()
     ensures { (facts : Facts) (m : Machine) (c : Config) (p choice : ℕ) (level : LivingLevel) (x : Context) (sel : Selecting) (k : Remainder)
-        → (image_of facts.tree).arms < 2 ^ 32 → LeadAhead (stack_of m.stacks p).at level.arms → matched_places (program_in facts) c p sel ≡ []
+        → LeadAhead (stack_of m.stacks p).at level.arms → matched_places (program_in facts) c p sel ≡ []
         → IsActing facts m c p level → HasArrived facts m c p level (decides x sel k) → IsKept facts m c p choice (decides x sel k) }
 {}
 
@@ -24,7 +23,7 @@ pub fn unmatched_selects_are_kept()
 /// communication or in a select of its own, both go on behind their alternatives.
 pub fn messages_of_selects_are_kept()
     ensures { (facts : Facts) (m : Machine) (c : Config) (p choice : ℕ) (level : LivingLevel) (x : Context) (sel : Selecting) (k : Remainder)
-        → (image_of facts.tree).arms < 2 ^ 32 → TakesMessage (program_in facts) c p sel choice → IsActing facts m c p level
+        → TakesMessage (program_in facts) c p sel choice → IsActing facts m c p level
         → HasArrived facts m c p level (decides x sel k) → IsKept facts m c p choice (decides x sel k) }
 {}
 

@@ -23,10 +23,10 @@ use Rattle.pfc_types.specs.declared.scope.Meaning.TheVariants.{Faulty}
 use Rattle.pfc_types.specs.rules.Kinds.{has_object, type_name_rules, type_meaning, variable_meaning}
 use Rattle.pfc_types.specs.rules.Constants.{Ordinal, Extent, same_ordinal, constant_value, constant_place, broken_constant, broken_ranges, range_extents, Made, added_unless, added, channel_form, array_of, made_arrays, MadeFields, made_field, made_names, made_group, record_form, fields_begun, made, made_items, made_item, type_place}
 use Rattle.pfc_types.specs.rules.Declarations.{constant_meaning, const_state, consts_state, type_state, types_state, Owner, owner_rules, owned_type, passes_most, populated, brought, var_name_state, var_names_state, var_state, vars_state, broken_group, group_type, Heading, formal_heading, formals_heading, group_viewed, group_heading, groups_heading, heading, EntryHeading, entry_formal, entry_formals, entry_group, entry_groups, entry_meaning, entry_state, entries_state, accept_rule, accept_groups, accept_heading, accepted, Labels, label_noted, labels_noted, stmt_state, stmts_state, body_state, arms_state, arm_state, accept_state, alts_state, alt_state, comm_state, sub_meaning}
-use Rattle.pfc_number_laws.specs.Fitting.{FitsMeaning}
+use Rattle.pfc_run_invariants.specs.Fitting.{FitsMeaning}
 use Rattle.pfc_number_laws.specs.Written.{FitsItem}
-use Rattle.pfc_number_laws.proofs.Lists.{all_push, all_set, all_get}
-use Rattle.pfc_number_laws.proofs.Alternatives.{FitsOrdinal, constant_fits}
+use Rattle.pfc_run_invariants.proofs.Lists.{all_push, all_set, all_get}
+use Rattle.pfc_run_invariants.proofs.Alternatives.{FitsOrdinal, constant_fits}
 use Rattle.pfc_number_laws.proofs.Names.{FitsName, FitsScope, names_fit}
 
 abbrev pub FitsState : State → Type 0

@@ -1,14 +1,3 @@
-pub mod Lists
-pub mod Numbers
-pub mod Expressions
-pub mod Alternatives
-pub mod Statements
-pub mod Rewriting
-pub mod Stores
-pub mod Steps
-pub mod Communications
-pub mod Effects
-pub mod Runs
 pub mod Objects
 pub mod Names
 pub mod Declarations
@@ -16,3 +5,4 @@ pub mod Parts
 pub mod Programs
 pub mod Few
 pub mod Tokens
+pub mod Runs

@@ -7,8 +7,8 @@ use Rattle.pfc_tree.specs.Symbols.{Text}
 use Rattle.pfc_types.specs.Scopes.{Names, Level, meaning_in, position_in, predeclared_names, scope_at, within, found_at, found_in, meaning_of}
 use Rattle.pfc_types.specs.declared.scope.Meaning.{Meaning}
 use Rattle.pfc_types.specs.declared.view.Found.{Found}
-use Rattle.pfc_number_laws.specs.Fitting.{FitsMeaning, FitNames}
-use Rattle.pfc_number_laws.proofs.Lists.{all_get}
+use Rattle.pfc_run_invariants.specs.Fitting.{FitsMeaning, FitNames}
+use Rattle.pfc_run_invariants.proofs.Lists.{all_get}
 
 abbrev pub FitsName : Text × Meaning → Type 0
 FitsName x = FitsMeaning (Some x.1)

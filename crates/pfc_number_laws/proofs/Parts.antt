@@ -16,7 +16,7 @@ use Rattle.pfc_types.specs.declared.heads.SubHead.{SubHead}
 use Rattle.pfc_types.specs.declared.heads.ProcessHead.{ProcessHead}
 use Rattle.pfc_types.specs.rules.Declarations.{Owner, in_program, elsewhere, populated, heading, entries_state, scope_cells, result_cells, cells_rule, body_state, broken_sort, sort_of, whole_sort, sub_meaning, sub_headed, may_export, export_state, export_list, exports_state, module_owner, module_closed, init_state, process_named, process_headed, process_cells, part_state, parts_state, sub_state, module_state, process_state}
 use Rattle.pfc_types.specs.rules.Whole.{begun, declared_parts, declared_all, main_cells, finished}
-use Rattle.pfc_number_laws.specs.Fitting.{FitNames}
+use Rattle.pfc_run_invariants.specs.Fitting.{FitNames}
 use Rattle.pfc_number_laws.specs.Written.{FitsPart, FitParts, FitsSub, FitsModule, FitsProcess, FitsTree}
 use Rattle.pfc_number_laws.proofs.Names.{names_fit}
 use Rattle.pfc_number_laws.proofs.Declarations.{FitsState, noted, opened, declared, either_state, sub_fits, consts_fit, types_fit, populated_fits, vars_fit, heading_fits, entries_fit, body_fits}

@@ -1,5 +1,5 @@
 -- A tree that is read from tokens whose numbers have 32 bits has such numbers alone.
-use Rattle.std.proofs.Common.{true, false, List, [], ◌∷◌, ◌++◌, map, Option, Some, None, option_map}
+use Rattle.std.proofs.Common.{◌+◌, ℕ, true, false, List, [], ◌∷◌, ◌++◌, map, Option, Some, None, option_map}
 use Rattle.std.specs.List.{AllByRecursion}
 use Rattle.pfc_base.specs.declared.tokens.Kind.TheVariants.{Word, Sign}
 use Rattle.pfc_base.specs.declared.word.TheConstants.{DO, ELSE, END, OF, REPLICATE, THEN, TO, WHEN}
@@ -11,7 +11,7 @@ use Rattle.pfc_tree.specs.declared.tree.ConstItem.{ConstItem}
 use Rattle.pfc_tree.specs.declared.tree.Spread.{Spread}
 use Rattle.pfc_tree.specs.trees.Exprs.{ExprTree, SimpleTree, SummandTrees, TermTree, MultiplierTrees, FactorTree, DesigTree, SelectorTree, SelectorTrees, ExprTrees, ActualTree, ActualTrees, plain, related, sum, no_summands, more_summands, product, no_multipliers, more_multipliers, number, literal, negation, paren, applied, desig, index, field, no_selectors, more_selectors, no_exprs, more_exprs, actual, actual_width, no_actuals, more_actuals}
 use Rattle.pfc_tree.specs.trees.Types.{GroupTree}
-use Rattle.pfc_tree.specs.trees.Stmts.{StmtTree, StmtTrees, BodyTree, ArmTree, ArmTrees, AcceptTree, AltTree, AltTrees, CommTree, empty, null, block, if_then, if_then_else, case_of, while_do, repeat_until, repeat_forever, for_do, cobegin, accepting, requeue, select, select_else, assign, send, receive, call, no_stmts, more_stmts, body, arm, no_arms, more_arms, accept, accept_do, alt, no_alts, more_alts, comm_accept, comm_send, comm_receive, timeout, terminate}
+use Rattle.pfc_tree.specs.trees.Stmts.{StmtTree, StmtTrees, BodyTree, ArmTrees, AcceptTree, AltTree, AltTrees, CommTree, empty, null, block, if_then, if_then_else, case_of, while_do, repeat_until, repeat_forever, for_do, cobegin, accepting, requeue, select, select_else, assign, send, receive, call, no_stmts, more_stmts, body, arm, no_arms, more_arms, accept, accept_do, alt, no_alts, more_alts, comm_accept, comm_send, comm_receive, timeout, terminate}
 use Rattle.pfc_tree.specs.trees.Parts.{KindTree, PartTree, PartTrees, SubTree, ModuleTree, ProcessTree, ProgramTree, procedure, function, guarded, consts, types, vars, sub_part, monitor, resource, process_part, no_parts, more_parts, sub, the_module, process}
 use Rattle.pfc_tree.specs.forget.Types.{bare, forget_constant, forget_const_item, forget_group}
 use Rattle.pfc_tree.specs.forget.Stmts.{forget_spread, forget_stmt, forget_stmts, forget_body, forget_arm, forget_arms, forget_accept, forget_alt, forget_alts, forget_comm}
@@ -21,7 +21,8 @@ use Rattle.pfc_tree.specs.tokens.Stmts.{direction_symbol, spread_tokens, guard_t
 use Rattle.pfc_tree.specs.tokens.Parts.{exports_tokens, entries_tokens, ending_tokens, heading_tokens, part_tokens, parts_tokens, sub_tokens, module_tokens, process_tokens, params_tokens, tokens_of}
 use Rattle.pfc_tree.specs.forget.Exprs.{forget_expr, forget_simple, forget_summands, forget_term, forget_multipliers, forget_factor, forget_desig, forget_selector, forget_selectors, forget_exprs, forget_actual, forget_actuals}
 use Rattle.pfc_tree.specs.tokens.Exprs.{expr_tokens, simple_tokens, summands_tokens, term_tokens, multipliers_tokens, factor_tokens, desig_tokens, selectors_tokens, selector_tokens, exprs_tokens, comma_exprs_tokens, actuals_tokens, comma_actuals_tokens, actual_tokens}
-use Rattle.pfc_number_laws.specs.Written.{FitsConstant, FitsSpread, FitsStmt, FitStmts, FitsBody, FitArms, FitsArm, FitsAccept, FitsAlt, FitAlts, FitsComm, FitsKind, FitsEnding, FitsItem, FitsPart, FitParts, FitsSub, FitsModule, FitsProcess, FitsTree, FitsExpr, FitsSimple, FitSummands, FitsTerm, FitMultipliers, FitsFactor, FitsDesig, FitSelectors, FitsSelector, FitExprs, FitsActual, FitActuals}
+use Rattle.pfc_number_laws.specs.Written.{any, FitsKind, FitsEnding, FitsItem, FitsPart, FitParts, FitsSub, FitsModule, FitsProcess, FitsTree}
+use Rattle.pfc_run_invariants.specs.Written.{FitsConstant, FitsSpread, FitsStmt, FitStmts, FitsBody, FitArms, FitsAccept, FitsAlt, FitAlts, FitsComm, FitsExpr, FitsSimple, FitSummands, FitsTerm, FitMultipliers, FitsFactor, FitsDesig, FitSelectors, FitsSelector, FitExprs, FitsActual, FitActuals}
 use Rattle.pfc_number_laws.specs.Tokens.{FitSymbols}
 
 front : (xs ys : List Symbol) → FitSymbols (xs ++ ys) → FitSymbols xs
@@ -138,117 +139,119 @@ spread_fits r all =
 -- ## Statements
 
 mutual
-  stmt_fits : (s : StmtTree) → FitSymbols (stmt_tokens (forget_stmt s)) → FitsStmt s
-  stmt_fits empty all = tt
-  stmt_fits (null p) all = tt
-  stmt_fits (block b p) all = body_fits b all
-  stmt_fits (if_then e s p) all =
-      let first = expr_tokens (forget_expr e) in (expr_fits e (front first _ all.1), stmt_fits s (back first _ all.1).1)
-  stmt_fits (if_then_else e s t p) all =
+  stmt_fits : (n : ℕ) (s : StmtTree) → FitSymbols (stmt_tokens (forget_stmt s)) → FitsStmt any n s
+  stmt_fits n empty all = tt
+  stmt_fits n (null p) all = tt
+  stmt_fits n (block b p) all = body_fits _ b all
+  stmt_fits n (if_then e s p) all =
+      let first = expr_tokens (forget_expr e) in (expr_fits e (front first _ all.1), stmt_fits _ s (back first _ all.1).1)
+  stmt_fits n (if_then_else e s t p) all =
       let parts = three (expr_tokens (forget_expr e)) (Word THEN ∷ stmt_tokens (forget_stmt s)) (Word ELSE ∷ stmt_tokens (forget_stmt t)) all.1 in
-      (expr_fits e parts.0, stmt_fits s parts.1.1, stmt_fits t parts.2.1)
-  stmt_fits (case_of e arms last p) all =
+      (expr_fits e parts.0, stmt_fits _ s parts.1.1, stmt_fits _ t parts.2.1)
+  stmt_fits n (case_of e arms last p) all =
       let parts = four (expr_tokens (forget_expr e)) (Word OF ∷ arms_tokens (forget_arms arms)) (last_tokens last) (Word END ∷ []) all.1 in
-      (expr_fits e parts.0, arms_fit arms parts.1.1)
-  stmt_fits (while_do e s p) all =
-      let first = expr_tokens (forget_expr e) in (expr_fits e (front first _ all.1), stmt_fits s (back first _ all.1).1)
-  stmt_fits (repeat_until ss e p) all =
-      let first = stmts_tokens (forget_stmts ss) in (stmts_fit ss (front first _ all.1), expr_fits e (back first _ all.1).1)
-  stmt_fits (repeat_forever ss p) all = stmts_fit ss (front (stmts_tokens (forget_stmts ss)) _ all.1)
-  stmt_fits (for_do x a down b s p q) all =
+      (expr_fits e parts.0, arms_fit _ arms parts.1.1)
+  stmt_fits n (while_do e s p) all =
+      let first = expr_tokens (forget_expr e) in (expr_fits e (front first _ all.1), stmt_fits _ s (back first _ all.1).1)
+  stmt_fits n (repeat_until ss e p) all =
+      let first = stmts_tokens (forget_stmts ss) in (stmts_fit _ ss (front first _ all.1), expr_fits e (back first _ all.1).1)
+  stmt_fits n (repeat_forever ss p) all = stmts_fit _ ss (front (stmts_tokens (forget_stmts ss)) _ all.1)
+  stmt_fits n (for_do x a down b s p q) all =
       let parts =
       three (expr_tokens (forget_expr a)) (direction_symbol down ∷ expr_tokens (forget_expr b)) (Word DO ∷ stmt_tokens (forget_stmt s)) all.1.1.1 in
-      (expr_fits a parts.0, expr_fits b parts.1.1, stmt_fits s parts.2.1)
-  stmt_fits (cobegin ss last p) all = stmts_fit ss (front (stmts_tokens (forget_stmts ss)) _ all.1)
-  stmt_fits (accepting a p) all = accept_fits a all.1
-  stmt_fits (requeue x args p) all = actuals_fit args all.1.1
-  stmt_fits (select true alts p q) all = alts_fit alts (front (alts_tokens (forget_alts alts)) _ all.1.1)
-  stmt_fits (select false alts p q) all = alts_fit alts (front (alts_tokens (forget_alts alts)) _ all.1)
-  stmt_fits (select_else true alts ss at p q) all =
+      (expr_fits a parts.0, expr_fits b parts.1.1, stmt_fits _ s parts.2.1)
+  stmt_fits n (cobegin ss last p) all = stmts_fit _ ss (front (stmts_tokens (forget_stmts ss)) _ all.1)
+  stmt_fits n (accepting a p) all = accept_fits _ a all.1
+  stmt_fits n (requeue x args p) all = actuals_fit args all.1.1
+  stmt_fits n (select true alts p q) all = alts_fit _ alts (front (alts_tokens (forget_alts alts)) _ all.1.1)
+  stmt_fits n (select false alts p q) all = alts_fit _ alts (front (alts_tokens (forget_alts alts)) _ all.1)
+  stmt_fits n (select_else true alts ss at p q) all =
       let parts = three (alts_tokens (forget_alts alts)) (Word ELSE ∷ stmts_tokens (forget_stmts ss)) (Word END ∷ []) all.1.1 in
-      (alts_fit alts parts.0, stmts_fit ss parts.1.1)
-  stmt_fits (select_else false alts ss at p q) all =
+      (alts_fit _ alts parts.0, stmts_fit _ ss parts.1.1)
+  stmt_fits n (select_else false alts ss at p q) all =
       let parts = three (alts_tokens (forget_alts alts)) (Word ELSE ∷ stmts_tokens (forget_stmts ss)) (Word END ∷ []) all.1 in
-      (alts_fit alts parts.0, stmts_fit ss parts.1.1)
-  stmt_fits (assign d e p q) all =
+      (alts_fit _ alts parts.0, stmts_fit _ ss parts.1.1)
+  stmt_fits n (assign d e p q) all =
       let first = desig_tokens (forget_desig d) in (desig_fits d (front first _ all), expr_fits e (back first _ all).1)
-  stmt_fits (send d e p q) all =
+  stmt_fits n (send d e p q) all =
       let first = desig_tokens (forget_desig d) in (desig_fits d (front first _ all), expr_fits e (back first _ all).1)
-  stmt_fits (receive d v p q) all =
+  stmt_fits n (receive d v p q) all =
       let first = desig_tokens (forget_desig d) in (desig_fits d (front first _ all), desig_fits v (back first _ all).1)
-  stmt_fits (call d args p) all =
+  stmt_fits n (call d args p) all =
       let first = desig_tokens (forget_desig d) in (desig_fits d (front first _ all), actuals_fit args (back first _ all))
 
-  stmts_fit : (ss : StmtTrees) → FitSymbols (stmts_tokens (forget_stmts ss)) → FitStmts ss
-  stmts_fit no_stmts all = tt
-  stmts_fit (more_stmts s ss) all =
-      let first = stmt_tokens (forget_stmt s) in (stmt_fits s (front first _ all), behind_fit ss (back first _ all))
+  stmts_fit : (n : ℕ) (ss : StmtTrees) → FitSymbols (stmts_tokens (forget_stmts ss)) → FitStmts any n ss
+  stmts_fit n no_stmts all = tt
+  stmts_fit n (more_stmts s ss) all =
+      let first = stmt_tokens (forget_stmt s) in (stmt_fits _ s (front first _ all), behind_fit _ ss (back first _ all))
 
-  behind_fit : (ss : StmtTrees) → FitSymbols (semicolon_stmts_tokens (forget_stmts ss)) → FitStmts ss
-  behind_fit no_stmts all = tt
-  behind_fit (more_stmts s ss) all =
-      let first = stmt_tokens (forget_stmt s) in (stmt_fits s (front first _ all.1), behind_fit ss (back first _ all.1))
+  behind_fit : (n : ℕ) (ss : StmtTrees) → FitSymbols (semicolon_stmts_tokens (forget_stmts ss)) → FitStmts any n ss
+  behind_fit n no_stmts all = tt
+  behind_fit n (more_stmts s ss) all =
+      let first = stmt_tokens (forget_stmt s) in (stmt_fits _ s (front first _ all.1), behind_fit _ ss (back first _ all.1))
 
-  body_fits : (b : BodyTree) → FitSymbols (body_tokens (forget_body b)) → FitsBody b
-  body_fits (body ss first last) all = stmts_fit ss (front (stmts_tokens (forget_stmts ss)) _ all.1)
+  body_fits : (n : ℕ) (b : BodyTree) → FitSymbols (body_tokens (forget_body b)) → FitsBody any n b
+  body_fits n (body ss first last) all = stmts_fit _ ss (front (stmts_tokens (forget_stmts ss)) _ all.1)
 
-  arms_fit : (arms : ArmTrees) → FitSymbols (arms_tokens (forget_arms arms)) → FitArms arms
-  arms_fit no_arms all = tt
-  arms_fit (more_arms a arms) all =
-      let first = arm_tokens (forget_arm a) in (arm_fits a (front first _ all), more_arms_fit arms (back first _ all))
+  arms_fit : (n : ℕ) (arms : ArmTrees) → FitSymbols (arms_tokens (forget_arms arms)) → FitArms any n arms
+  arms_fit n no_arms all = tt
+  arms_fit n (more_arms (arm ls s) arms) all =
+      let first = arm_tokens (forget_arm (arm ls s)) in (
+        stmt_fits _ s (back (constants_tokens (map forget_constant ls)) (Sign COLON ∷ stmt_tokens (forget_stmt s)) (front first _ all)).1,
+        more_arms_fit _ arms (back first _ all),
+      )
 
-  more_arms_fit : (arms : ArmTrees) → FitSymbols (semicolon_arms_tokens (forget_arms arms)) → FitArms arms
-  more_arms_fit no_arms all = tt
-  more_arms_fit (more_arms a arms) all =
-      let first = arm_tokens (forget_arm a) in (arm_fits a (front first _ all.1), more_arms_fit arms (back first _ all.1))
+  more_arms_fit : (n : ℕ) (arms : ArmTrees) → FitSymbols (semicolon_arms_tokens (forget_arms arms)) → FitArms any n arms
+  more_arms_fit n no_arms all = tt
+  more_arms_fit n (more_arms (arm ls s) arms) all =
+      let first = arm_tokens (forget_arm (arm ls s)) in (
+        stmt_fits _ s (back (constants_tokens (map forget_constant ls)) (Sign COLON ∷ stmt_tokens (forget_stmt s)) (front first _ all.1)).1,
+        more_arms_fit _ arms (back first _ all.1),
+      )
 
-  arm_fits : (a : ArmTree) → FitSymbols (arm_tokens (forget_arm a)) → FitsArm a
-  arm_fits (arm ls s) all =
-      stmt_fits s (back (constants_tokens (map forget_constant ls)) (Sign COLON ∷ stmt_tokens (forget_stmt s)) all).1
+  accept_fits : (n : ℕ) (a : AcceptTree) → FitSymbols (accept_tokens (forget_accept a)) → FitsAccept any n a
+  accept_fits n (accept x gs p) all = tt
+  accept_fits n (accept_do x gs s p) all =
+      (tt, stmt_fits (n + 1) s (back (formals_tokens (map forget_group gs)) (Word DO ∷ stmt_tokens (forget_stmt s)) all.1).1)
 
-  accept_fits : (a : AcceptTree) → FitSymbols (accept_tokens (forget_accept a)) → FitsAccept a
-  accept_fits (accept x gs p) all = tt
-  accept_fits (accept_do x gs s p) all =
-      stmt_fits s (back (formals_tokens (map forget_group gs)) (Word DO ∷ stmt_tokens (forget_stmt s)) all.1).1
+  alts_fit : (n : ℕ) (alts : AltTrees) → FitSymbols (alts_tokens (forget_alts alts)) → FitAlts any n alts
+  alts_fit n no_alts all = tt
+  alts_fit n (more_alts a alts) all =
+      let first = alt_tokens (forget_alt a) in (alt_fits _ a (front first _ all), more_alts_fit _ alts (back first _ all))
 
-  alts_fit : (alts : AltTrees) → FitSymbols (alts_tokens (forget_alts alts)) → FitAlts alts
-  alts_fit no_alts all = tt
-  alts_fit (more_alts a alts) all =
-      let first = alt_tokens (forget_alt a) in (alt_fits a (front first _ all), more_alts_fit alts (back first _ all))
+  more_alts_fit : (n : ℕ) (alts : AltTrees) → FitSymbols (or_alts_tokens (forget_alts alts)) → FitAlts any n alts
+  more_alts_fit n no_alts all = tt
+  more_alts_fit n (more_alts a alts) all =
+      let first = alt_tokens (forget_alt a) in (alt_fits _ a (front first _ all.1), more_alts_fit _ alts (back first _ all.1))
 
-  more_alts_fit : (alts : AltTrees) → FitSymbols (or_alts_tokens (forget_alts alts)) → FitAlts alts
-  more_alts_fit no_alts all = tt
-  more_alts_fit (more_alts a alts) all =
-      let first = alt_tokens (forget_alt a) in (alt_fits a (front first _ all.1), more_alts_fit alts (back first _ all.1))
-
-  alt_fits : (a : AltTree) → FitSymbols (alt_tokens (forget_alt a)) → FitsAlt a
-  alt_fits (alt None None comm ss) all =
-      let first = comm_tokens (forget_comm comm) in (tt, tt, comm_fits comm (front first _ all), behind_fit ss (back first _ all))
-  alt_fits (alt None (Some e) comm ss) all =
+  alt_fits : (n : ℕ) (a : AltTree) → FitSymbols (alt_tokens (forget_alt a)) → FitsAlt any n a
+  alt_fits n (alt None None comm ss) all =
+      let first = comm_tokens (forget_comm comm) in (tt, tt, comm_fits _ comm (front first _ all), behind_fit _ ss (back first _ all))
+  alt_fits n (alt None (Some e) comm ss) all =
       let parts = three (guard_tokens (Some (forget_expr e))) (comm_tokens (forget_comm comm)) (semicolon_stmts_tokens (forget_stmts ss)) all in
-      (tt, guard_fits e parts.0, comm_fits comm parts.1, behind_fit ss parts.2)
-  alt_fits (alt (Some r) None comm ss) all =
+      (tt, guard_fits e parts.0, comm_fits _ comm parts.1, behind_fit _ ss parts.2)
+  alt_fits n (alt (Some r) None comm ss) all =
       let parts = four (spread_tokens (forget_spread r)) [] (comm_tokens (forget_comm comm)) (semicolon_stmts_tokens (forget_stmts ss)) all in
-      (spread_fits r parts.0, tt, comm_fits comm parts.2, behind_fit ss parts.3)
-  alt_fits (alt (Some r) (Some e) comm ss) all =
+      (spread_fits r parts.0, tt, comm_fits _ comm parts.2, behind_fit _ ss parts.3)
+  alt_fits n (alt (Some r) (Some e) comm ss) all =
       let guard = guard_tokens (Some (forget_expr e)) in
       let parts = four (spread_tokens (forget_spread r)) guard (comm_tokens (forget_comm comm)) (semicolon_stmts_tokens (forget_stmts ss)) all in
-      (spread_fits r parts.0, guard_fits e parts.1, comm_fits comm parts.2, behind_fit ss parts.3)
+      (spread_fits r parts.0, guard_fits e parts.1, comm_fits _ comm parts.2, behind_fit _ ss parts.3)
 
-  comm_fits : (comm : CommTree) → FitSymbols (comm_tokens (forget_comm comm)) → FitsComm comm
-  comm_fits (comm_accept a p) all = accept_fits a all.1
-  comm_fits (comm_send d e p) all =
+  comm_fits : (n : ℕ) (comm : CommTree) → FitSymbols (comm_tokens (forget_comm comm)) → FitsComm any n comm
+  comm_fits n (comm_accept a p) all = accept_fits _ a all.1
+  comm_fits n (comm_send d e p) all =
       let first = desig_tokens (forget_desig d) in (desig_fits d (front first _ all), expr_fits e (back first _ all).1)
-  comm_fits (comm_receive d v p) all =
+  comm_fits n (comm_receive d v p) all =
       let first = desig_tokens (forget_desig d) in (desig_fits d (front first _ all), desig_fits v (back first _ all).1)
-  comm_fits (timeout e p) all = expr_fits e all.1
-  comm_fits (terminate p) all = tt
+  comm_fits n (timeout e p) all = expr_fits e all.1
+  comm_fits n (terminate p) all = tt
 
 -- ## Parts
 
 ending_fits : (b : Option BodyTree) → FitSymbols (ending_tokens (option_map forget_body b)) → FitsEnding b
 ending_fits None all = tt
-ending_fits (Some b) all = body_fits b all
+ending_fits (Some b) all = λ n. body_fits n b all
 
 kind_fits : (x : Text) (gs : List GroupTree) (kind : KindTree) → FitSymbols (heading_tokens x (map forget_group gs) (forget_kind kind)) → FitsKind kind
 kind_fits x gs procedure all = tt
@@ -276,7 +279,7 @@ mutual
   sub_fits (sub x gs kind ps b p) all =
       let heading = heading_tokens x (map forget_group gs) (forget_kind kind) in
       let all_of = four heading (parts_tokens (forget_parts ps)) (body_tokens (forget_body b)) (Sign SEMICOLON ∷ []) all in
-      (kind_fits x gs kind all_of.0, parts_fit ps all_of.1, body_fits b all_of.2)
+      (kind_fits x gs kind all_of.0, parts_fit ps all_of.1, (λ n. body_fits n b all_of.2))
 
   module_fits : (m : ModuleTree) → FitSymbols (module_tokens (forget_module m)) → FitsModule m
   module_fits (the_module x exports ps b last p) all =
@@ -288,14 +291,14 @@ mutual
   process_fits (process true x gs es ps b p) all =
       let begin = formals_tokens (map forget_group gs) ++ Sign SEMICOLON ∷ entries_tokens (map forget_entry es) in
       let all_of = four begin (parts_tokens (forget_parts ps)) (body_tokens (forget_body b)) (Sign SEMICOLON ∷ []) all.1.1.1 in
-      (parts_fit ps all_of.1, body_fits b all_of.2)
+      (parts_fit ps all_of.1, (λ n. body_fits n b all_of.2))
   process_fits (process false x gs es ps b p) all =
       let begin = formals_tokens (map forget_group gs) ++ Sign SEMICOLON ∷ entries_tokens (map forget_entry es) in
       let all_of = four begin (parts_tokens (forget_parts ps)) (body_tokens (forget_body b)) (Sign SEMICOLON ∷ []) all.1.1 in
-      (parts_fit ps all_of.1, body_fits b all_of.2)
+      (parts_fit ps all_of.1, (λ n. body_fits n b all_of.2))
 
 pub tree_fits : (t : ProgramTree) → FitSymbols (tokens_of (forget_program t)) → FitsTree t
 tree_fits t all =
     let all_of =
     four (params_tokens (bare t.params)) (Sign SEMICOLON ∷ parts_tokens (forget_parts t.parts)) (body_tokens (forget_body t.body)) (Sign DOT ∷ []) all.1.1 in
-    record { parts = parts_fit t.parts all_of.1.1; body = body_fits t.body all_of.2 }
+    record { parts = parts_fit t.parts all_of.1.1; body = λ n. body_fits n t.body all_of.2 }

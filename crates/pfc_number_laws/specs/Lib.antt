@@ -1,7 +1,5 @@
-pub mod Fitting
 pub mod Written
-pub mod Remainders
-pub mod Configurations
+pub mod Numbers
 pub mod Runs
 pub mod Objects
 pub mod Tokens

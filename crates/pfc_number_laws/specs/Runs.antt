@@ -5,7 +5,7 @@ use Rattle.pfc_semantics.specs.Remainders.{Action, initials, delays}
 use Rattle.pfc_semantics.specs.Configurations.{Config}
 use Rattle.pfc_semantics.specs.Events.{step}
 use Rattle.pfc_semantics.specs.Time.{settled_config}
-use Rattle.pfc_number_laws.specs.Fitting.{Fits}
+use Rattle.pfc_run_invariants.specs.Fitting.{Fits}
 
 -- A run from the first configuration comes to this one: in each action some process acts, with some choice, from a settled configuration.
 pub data ComesTo (g : Program) (first : Config) : Config → Type 0 where

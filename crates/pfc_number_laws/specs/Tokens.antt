@@ -4,7 +4,7 @@ use Rattle.std.specs.List.{AllByRecursion}
 use Rattle.pfc_base.specs.declared.tokens.Kind.TheVariants.{Number, Literal}
 use Rattle.pfc_tree.specs.Symbols.{Symbol}
 use Rattle.pfc_semantics.specs.Expressions.{char_in}
-use Rattle.pfc_number_laws.specs.Fitting.{Fits}
+use Rattle.pfc_run_invariants.specs.Fitting.{Fits}
 
 abbrev pub FitsSymbol : Symbol → Type 0
 FitsSymbol (Number n) = Fits n

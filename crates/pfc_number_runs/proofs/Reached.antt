@@ -14,12 +14,12 @@ use Rattle.pfc_representation.specs.Acting.{TakesNumber}
 use Rattle.pfc_run_agreement.specs.Agreement.{picking_behind, choices_of}
 use Rattle.pfc_simulation.specs.Reached.{IsReached, at_first, one_further}
 use Rattle.pfc_number_laws.specs.Written.{FitsTree}
-use Rattle.pfc_number_laws.specs.Configurations.{AreBytes}
+use Rattle.pfc_run_invariants.specs.Inputs.{AreBytes}
 use Rattle.pfc_number_laws.specs.Runs.{ComesTo, TakesSmall, acts}
 use Rattle.pfc_number_laws.specs.Runs as steps
 use Rattle.pfc_number_laws.proofs.Few.{few}
 use Rattle.pfc_number_laws.proofs.Programs.{program_fits}
-use Rattle.pfc_number_laws.proofs.Runs.{start_fits, numbers_are_small}
+use Rattle.pfc_number_laws.proofs.Runs.{starts_small, numbers_are_small}
 
 pub comes_so : (g : Program) (first c : Config) → IsReached g first c → ComesTo g first c
 comes_so g first _ at_first = steps.at_first
@@ -39,4 +39,4 @@ checked_take t input seed lawful whole small bytes c p reached =
     let first = start g input seed in
     let program = program_fits t small (few t lawful whole) in
     takes_so (next_of g (settled_config c) p)
-    (numbers_are_small g program first c (start_fits g program input seed bytes) (comes_so g first c reached) p)
+    (numbers_are_small g program first c (starts_small g program input seed bytes) (comes_so g first c reached) p)

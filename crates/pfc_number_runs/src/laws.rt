@@ -11,7 +11,7 @@ ghost use Rattle.pfc_semantics.specs.Time.{settled_config};
 ghost use Rattle.pfc_representation.specs.Acting.{TakesNumber};
 ghost use Rattle.pfc_simulation.specs.Reached.{IsReached};
 ghost use Rattle.pfc_number_laws.specs.Written.{FitsTree};
-ghost use Rattle.pfc_number_laws.specs.Configurations.{AreBytes};
+ghost use Rattle.pfc_run_invariants.specs.Inputs.{AreBytes};
 
 /// From the start of a program in which no static rule is broken and whose text writes numbers of 32 bits, over an input of bytes, every action takes numbers
 /// of 32 bits as counts and as ranks.

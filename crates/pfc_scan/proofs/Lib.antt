@@ -9,6 +9,7 @@ pub mod One
 pub mod Quotes
 pub mod Reals
 pub mod Reserved
+pub mod Small
 pub mod Steps
 pub mod Values
 pub mod Written

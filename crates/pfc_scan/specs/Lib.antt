@@ -3,3 +3,4 @@ pub mod Cutting
 pub mod Finding
 pub mod Pieces
 pub mod Scanning
+pub mod Small

@@ -4,6 +4,7 @@ ghost use Rattle.pfc_base.specs.declared.places.Place.{Place};
 ghost use Rattle.pfc_base.specs.declared.tokens.Token.{Token};
 ghost use Rattle.pfc_scan.specs.Computed.{cut};
 ghost use Rattle.pfc_scan.specs.Cutting.{Cutting, tokens, IsCut, IsWritten, text_start};
+ghost use Rattle.pfc_scan.specs.Small.{AreBytes, AreSmall};
 
 /// A text has at most one cutting: its tokens with the place of its end, or one refusal.
 pub fn one_cutting()
@@ -19,4 +20,9 @@ pub fn a_cutting_is_computed()
 /// comments. Each token stands at its place, and the end is the place after the last byte.
 pub fn tokens_are_written()
     ensures { (text : List ℕ) (ts : List Token) (end : Place) → IsCut text (tokens ts end) → IsWritten text_start ts end text }
+{}
+
+/// The tokens of a text of bytes write numbers of at most 31 bits, since a greater one refuses the text, and literals that begin with a byte.
+pub fn tokens_are_small()
+    ensures { (text : List ℕ) (ts : List Token) (end : Place) → AreBytes text → IsCut text (tokens ts end) → AreSmall ts }
 {}

@@ -17,5 +17,5 @@ mod signs;
 mod words;
 
 pub use cutting::scan;
-pub use laws::{a_cutting_is_computed, one_cutting, tokens_are_written};
+pub use laws::{a_cutting_is_computed, one_cutting, tokens_are_small, tokens_are_written};
 pub use scanned::{ScanFault, Scanned};

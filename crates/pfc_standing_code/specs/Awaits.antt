@@ -317,7 +317,7 @@ abbrev mutual
       × Performs g b x.env (at + 1) ops [] k)
   CallsAt g b x at ops arms formals (to_requeue scope) =
       let s = site_of g b x in
-      Alone g arms (AreOver g ops × IsOfSub s scope formals ByRequeue × TakesCells s scope formals
+      Alone g arms (AreOver g ops × IsOfSub s scope formals (ByRequeue b) × TakesCells s scope formals
       × IsAt g at (REQ (resource_of s) (block_number g.program scope)) x.line)
   CallsAt g b x at ops arms formals (to_process v k) =
       let s = site_of g b x in

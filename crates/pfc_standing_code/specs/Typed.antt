@@ -22,7 +22,7 @@ use Rattle.pfc_types.specs.declared.heads.SubSort.TheVariants.{Procedure, Guarde
 use Rattle.pfc_semantics.specs.Layouts.{is_laid, laid_names, sub_with}
 use Rattle.pfc_semantics.specs.Displays.{Spot, TypedSpot}
 use Rattle.pfc_semantics.specs.Predeclared.{Function, eof, eoln, empty, clock, no_function, function_of}
-use Rattle.pfc_semantics.specs.Programs.{block_number}
+use Rattle.pfc_semantics.specs.Programs.{Block, block_number}
 use Rattle.pfc_semantics.specs.Expressions.{spot_of}
 use Rattle.pfc_translation.specs.Sites.{Site, at_line, forms_of, blocks_of, is_mains, is_accept, layout_with, place_of}
 use Rattle.pfc_translation.specs.Addresses.{element_in, type_behind}
@@ -110,7 +110,7 @@ abbrev pub LeavesCells : Site → ℕ → ℕ → Type 0
 LeavesCells s scope left = results s.program (block_number s.program scope) ≡ left
 
 -- What is asked of a sub, by the way in which it is called: of the scope in which it is declared, and of its sort. A guarded procedure is called from outside
--- its resource, and inside it is named by `requeue` alone.
+-- its resource, and inside it is named by `requeue` alone, in the body of such a procedure and in view there.
 abbrev pub ByName : ℕ → SubSort → Type 0
 ByName i sort = sort ≡ Procedure
 
@@ -118,10 +118,14 @@ abbrev pub InExpressions : ℕ → SubSort → Type 0
 InExpressions i sort = is_function_sort sort ≡ true
 
 abbrev pub FromOutside : Blocks → ℕ → ℕ → SubSort → Type 0
-FromOutside blocks n i sort = (i ≡ (module_at blocks n).scope) × (is_function_sort sort ≡ false)
+FromOutside blocks n i sort = (n < length blocks.modules) × (i ≡ (module_at blocks n).scope) × (is_function_sort sort ≡ false)
 
-abbrev pub ByRequeue : ℕ → SubSort → Type 0
-ByRequeue i sort = sort ≡ Guarded
+-- the scope is in view in the body of the block, or that of an accept in it
+abbrev pub is_near : Block → ℕ → Bool
+is_near b i = list_any (λ (level : Level). level.scope == i) b.env.view || is_accept b i
+
+abbrev pub ByRequeue : Block → ℕ → SubSort → Type 0
+ByRequeue b i sort = (sort ≡ Guarded) × (b.env.around.guarded ≡ true) × (is_near b i ≡ true)
 
 -- A sub of the program has this scope and these parameters. It is declared in a scope in view in the block or in one of main's, and is as is asked.
 pub record IsOfSub (s : Site) (scope : ℕ) (formals : List Formal) (asked : ℕ → SubSort → Type 0) : Type 0 where

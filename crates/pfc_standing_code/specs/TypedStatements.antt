@@ -200,7 +200,7 @@ abbrev pub IsCall : Site → DesigTree → ActualTrees → Type 0
 IsCall s (desig x ss p) args = IsCalled s (meaning_of (find s.env x)) (spot_of s.env (find s.env x)) ss args
 
 abbrev pub IsRequeue : Site → Option Meaning → ActualTrees → Type 0
-IsRequeue s (Some (Sub n)) args = IsSubCall s ByRequeue n args
+IsRequeue s (Some (Sub n)) args = IsSubCall s (ByRequeue s.block) n args
 IsRequeue s m args = ⊥
 
 -- ## Statements

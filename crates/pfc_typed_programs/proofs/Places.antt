@@ -18,7 +18,7 @@ use Rattle.pfc_types.specs.declared.heads.ModuleHead.{ModuleHead}
 use Rattle.pfc_types.specs.declared.heads.SubSort.{SubSort}
 use Rattle.pfc_types.specs.declared.heads.SubSort.TheVariants.{Procedure, Guarded, Function}
 use Rattle.pfc_types.specs.declared.scope.Meaning.{Meaning}
-use Rattle.pfc_types.specs.declared.scope.Meaning.TheVariants.{Variable, Sub, Process}
+use Rattle.pfc_types.specs.declared.scope.Meaning.TheVariants.{Variable, Sub, Module, Process}
 use Rattle.pfc_types.specs.declared.view.Found.{Found}
 use Rattle.pfc_types.specs.declared.view.Around.{Around}
 use Rattle.pfc_types.specs.rules.FaultyNames.{all_typed}
@@ -39,7 +39,7 @@ use Rattle.pfc_image_cells.proofs.Subs.{program_named}
 use Rattle.pfc_image_cells.proofs.Layouts.{IsAt, get_there, found_place}
 use Rattle.pfc_image_cells.proofs.Formals.{result_stands}
 use Rattle.pfc_image_cells.proofs.Trees.{equal_number, mains_are, Fine, Placed, mains_hold, own_sub}
-use Rattle.pfc_standing_code.specs.Typed.{unlined, is_in_block, variables_by, variables_of, StandsAt, IsDeclared}
+use Rattle.pfc_standing_code.specs.Typed.{unlined, is_near, variables_by, variables_of, StandsAt, IsDeclared}
 use Rattle.pfc_typed_phrases.specs.Names.{left_behind, IsNamedSub, HasBlock, IsLaid, HavePlaces, AreKnown}
 use Rattle.pfc_typed_phrases.proofs.Seen.{or_last, own_variable}
 use Rattle.pfc_typed_phrases.proofs.Known.{names_known}
@@ -249,34 +249,47 @@ module _ (t : ProgramTree) (lawful : IsLawful (forget_program t)) (clean : broke
             let is : f.meaning ≡ Sub n = cc in
             of_scope f.scope (subst (λ (m : Meaning). Stands bs f.scope m) is (named_stands (finished t) (known t lawful clean) v x f h))
 
-    -- it stands among the names of a scope in view
-    sub_named : (v : List Level) (a : Around) (l : ℕ) → Views v → (x : Text) (n : ℕ) → meaning_of (found_in bs.scopes v x) ≡ Some (Sub n)
-        → IsNamedSub (at (finished t) v a l) (sub_at bs n)
-    sub_named v a l view x n e = by (found_in bs.scopes v x) refl e
+    module_found : (v : List Level) (x : Text) (n : ℕ) → meaning_of (found_in bs.scopes v x) ≡ Some (Module n) → n < length bs.modules
+    module_found v x n e = by (found_in bs.scopes v x) refl e
       where
-        in_block : (i : ℕ) → (sees b.env.view i ≡ true) ⊎ (is_accept b i ≡ true) → is_in_block (at (finished t) v a l) i ≡ true
-        in_block i (inl there) =
-            or_last (is_mains bs i) (list_any (λ (level : Level). level.scope == i) b.env.view || is_accept b i)
-            (or_first (list_any (λ (level : Level). level.scope == i) b.env.view) (is_accept b i) (any_sees b.env.view i there))
-        in_block i (inr own) =
-            or_last (is_mains bs i) (list_any (λ (level : Level). level.scope == i) b.env.view || is_accept b i)
-            (or_last (list_any (λ (level : Level). level.scope == i) b.env.view) (is_accept b i) own)
+        of_scope : (o : Option ℕ) → Stands bs o (Module n) → n < length bs.modules
+        of_scope None h = absurd h
+        of_scope (Some i) h = h
+
+        by : (o : Option Found) → found_in bs.scopes v x ≡ o → meaning_of o ≡ Some (Module n) → n < length bs.modules
+        by None h e = absurd (cc)
+        by (Some f) h e =
+            let is : f.meaning ≡ Module n = cc in
+            of_scope f.scope (subst (λ (m : Meaning). Stands bs f.scope m) is (named_stands (finished t) (known t lawful clean) v x f h))
+
+    -- it stands among the names of a scope in view
+    sub_near : (v : List Level) (a : Around) (l : ℕ) → Views v → (x : Text) (n : ℕ) → meaning_of (found_in bs.scopes v x) ≡ Some (Sub n)
+        → (named : IsNamedSub (at (finished t) v a l) (sub_at bs n)) × (is_near b named.within ≡ true)
+    sub_near v a l view x n e = by (found_in bs.scopes v x) refl e
+      where
+        near : (i : ℕ) → (sees b.env.view i ≡ true) ⊎ (is_accept b i ≡ true) → is_near b i ≡ true
+        near i (inl there) = or_first (list_any (λ (level : Level). level.scope == i) b.env.view) (is_accept b i) (any_sees b.env.view i there)
+        near i (inr own) = or_last (list_any (λ (level : Level). level.scope == i) b.env.view) (is_accept b i) own
 
         in_scope : (o : Option ℕ) (f : Found) → f.scope ≡ o → found_in bs.scopes v x ≡ Some f → Stands bs o (Sub n) → f.meaning ≡ Sub n
-            → IsNamedSub (at (finished t) v a l) (sub_at bs n)
+            → (named : IsNamedSub (at (finished t) v a l) (sub_at bs n)) × (is_near b named.within ≡ true)
         in_scope None f q h there is = absurd there
         in_scope (Some i) f q h below is =
-            record {
-              number = n;
-              among = below;
-              is = refl;
-              within = i;
-              name = x;
-              declared = found_meaning bs.scopes v x f i h q ∙ ap Some is;
-              seen = in_block i (view i (found_sees bs.scopes v x f i h q));
-            }
+            let nearby = near i (view i (found_sees bs.scopes v x f i h q)) in (
+              record {
+                number = n;
+                among = below;
+                is = refl;
+                within = i;
+                name = x;
+                declared = found_meaning bs.scopes v x f i h q ∙ ap Some is;
+                seen = or_last (is_mains bs i) (is_near b i) nearby;
+              },
+              nearby,
+            )
 
-        by : (o : Option Found) → found_in bs.scopes v x ≡ o → meaning_of o ≡ Some (Sub n) → IsNamedSub (at (finished t) v a l) (sub_at bs n)
+        by : (o : Option Found) → found_in bs.scopes v x ≡ o → meaning_of o ≡ Some (Sub n)
+            → (named : IsNamedSub (at (finished t) v a l) (sub_at bs n)) × (is_near b named.within ≡ true)
         by None h e = absurd (cc)
         by (Some f) h e =
             let is : f.meaning ≡ Sub n = cc in
@@ -293,7 +306,7 @@ module _ (t : ProgramTree) (lawful : IsLawful (forget_program t)) (clean : broke
         }
 
     pub places : (v : List Level) (a : Around) (l : ℕ) → Views v → HavePlaces (at (finished t) v a l)
-    places v a l view = record { variables = variables v a l view; subs = λ x n e. has_block v a l n (sub_found v x n e) (sub_named v a l view x n e) }
+    places v a l view = record { variables = variables v a l view; subs = λ x n e. has_block v a l n (sub_found v x n e) (sub_near v a l view x n e).0 }
 
     -- ## Results
 
@@ -372,8 +385,8 @@ module _ (t : ProgramTree) (lawful : IsLawful (forget_program t)) (clean : broke
             let is : f.meaning ≡ Sub n = cc in
             of_scope f f.scope (subst (λ (m : Meaning). Stands bs f.scope m) is (named_stands (finished t) (known t lawful clean) v x f h)) is
 
-    pub results : (v : List Level) (a : Around) (l : ℕ) → Views v → HaveResults (at (finished t) v a l)
-    results v a l view = record { filled = filled; results = result_laid v a l view }
+    pub results : (v : List Level) (a : Around) (l : ℕ) → Views v → (a.guarded ≡ true → b.env.around.guarded ≡ true) → HaveResults (at (finished t) v a l)
+    results v a l view guarded = record { filled = filled; results = result_laid v a l view; guarded = guarded; near = sub_near v a l view }
 
     -- ## Processes, entries and exported subs
 
@@ -460,6 +473,7 @@ module _ (t : ProgramTree) (lawful : IsLawful (forget_program t)) (clean : broke
           singles = single v a l view;
           processes = λ u n e. started v a l n (a_process_type (finished t) (known t lawful clean) u n e);
           entries = λ n k x e. entry_typed n k;
+          modules = module_found v;
           exported = exported v a l;
         }
 
@@ -469,9 +483,10 @@ module _ (t : ProgramTree) (lawful : IsLawful (forget_program t)) (clean : broke
     known_at s v a l e view =
         subst (λ (z : State). AreKnown (at z v a l)) (sym e) (names_known t (at (finished t) v a l) clean refl refl (places v a l view))
 
-    reached_at : (s : State) (v : List Level) (a : Around) (l : ℕ) → s ≡ finished t → Views v → AreReached (at s v a l)
-    reached_at s v a l e view =
-        subst (λ (z : State). AreReached (at z v a l)) (sym e) (reached_known t (at (finished t) v a l) refl (results v a l view))
+    reached_at : (s : State) (v : List Level) (a : Around) (l : ℕ) → s ≡ finished t → Views v → (a.guarded ≡ true → b.env.around.guarded ≡ true)
+        → AreReached (at s v a l)
+    reached_at s v a l e view guarded =
+        subst (λ (z : State). AreReached (at z v a l)) (sym e) (reached_known t (at (finished t) v a l) refl (results v a l view guarded))
 
     callable_at : (s : State) (v : List Level) (a : Around) (l : ℕ) → s ≡ finished t → Views v → AreCallable (at s v a l)
     callable_at s v a l e view =
@@ -485,6 +500,7 @@ module _ (t : ProgramTree) (lawful : IsLawful (forget_program t)) (clean : broke
       line : ℕ
       is : u ≡ at b.env.state view around line
       views : Views view
+      guarded : around.guarded ≡ true → b.env.around.guarded ≡ true
 
     opened : (v : List Level) (n : ℕ) → Views v → is_accept b n ≡ true → Views (here b.env.state.blocks.scopes n v)
     opened v n h e i seen = by (n == i) refl seen
@@ -494,10 +510,10 @@ module _ (t : ProgramTree) (lawful : IsLawful (forget_program t)) (clean : broke
         by false q k = h i k
 
     inside : (u : Site) → IsInside (site_in g b) u → IsPlace u
-    inside u itself = record { view = b.env.view; around = b.env.around; line = b.last_line; is = refl; views = λ i seen. inl seen }
+    inside u itself = record { view = b.env.view; around = b.env.around; line = b.last_line; is = refl; views = λ i seen. inl seen; guarded = λ h. h }
     inside u (lined w n i) =
         let r = inside w i in
-        record { view = r.view; around = r.around; line = n; is = ap (λ (z : Site). at_line z n) r.is; views = r.views }
+        record { view = r.view; around = r.around; line = n; is = ap (λ (z : Site). at_line z n) r.is; views = r.views; guarded = r.guarded }
     inside u (accepted w n e i) =
         let r = inside w i in
         record {
@@ -506,16 +522,17 @@ module _ (t : ProgramTree) (lawful : IsLawful (forget_program t)) (clean : broke
           line = r.line;
           is = ap (λ (z : Site). in_accept z n) r.is;
           views = opened r.view n r.views e;
+          guarded = r.guarded;
         }
     inside u (begun w i) =
         let r = inside w i in
-        record { view = r.view; around = record r.around { cobegin = true }; line = r.line; is = ap in_cobegin r.is; views = r.views }
+        record { view = r.view; around = record r.around { cobegin = true }; line = r.line; is = ap in_cobegin r.is; views = r.views; guarded = r.guarded }
 
     pub met : b.env.state ≡ finished t → AreMet (site_in g b)
     met state =
         record {
           known = λ u i. let r = inside u i in subst AreKnown (sym r.is) (known_at b.env.state r.view r.around r.line state r.views);
-          reached = λ u i. let r = inside u i in subst AreReached (sym r.is) (reached_at b.env.state r.view r.around r.line state r.views);
+          reached = λ u i. let r = inside u i in subst AreReached (sym r.is) (reached_at b.env.state r.view r.around r.line state r.views r.guarded);
           callable = λ u i. let r = inside u i in subst AreCallable (sym r.is) (callable_at b.env.state r.view r.around r.line state r.views);
         }
 

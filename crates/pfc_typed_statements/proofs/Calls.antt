@@ -1,5 +1,5 @@
 -- Calls of subs, exported procedures, processes and entries in which no rule is broken.
-use Rattle.std.proofs.Common.{◌≡◌, ℕ, Bool, true, false, List, Option, Some, None, refl, sym, ap, ◌∙◌, subst}
+use Rattle.std.proofs.Common.{◌≡◌, ◌<◌, ℕ, Bool, true, false, List, length, Option, Some, None, refl, sym, ap, ◌∙◌, subst}
 use Rattle.pfc_base.specs.declared.places.Place.{Place}
 use Rattle.pfc_tree.specs.Symbols.{Text}
 use Rattle.pfc_tree.specs.trees.Exprs.{DesigTree, SelectorTrees, ActualTrees, desig, index, field, no_selectors, more_selectors}
@@ -72,23 +72,23 @@ module _ (g : Program) (block : Block) (view : List Level) (around : Around) (li
   sub_called n p args whole (Function t) e h = never h
 
   exported_called :
-      (k : ℕ) (x : Text) (p : Place) (args : ActualTrees) (m : Option Meaning)
+      (k : ℕ) (x : Text) (p : Place) (args : ActualTrees) (m : Option Meaning) → k < length g.state.blocks.modules
       → meaning_in (scope_at g.state.blocks.scopes (module_at g.state.blocks k).scope) x ≡ m → clean (call_exported s.env m p args) ≡ true
       → IsExported s k m args
-  exported_called k x p args None e h = never h
-  exported_called k x p args (Some (Constant t n)) e h = never h
-  exported_called k x p args (Some (Named t)) e h = never h
-  exported_called k x p args (Some (Variable t r)) e h = never h
-  exported_called k x p args (Some (Module n)) e h = never h
-  exported_called k x p args (Some (Process n)) e h = never h
-  exported_called k x p args (Some (Entry n)) e h = never h
-  exported_called k x p args (Some (Predeclared n)) e h = never h
-  exported_called k x p args (Some Faulty) e h = absurd (callable.faulty (module_at g.state.blocks k).scope x e)
-  exported_called k x p args (Some (Sub n)) e h =
+  exported_called k x p args None low e h = never h
+  exported_called k x p args (Some (Constant t n)) low e h = never h
+  exported_called k x p args (Some (Named t)) low e h = never h
+  exported_called k x p args (Some (Variable t r)) low e h = never h
+  exported_called k x p args (Some (Module n)) low e h = never h
+  exported_called k x p args (Some (Process n)) low e h = never h
+  exported_called k x p args (Some (Entry n)) low e h = never h
+  exported_called k x p args (Some (Predeclared n)) low e h = never h
+  exported_called k x p args (Some Faulty) low e h = absurd (callable.faulty (module_at g.state.blocks k).scope x e)
+  exported_called k x p args (Some (Sub n)) low e h =
       let test = clean (unless (sub_at g.state.blocks n).exported p 410) in
       let rest = clean (asked_formals s.env (sub_at g.state.blocks n).formals p args) in
       let is = callable.exported k n x e (holds (sub_at g.state.blocks n).exported p 410 (and-left test rest h)) in
-      sub_call (FromOutside g.state.blocks k) n p args is.whole (is.within, is.plain) is.nothing (and-right test rest h)
+      sub_call (FromOutside g.state.blocks k) n p args is.whole (low, is.within, is.plain) is.nothing (and-right test rest h)
 
   -- ## Processes and entries
 
@@ -248,12 +248,13 @@ module _ (g : Program) (block : Block) (view : List Level) (around : Around) (li
       (typed, part_activated v no_selectors p args t typed (of_variable x t r e, typed) h)
 
   module_called :
-      (n : ℕ) (ss : SelectorTrees) (p : Place) (args : ActualTrees) (o : Option (Text × Place)) → only_field ss ≡ o → clean (call_in_module s.env n o ss p args) ≡ true
+      (n : ℕ) (ss : SelectorTrees) (p : Place) (args : ActualTrees) (o : Option (Text × Place)) → n < length g.state.blocks.modules → only_field ss ≡ o
+      → clean (call_in_module s.env n o ss p args) ≡ true
       → IsModuleCall s n (last_field ss) args
-  module_called n ss p args None e h = never h
-  module_called n ss p args (Some x) e h =
+  module_called n ss p args None low e h = never h
+  module_called n ss p args (Some x) low e h =
       subst (λ (k : Option (Text × Place)). IsModuleCall s n k args) (sym (only_last ss x e))
-      (exported_called n x.0 x.1 args (meaning_in (scope_at g.state.blocks.scopes (module_at g.state.blocks n).scope) x.0) refl h)
+      (exported_called n x.0 x.1 args (meaning_in (scope_at g.state.blocks.scopes (module_at g.state.blocks n).scope) x.0) low refl h)
 
   process_called :
       (y : Text) (n : ℕ) → meaning_of (find s.env y) ≡ Some (Process n) → (ss : SelectorTrees) (p : Place) (args : ActualTrees) (o : Option (Text × Place))
@@ -273,7 +274,7 @@ module _ (g : Program) (block : Block) (view : List Level) (around : Around) (li
   part_called x ss p args (Some (Entry n)) e h = never h
   part_called x ss p args (Some (Predeclared k)) e h = never h
   part_called x ss p args (Some Faulty) e h = absurd (known.faulty x e)
-  part_called x ss p args (Some (Module n)) e h = module_called n ss p args (only_field ss) refl h
+  part_called x ss p args (Some (Module n)) e h = module_called n ss p args (only_field ss) (callable.modules x n e) refl h
   part_called x ss p args (Some (Process n)) e h = process_called x n e ss p args (only_field ss) refl h
   part_called x ss p args (Some (Variable t r)) e h =
       let v = spot_of s.env (find s.env x) in

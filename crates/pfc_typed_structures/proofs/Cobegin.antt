@@ -403,7 +403,7 @@ module _ (g : Program) (b : Block) (state : State) (c d : Around) (alike : AreAl
     a_requeue (Some (AConstant u z)) args k = k
     a_requeue (Some (Named u)) args k = k
     a_requeue (Some (Variable u r)) args k = k
-    a_requeue (Some (Sub z)) args k = sub_call ByRequeue z args k
+    a_requeue (Some (Sub z)) args k = sub_call (ByRequeue s.block) z args k
     a_requeue (Some (Module z)) args k = k
     a_requeue (Some (Process z)) args k = k
     a_requeue (Some (Entry e)) args k = k

@@ -14,4 +14,4 @@ returns-clause-from_outside c = λ t s n scope formals lawful clean same body is
     called_at t lawful clean s scope formals (FromOutside (finished t).blocks n) same body is
 
 pub returns-clause-by_requeue : goal.returns-clause-by_requeue
-returns-clause-by_requeue c = λ t s scope formals lawful clean same body is. called_at t lawful clean s scope formals ByRequeue same body is
+returns-clause-by_requeue c = λ t s scope formals lawful clean same body is. called_at t lawful clean s scope formals (ByRequeue s.block) same body is

@@ -1,0 +1,4 @@
+pub mod Quiet
+pub mod Spreads
+pub mod Statements
+pub mod Images

@@ -1,0 +1,15 @@
+//! The law.
+ghost use Rattle.std.specs.Prelude.{◌≡◌, []};
+ghost use Rattle.pfc_tree.specs.trees.Parts.{ProgramTree};
+ghost use Rattle.pfc_tree.specs.forget.Parts.{forget_program};
+ghost use Rattle.pfc_tree.specs.lawful.Parts.{IsLawful};
+ghost use Rattle.pfc_types.specs.rules.Whole.{broken};
+ghost use Rattle.pfc_semantics.specs.Programs.{program_of};
+ghost use Rattle.pfc_number_laws.specs.Written.{FitsTree};
+ghost use Rattle.pfc_inside_laws.specs.Inside.{HasText};
+
+/// In the bodies of a lawful program in which no static rule is broken no accept has the scope of a monitor, and numbers have 32 bits where those that are
+/// written have.
+pub fn checked_programs_have_text()
+    ensures { (t : ProgramTree) → IsLawful (forget_program t) → broken t ≡ [] → FitsTree t → HasText (program_of t) }
+{}

@@ -1,0 +1,11 @@
+pub mod Lists
+pub mod Numbers
+pub mod Expressions
+pub mod Alternatives
+pub mod Statements
+pub mod Rewriting
+pub mod Stores
+pub mod Steps
+pub mod Communications
+pub mod Effects
+pub mod Runs

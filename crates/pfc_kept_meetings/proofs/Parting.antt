@@ -1,5 +1,5 @@
 -- The end of an accept: the process goes on behind it, and the caller of the meeting is ready.
-use Rattle.std.proofs.Common.{◌≡◌, ◌≢◌, ℕ, zero, suc, ◌+◌, ◌<◌, ◌==◌, ℤ, true, false, List, [], ◌∷◌, ◌++◌, length, drop, set, slice_get, get_or, Some, None, refl, sym, ap, ◌∙◌, subst, arith, ◌⊎◌, inl, inr}
+use Rattle.std.proofs.Common.{◌≡◌, ◌≢◌, ℕ, suc, ◌<◌, ◌==◌, ℤ, true, false, List, [], ◌∷◌, ◌++◌, length, drop, set, slice_get, get_or, Some, None, refl, sym, ap, ◌∙◌, subst, arith, ◌⊎◌, inl, inr}
 use Rattle.std.proofs.lemmas.Option.{slice_get-get_or}
 use Rattle.std.specs.List.{list_any}
 use Rattle.std.proofs.lemmas.List.{get_or-set_same, get_or-set_other, length-set}
@@ -104,16 +104,16 @@ module _ (facts : Facts) (homes : Homes) (entries : Entries) (store : Store) (ta
   behind_accept (of_turn scan back) same there is = absurd (let no : of_turn scan back ≡ of_own = same in cc)
   behind_accept (of_another attempt) same there is = absurd (let no : of_another attempt ≡ of_own = same in cc)
 
--- who is open behind it was open
-without_first : (accepts : List ℕ) (i : ℕ) → list_any (λ j. j == i) (drop 1 accepts) ≡ true → list_any (λ j. j == i) accepts ≡ true
-without_first [] i open = open
-without_first (n ∷ accepts) i open = or_right (n == i) (list_any (λ j. j == i) accepts) open
+-- what is open without it was open
+among_all : (accepts : List ℕ) (i : ℕ) → list_any (λ j. j == i) (drop 1 accepts) ≡ true → list_any (λ j. j == i) accepts ≡ true
+among_all [] i is_open = is_open
+among_all (n ∷ accepts) i is_open = or_right (n == i) (list_any (λ j. j == i) accepts) is_open
 
-without_last : (t : Trial) (accepts : List ℕ) (i : ℕ) → list_any (λ j. j == i) (own_accepts t (drop 1 accepts)) ≡ true
+own_among_all : (t : Trial) (accepts : List ℕ) (i : ℕ) → list_any (λ j. j == i) (own_accepts t (drop 1 accepts)) ≡ true
     → list_any (λ j. j == i) (own_accepts t accepts) ≡ true
-without_last of_own accepts i open = without_first accepts i open
-without_last (of_turn scan back) accepts i open = without_first accepts i open
-without_last (of_another attempt) accepts i open = open
+own_among_all of_own accepts i is_open = among_all accepts i is_open
+own_among_all (of_turn scan back) accepts i is_open = among_all accepts i is_open
+own_among_all (of_another attempt) accepts i is_open = is_open
 
 -- ## Both sides
 
@@ -249,7 +249,7 @@ module _ (facts : Facts) (m : Machine) (c : Config) (p : ℕ) (level : LivingLev
               callers_less facts acting.homes acting.entries c.store c.table (ticked table) p caller row_other awake only (stack_of stacks p).room level'
               (word_of (last_activation stacks p)) latest a.activations (acting.entries p) has_not
               (callers_then level level.setting.view (drop 1 level.setting.accepts) (drop 1 level.setting.meetings)
-              (λ old i open. old i (without_last level.setting.trial level.setting.accepts i open)) d.communications latest.callers fewer
+              (λ old i is_open. old i (own_among_all level.setting.trial level.setting.accepts i is_open)) d.communications latest.callers fewer
               facts acting.homes acting.entries c.store c.table p (stack_of stacks p).room (word_of (last_activation stacks p)) a.activations
               (acting.entries p) old.callers);
           room = old.room;
@@ -279,7 +279,8 @@ module _ (facts : Facts) (m : Machine) (c : Config) (p : ℕ) (level : LivingLev
           within =
               subst (λ (t : Trial). IsWithin facts level' (own_address t (stack_of stacks p).at) latest) (sym own)
               (subst (λ (s : Stack). IsWithin facts level' s.at latest) (sym moved_here)
-              (within_then level level.setting.view (drop 1 level.setting.accepts) (drop 1 level.setting.meetings) d.communications latest.callers fewer
+              (within_then level level.setting.view (drop 1 level.setting.accepts) (drop 1 level.setting.meetings)
+              (λ old i is_open. old i (own_among_all level.setting.trial level.setting.accepts i is_open)) d.communications latest.callers fewer
               facts to within));
           hand = (
             acting.actor.offered,

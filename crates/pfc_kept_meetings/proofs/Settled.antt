@@ -1,7 +1,6 @@
 -- A level with another view, other accepts and other meetings, while all else of it is as it was.
-use Rattle.std.proofs.Common.{◌≡◌, ◌==◌, ℕ, ℤ, true, List, [], ◌∷◌, ◌++◌, length, Some, refl, sym, ap, ◌∙◌}
+use Rattle.std.proofs.Common.{◌≡◌, ◌==◌, ℕ, ℤ, true, List, [], ◌∷◌, ◌++◌, length}
 use Rattle.std.specs.List.{list_any}
-use Rattle.pfc_code.specs.declared.images.Block.{Block as CodeBlock}
 use Rattle.pfc_world.specs.Tables.{Table}
 use Rattle.pfc_semantics.specs.Configurations.{Activation}
 use Rattle.pfc_semantics.specs.Displays.{Display}
@@ -11,7 +10,7 @@ use Rattle.pfc_translation.specs.Sites.{is_accept}
 use Rattle.pfc_cells.specs.Homes.{Homes}
 use Rattle.pfc_cells.specs.Memory.{Entry, Entries}
 use Rattle.pfc_machines.specs.Communications.{Communicating}
-use Rattle.pfc_standing_code.specs.Settings.{View, Setting, IsBeside, same_block, both_mains}
+use Rattle.pfc_standing_code.specs.Settings.{View, IsBeside, same_block, both_mains}
 use Rattle.pfc_standing_code.specs.Performs.{own_accepts}
 use Rattle.pfc_representation.specs.Levels.{Facts, LivingLevel, block_of, HasSetting, SeesWith, SeesThrough}
 use Rattle.pfc_representation.specs.Rooms.{HasRoom}

@@ -112,8 +112,8 @@ module _ (facts : Facts) (homes : Homes) (entries : Entries) (store : Store) (ta
         guarded = λ guard has.
             is.guarded guard (ap (λ (b : Block). b.guard) (sym block_same) ∙ has)
             ∙ ap (λ (b : Block). of_resource (resource_of (site_in (program_in facts) b))) (sym block_same);
-        accepts = λ i open. ap (λ (b : Block). is_accept b i) block_same
-            ∙ is.accepts i (ap (λ (s : Setting). list_any (λ j. j == i) s.accepts) (sym same) ∙ open);
+        accepts = λ i is_open. ap (λ (b : Block). is_accept b i) block_same
+            ∙ is.accepts i (ap (λ (s : Setting). list_any (λ j. j == i) s.accepts) (sym same) ∙ is_open);
       }
 
   room_again : (room k : ℕ) (earlier : Communicating) → HasRoom facts room level k earlier → HasRoom facts room level' k earlier

@@ -230,3 +230,12 @@ module _ (facts : Facts) (m : Machine) (c : Config) (p : ℕ) (level : LivingLev
               ap (λ (y : Program). get_or (all_passed y c p given) k (ordinal (pos 0))) (sym same_program) ∙ one.1,
               seen_with.keeps_these one.0.activation one.2,
             )
+
+    -- what is passed by reference is a location
+    pub arguments_given : (k : ℕ) (t : TypeId) → slice_get (laid_parameters formals) k ≡ Some (Variable t true)
+        → (l : Location) × (get_or values k (ordinal (pos 0)) ≡ points l)
+    arguments_given k t there =
+        let one =
+        words_lent g acting.homes acting.entries c m.stacks b w hand p x (hold_store facts m c p level acting) shown checked.known formals
+        (laid_parameters formals) given ops over cells laid size held k t there in
+        (one.0, ap (λ (y : Program). get_or (all_passed y c p given) k (ordinal (pos 0))) (sym same_program) ∙ one.1)

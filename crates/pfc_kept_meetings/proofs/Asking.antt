@@ -114,7 +114,7 @@ module _ (facts : Facts) (m : Machine) (c : Config) (p choice : ℕ) (level : Li
     pub owner : IsOwner facts m c p level acting own b x v i checked n
     owner = is_owner facts m c p level acting own b x v i checked n t singles process object
 
-    left_is : drop z ops ≡ i ∷ below
+    pub left_is : drop z ops ≡ i ∷ below
     left_is = arguments_left facts m c p level acting own b x checked formals given over laid held ∙ over_is
 
     -- the same process on both sides

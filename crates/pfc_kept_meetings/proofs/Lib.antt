@@ -27,3 +27,9 @@ pub mod Few
 pub mod Live
 pub mod Together
 pub mod Joining
+pub mod Waiting
+pub mod Granted
+pub mod Granting
+pub mod Answering
+pub mod Calling
+pub mod Standing

@@ -51,13 +51,6 @@ pub record HasProcesses (t : ProgramTree) : Type 0 where
 abbrev pub AreApart : Block → ℕ → List ℕ → Type 0
 AreApart b i accepts = (j : ℕ) → list_any (λ n. n == j) accepts ≡ true → (is_accept b j ≡ true) × (j ≢ i)
 
--- An accept as a statement: its scope is that of an accept of the block, and it is not open already, since none is within itself.
-abbrev pub Accepts : LivingLevel → Action → Type 0
-Accepts level (meets x o k) =
-    (a : Accepting) × (o.offer ≡ to_accept a) × (is_accept level.setting.block a.scope ≡ true)
-    × AreApart level.setting.block a.scope level.setting.accepts
-Accepts level n = ⊥
-
 -- ## Of a run
 
 -- As long as a program runs, a process in its first activation has the display with which it began; and what a caller that waits passes by reference is a

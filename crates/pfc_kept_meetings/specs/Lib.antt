@@ -1,3 +1,4 @@
 pub mod Groups
 pub mod Owners
 pub mod Accepts
+pub mod Waiting

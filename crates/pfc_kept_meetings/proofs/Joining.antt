@@ -1,19 +1,19 @@
 -- An accept with all of its callers.
-use Rattle.std.proofs.Common.{◌≡◌, ◌≢◌, ℕ, zero, suc, ◌+◌, ◌^◌, ◌<◌, ◌≤◌, ℤ, true, false, List, [], ◌∷◌, length, take, drop, reverse, set, get_or, slice_get, Option, Some, None, Ok, refl, sym, ap, ap₂, ◌∙◌, subst, arith}
+use Rattle.std.proofs.Common.{◌≡◌, ℕ, ◌+◌, ◌^◌, ◌<◌, ◌≤◌, ℤ, true, List, [], length, take, drop, reverse, set, slice_get, Option, Some, Ok, refl, sym, ap, ap₂, ◌∙◌, subst, arith}
 use Rattle.std.proofs.lemmas.List.{reverse-reverse, length-set, get_or-set_other}
 use Rattle.pfc_code.specs.declared.instructions.Instr.TheVariants.{ACC}
-use Rattle.pfc_state.specs.Stands.{Is_idle, Is_ready}
+use Rattle.pfc_state.specs.Stands.{Is_idle}
 use Rattle.pfc_world.specs.Partners.{caller}
 use Rattle.pfc_world.specs.Rendezvous.{taken}
-use Rattle.pfc_world.specs.Tables.{Table, at}
+use Rattle.pfc_world.specs.Tables.{at}
 use Rattle.pfc_world.specs.Transitions.{rested}
 use Rattle.pfc_semantics.specs.Displays.{Frame, frame_of}
 use Rattle.pfc_semantics.specs.Values.{Value}
 use Rattle.pfc_semantics.specs.Programs.{Block, Program}
-use Rattle.pfc_semantics.specs.Remainders.{Action, Context, Accepting, Offer, Open, Remainder, to_accept, meets}
+use Rattle.pfc_semantics.specs.Remainders.{Context, Accepting, Offer, Open, Remainder, to_accept, meets}
 use Rattle.pfc_semantics.specs.Rendezvous.{taken_from, asked}
 use Rattle.pfc_semantics.specs.Store.{Store, values_in, with_values}
-use Rattle.pfc_semantics.specs.Configurations.{Activity, Config, Effect, Hand, activity_of}
+use Rattle.pfc_semantics.specs.Configurations.{Config, Hand, activity_of}
 use Rattle.pfc_translation.specs.Sites.{is_accept}
 use Rattle.pfc_translation.specs.Selects.{accept_cell, accept_cells}
 use Rattle.pfc_stacks.specs.Stacks.{Stack, Stacks, no_stack, stack_of, cells_of, operands_of, written}
@@ -21,7 +21,6 @@ use Rattle.pfc_stacks.specs.Effects.{moved}
 use Rattle.pfc_stacks.specs.Conditions.{AreLive}
 use Rattle.pfc_machines.specs.declared.machine.Machine.{Machine}
 use Rattle.pfc_machines.specs.declared.descriptors.Descriptor.{Descriptor}
-use Rattle.pfc_machines.specs.Actions.{Effect as MachineEffect}
 use Rattle.pfc_machines.specs.Descriptors.{descriptor_of}
 use Rattle.pfc_machines.specs.Quiet.{left_by}
 use Rattle.pfc_meeting_actions.specs.Meetings.{parameter_cell, arguments_taken, CanMeet}
@@ -54,7 +53,6 @@ use Rattle.pfc_kept_meetings.proofs.Giving as giving
 use Rattle.pfc_kept_meetings.proofs.Lenders.{ready_unmet}
 use Rattle.pfc_kept_meetings.proofs.Live as live_cells
 use Rattle.pfc_kept_meetings.proofs.Meets as meets
-use Rattle.pfc_kept_meetings.proofs.Owner as owner
 use Rattle.pfc_kept_meetings.proofs.Together as together
 use Rattle.pfc_kept_meetings.proofs.Together.{begins_behind}
 
@@ -111,9 +109,11 @@ module _ (facts : Facts) (m : Machine) (c : Config) (p choice : ℕ) (level : Li
       gone_operands : operands_of gone q ≡ operands_of m.stacks q
       gone_operands =
           ap (λ (s : Stack). s.operands)
-          (get_or-set_other m.stacks p q (record (stack_of m.stacks p) { at = here + 1; operands = ops }) no_stack (meets.off facts m c p level acting own b x checked a met.0 processes typed runs of_block apart q is_first (here + 1) ops))
+          (get_or-set_other m.stacks p q (record (stack_of m.stacks p) { at = here + 1; operands = ops }) no_stack (meets.off facts m c p level acting own b x
+          checked a met.0 processes typed runs of_block apart q is_first (here + 1) ops))
 
-      stacks_are : arguments_taken gone p cell size q ≡ meets.stacks' facts m c p level acting own b x checked a met.0 processes typed runs of_block apart q is_first (here + 1) ops
+      stacks_are : arguments_taken gone p cell size q ≡ meets.stacks' facts m c p level acting own b x checked a met.0 processes typed runs of_block apart q
+          is_first (here + 1) ops
       stacks_are =
           ap
           (λ (os : List ℤ). set (written gone (parameter_cell p cell) (reverse (take size os))) q
@@ -121,7 +121,9 @@ module _ (facts : Facts) (m : Machine) (c : Config) (p choice : ℕ) (level : Li
           ∙ ap₂
           (λ (ws below : List ℤ). set (written gone (parameter_cell p cell) ws) q
           (record (stack_of (written gone (parameter_cell p cell) ws) q) { operands = below }))
-          (ap (λ (ws : List ℤ). reverse ws) (meets.over facts m c p level acting own b x checked a met.0 processes typed runs of_block apart q is_first (here + 1) ops).top ∙ reverse-reverse (meets.words facts m c p level acting own b x checked a met.0 processes typed runs of_block apart q is_first (here + 1) ops)) (meets.over facts m c p level acting own b x checked a met.0 processes typed runs of_block apart q is_first (here + 1) ops).rest
+          (ap (λ (ws : List ℤ). reverse ws) (meets.over facts m c p level acting own b x checked a met.0 processes typed runs of_block apart q is_first (here +
+          1) ops).top ∙ reverse-reverse (meets.words facts m c p level acting own b x checked a met.0 processes typed runs of_block apart q is_first (here
+          + 1) ops)) (meets.over facts m c p level acting own b x checked a met.0 processes typed runs of_block apart q is_first (here + 1) ops).rest
 
       store_is :
           (let f = frame_of (activity_of g c p).display a.scope in
@@ -129,31 +131,74 @@ module _ (facts : Facts) (m : Machine) (c : Config) (p choice : ℕ) (level : Li
           ≡ meets.new_store facts m c p level acting own b x checked a met.0 processes typed runs of_block apart q is_first (here + 1) ops
       store_is =
           ap₂ (λ (f : Frame) (args : List Value). with_values c.store f.activation (taken_from f.first args (values_in c.store f.activation)))
-          (giving.frame_is facts m c acting.homes acting.entries acting.alike p level acting.actor.stands own acting.actor.process processes b x checked a met.0 typed runs of_block) (ap (λ (h : Hand). asked h) (meets.asking_so facts m c p level acting own b x checked a met.0 processes typed runs of_block apart q is_first (here + 1) ops).hand)
+          (giving.frame_is facts m c acting.homes acting.entries acting.alike p level acting.actor.stands own acting.actor.process processes b x checked a
+          met.0 typed runs of_block) (ap (λ (h : Hand). asked h) (meets.asking_so facts m c p level acting own b x checked a met.0 processes typed runs
+          of_block apart q is_first (here + 1) ops).hand)
 
       world_is : rested (taken (record (machine_table facts c.table) { acting = Some p }) p q) ≡ machine_table facts (taken c.table p q)
       world_is = ap (λ (who : Option ℕ). record (machine_table facts (taken c.table p q)) { acting = who }) (sym acting.alike.between.acting)
 
       both : ComeToSame facts m c p x.line
-          (silent (Ok (record m { stacks = meets.stacks' facts m c p level acting own b x checked a met.0 processes typed runs of_block apart q is_first (here + 1) ops; descriptors = together.descriptors facts m c p level acting own b x checked a met.0 processes typed runs of_block apart q is_first (here + 1) ops o k x.line ends.0 ends.1 behind arrived.room arrived.arms none within_next_one; world = rested (taken (record (machine_table facts c.table) { acting = Some p }) p q) })))
-          (Ok (record c { activities = together.activities facts m c p level acting own b x checked a met.0 processes typed runs of_block apart q is_first (here + 1) ops o k x.line ends.0 ends.1 behind arrived.room arrived.arms none within_next_one; store = meets.new_store facts m c p level acting own b x checked a met.0 processes typed runs of_block apart q is_first (here + 1) ops; table = taken c.table p q }))
+          (silent (Ok (record m {
+            stacks = meets.stacks' facts m c p level acting own b x checked a met.0 processes typed runs of_block apart q is_first (here
+                + 1) ops;
+            descriptors = together.descriptors facts m c p level acting own b x checked a met.0 processes typed runs of_block apart q is_first
+                (here + 1) ops o k x.line ends.0 ends.1 behind arrived.room arrived.arms none within_next_one;
+            world = rested (taken (record (machine_table facts
+                c.table) { acting = Some p }) p q);
+          })))
+          (Ok (record c {
+            activities = together.activities facts m c p level acting own b x checked a met.0 processes typed runs of_block apart q is_first
+                (here + 1) ops o k x.line ends.0 ends.1 behind arrived.room arrived.arms none within_next_one;
+            store = meets.new_store facts m c p level acting
+                own b x checked a met.0 processes typed runs of_block apart q is_first (here + 1) ops;
+            table = taken c.table p q;
+          }))
       both =
-          comes_then facts m c p level acting x.line (together.activities facts m c p level acting own b x checked a met.0 processes typed runs of_block apart q is_first (here + 1) ops o k x.line ends.0 ends.1 behind arrived.room arrived.arms none within_next_one) (together.descriptors facts m c p level acting own b x checked a met.0 processes typed runs of_block apart q is_first (here + 1) ops o k x.line ends.0 ends.1 behind arrived.room arrived.arms none within_next_one) (meets.new_store facts m c p level acting own b x checked a met.0 processes typed runs of_block apart q is_first (here + 1) ops) (meets.stacks' facts m c p level acting own b x checked a met.0 processes typed runs of_block apart q is_first (here + 1) ops)
-          (taken c.table p q) (begins_behind facts m c p level acting own b x checked a met.0 processes typed runs of_block apart q is_first (here + 1) ops o k x.line ends.0 ends.1 behind arrived.room arrived.arms none within_next_one) (rested (taken (record (machine_table facts c.table) { acting = Some p }) p q)) world_is
+          comes_then facts m c p level acting x.line (together.activities facts m c p level acting own b x checked a met.0 processes typed runs of_block apart
+          q is_first (here + 1) ops o k x.line ends.0 ends.1 behind arrived.room arrived.arms none within_next_one) (together.descriptors facts m c p level
+          acting own b x checked a met.0 processes typed runs of_block apart q is_first (here + 1) ops o k x.line ends.0 ends.1 behind arrived.room
+          arrived.arms none within_next_one) (meets.new_store facts m c p level acting own b x checked a met.0 processes typed runs of_block apart q
+          is_first (here + 1) ops) (meets.stacks' facts m c p level acting own b x checked a met.0 processes typed runs of_block apart q is_first (here +
+          1) ops)
+          (taken c.table p q) (begins_behind facts m c p level acting own b x checked a met.0 processes typed runs of_block apart q is_first (here + 1) ops o k
+          x.line ends.0 ends.1 behind arrived.room arrived.arms none within_next_one) (rested (taken (record (machine_table facts c.table) {
+            acting = Some
+                p;
+          }) p q)) world_is
 
       same : ComeToSame facts m c p x.line
-          (silent (accepting.machine_by facts m c p choice level x o k own acting arrived b checked none plain a offer there met behind (accepting.w facts m c p choice level x o k own acting arrived b checked none plain a offer) (Some q)))
+          (silent (accepting.machine_by facts m c p choice level x o k own acting arrived b checked none plain a offer there met behind (accepting.w facts m c
+          p choice level x o k own acting arrived b checked none plain a offer) (Some q)))
           (accepting.source facts m c p choice level x o k own acting arrived b checked none plain a offer there met behind (Some q))
       same =
           subst
           (λ (s : Stacks). ComeToSame facts m c p x.line
-          (silent (Ok (record m { stacks = s; descriptors = together.descriptors facts m c p level acting own b x checked a met.0 processes typed runs of_block apart q is_first (here + 1) ops o k x.line ends.0 ends.1 behind arrived.room arrived.arms none within_next_one; world = rested (taken (record (machine_table facts c.table) { acting = Some p }) p q) })))
+          (silent (Ok (record m {
+            stacks = s;
+            descriptors = together.descriptors facts m c p level acting own b x checked a met.0 processes typed runs of_block
+                apart q is_first (here + 1) ops o k x.line ends.0 ends.1 behind arrived.room arrived.arms none within_next_one;
+            world = rested (taken (record
+                (machine_table facts c.table) { acting = Some p }) p q);
+          })))
           (accepting.source facts m c p choice level x o k own acting arrived b checked none plain a offer there met behind (Some q)))
           (sym stacks_are)
           (subst
           (λ (s : Store). ComeToSame facts m c p x.line
-          (silent (Ok (record m { stacks = meets.stacks' facts m c p level acting own b x checked a met.0 processes typed runs of_block apart q is_first (here + 1) ops; descriptors = together.descriptors facts m c p level acting own b x checked a met.0 processes typed runs of_block apart q is_first (here + 1) ops o k x.line ends.0 ends.1 behind arrived.room arrived.arms none within_next_one; world = rested (taken (record (machine_table facts c.table) { acting = Some p }) p q) })))
-          (Ok (record c { activities = together.activities facts m c p level acting own b x checked a met.0 processes typed runs of_block apart q is_first (here + 1) ops o k x.line ends.0 ends.1 behind arrived.room arrived.arms none within_next_one; store = s; table = taken c.table p q })))
+          (silent (Ok (record m {
+            stacks = meets.stacks' facts m c p level acting own b x checked a met.0 processes typed runs of_block apart q is_first (here
+                + 1) ops;
+            descriptors = together.descriptors facts m c p level acting own b x checked a met.0 processes typed runs of_block apart q is_first
+                (here + 1) ops o k x.line ends.0 ends.1 behind arrived.room arrived.arms none within_next_one;
+            world = rested (taken (record (machine_table facts
+                c.table) { acting = Some p }) p q);
+          })))
+          (Ok (record c {
+            activities = together.activities facts m c p level acting own b x checked a met.0 processes typed runs of_block apart q is_first
+                (here + 1) ops o k x.line ends.0 ends.1 behind arrived.room arrived.arms none within_next_one;
+            store = s;
+            table = taken c.table p q;
+          })))
           (sym store_is) both)
 
       -- ### It may
@@ -161,11 +206,14 @@ module _ (facts : Facts) (m : Machine) (c : Config) (p choice : ℕ) (level : Li
       live : AreLive m.stacks (parameter_cell p cell) size
       live =
           subst (λ z. AreLive m.stacks (parameter_cell p cell) z)
-          (sym (giving.cells_are facts m c acting.homes acting.entries acting.alike p level acting.actor.stands own acting.actor.process processes b x checked a met.0 typed runs of_block)) (live_cells.live facts m c acting.homes acting.entries acting.alike p level acting.actor.stands own acting.actor.process processes b x checked a met.0 typed runs of_block)
+          (sym (giving.cells_are facts m c acting.homes acting.entries acting.alike p level acting.actor.stands own acting.actor.process processes b x checked
+          a met.0 typed runs of_block)) (live_cells.live facts m c acting.homes acting.entries acting.alike p level acting.actor.stands own
+          acting.actor.process processes b x checked a met.0 typed runs of_block)
 
       gone_cells : cells_of gone p ≡ cells_of m.stacks p
       gone_cells =
-          changed_cells m.stacks p (λ (s : Stack). record s { at = here + 1; operands = ops }) (λ s. refl) (meets.p_there facts m c p level acting own b x checked a met.0 processes typed runs of_block apart q is_first (here + 1) ops) p
+          changed_cells m.stacks p (λ (s : Stack). record s { at = here + 1; operands = ops }) (λ s. refl) (meets.p_there facts m c p level acting own b x
+          checked a met.0 processes typed runs of_block apart q is_first (here + 1) ops) p
 
       callers_inside : (j r : ℕ) → slice_get d.communications.callers j ≡ Some r → r < process_count facts
       callers_inside j r found =
@@ -192,10 +240,13 @@ module _ (facts : Facts) (m : Machine) (c : Config) (p choice : ℕ) (level : Li
                 (are_fewer (process_count facts) p d.communications.callers acting.actor.stands.met.once callers_inside
                 (subst (λ n. p < n) acting.alike.words.processes acting.actor.process) owner_apart)
                 (accepting.room_there facts m c p choice level x o k own acting arrived b checked none plain a offer there met behind).2;
-            stack = subst (λ n. q < n) (sym gone_size) (meets.q_there facts m c p level acting own b x checked a met.0 processes typed runs of_block apart q is_first (here + 1) ops);
+            stack = subst (λ n. q < n) (sym gone_size) (meets.q_there facts m c p level acting own b x checked a met.0 processes typed runs of_block apart q
+                is_first (here + 1) ops);
             held =
                 subst (λ (os : List ℤ). size ≤ length os) (sym gone_operands)
-                (enough (length (operands_of m.stacks q)) size (length (meets.below facts m c p level acting own b x checked a met.0 processes typed runs of_block apart q is_first (here + 1) ops)) (meets.over facts m c p level acting own b x checked a met.0 processes typed runs of_block apart q is_first (here + 1) ops).count);
+                (enough (length (operands_of m.stacks q)) size (length (meets.below facts m c p level acting own b x checked a met.0 processes typed runs
+                of_block apart q is_first (here + 1) ops)) (meets.over facts m c p level acting own b x checked a met.0 processes typed runs of_block apart
+                q is_first (here + 1) ops).count);
             live = subst (λ (cs : List ℤ). 8 + cell + size ≤ length cs) (sym gone_cells) live;
             cell = small cell size (length (cells_of m.stacks p)) live (acting.alike.holds.few.cells p);
           }
@@ -220,7 +271,8 @@ by_block : (facts : Facts) (m : Machine) (c : Config) (p choice : ℕ) (level : 
     → HasProcesses facts.tree → HasTypedEntries facts.tree → KeepsAccepts facts c → o.offer ≡ to_accept a
     → IsActing facts m c p level → HasArrived facts m c p level (meets x o k) → (b : Block) → IsChecked level.setting b x.env
     → level.setting.trial ≡ of_own → level.arms ≡ [] → IsPlain o
-    → IsAt level.setting (stack_of m.stacks p).at (ACC a.entry (accept_cell (site_of level.setting b x) a.scope) (accept_cells (site_of level.setting b x) a.scope))
+    → IsAt level.setting (stack_of m.stacks p).at (ACC a.entry (accept_cell (site_of level.setting b x) a.scope) (accept_cells (site_of level.setting b x)
+    a.scope))
     x.line
     → MetAt level.setting (site_of level.setting b x) ((stack_of m.stacks p).at + 1) (length (operands_of m.stacks p)) (Some a) o.next o.stmts
     (λ end. Performs level.setting b x.env end (operands_of m.stacks p) [] k)
@@ -228,7 +280,9 @@ by_block : (facts : Facts) (m : Machine) (c : Config) (p choice : ℕ) (level : 
     → StandsWithin facts c p x a → IsKept facts m c p choice (meets x o k)
 by_block facts m c p choice level x o k a processes typed runs offer acting arrived b checked own none plain there met behind within_those =
     joined_kept facts m c p choice level x o k own acting arrived b checked none plain a offer processes typed runs
-    (standing.of_block facts m c acting.homes acting.entries acting.alike p level acting.actor.stands own acting.actor.process processes b x checked a met.0 within_those) (standing.apart facts m c acting.homes acting.entries acting.alike p level acting.actor.stands own acting.actor.process processes b x checked a met.0 within_those) there met behind
+    (standing.of_block facts m c acting.homes acting.entries acting.alike p level acting.actor.stands own acting.actor.process processes b x checked a met.0
+    within_those) (standing.apart facts m c acting.homes acting.entries acting.alike p level acting.actor.stands own acting.actor.process processes b x
+    checked a met.0 within_those) there met behind
 
 pub accept_is_kept : (facts : Facts) (m : Machine) (c : Config) (p choice : ℕ) (level : LivingLevel) (x : Context) (o : Open) (k : Remainder) (a : Accepting)
     → HasProcesses facts.tree → HasTypedEntries facts.tree → KeepsAccepts facts c → o.offer ≡ to_accept a

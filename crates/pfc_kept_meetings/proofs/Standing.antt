@@ -1,53 +1,29 @@
 -- An accept is one of its block, and none of those that are open at the level: these are the accepts around it.
-use Rattle.std.proofs.Common.{◌≡◌, ◌≢◌, ℕ, zero, suc, ◌+◌, ◌<◌, ◌≤◌, ◌==◌, ℤ, Bool, true, false, ◌||◌, if◌then◌else◌, List, [], ◌∷◌, ◌++◌, length, slice_get, Option, Some, None, refl, sym, ap, ap₂, ◌∙◌, subst, arith, ◌⊎◌, inl, inr}
-use Rattle.std.specs.Prelude.{is_some}
+use Rattle.std.proofs.Common.{◌≡◌, ◌≢◌, ℕ, suc, ◌<◌, ◌≤◌, ◌==◌, ℤ, true, false, ◌||◌, List, [], ◌∷◌, length, slice_get, Some, refl, sym, ap, ◌∙◌, subst, ◌⊎◌, inl, inr}
 use Rattle.std.specs.List.{list_any}
 use Rattle.std.proofs.lemmas.List.{append-nil}
-use Rattle.pfc_tree.specs.trees.Stmts.{StmtTrees}
 use Rattle.pfc_types.specs.Scopes.{Level}
-use Rattle.pfc_state.specs.declared.waits.Arm.{Arm as WaitArm}
-use Rattle.pfc_state.specs.declared.waits.Arm.TheVariants.{Send as To, Receive as From, Accept as Entered}
-use Rattle.pfc_world.specs.Partners.{ticket_open_to}
 use Rattle.pfc_world.specs.Tables.{Table, at}
-use Rattle.pfc_semantics.specs.Channels as text
-use Rattle.pfc_semantics.specs.Channels.{Side, first_open}
 use Rattle.pfc_semantics.specs.Displays.{Display}
 use Rattle.pfc_semantics.specs.Processes.{process_block}
 use Rattle.pfc_semantics.specs.Programs.{Block, Program}
-use Rattle.pfc_semantics.specs.Remainders.{Context, Accepting, Offer, Open, Remainder, Replica, to_send, to_receive, to_accept, to_wait, to_end}
+use Rattle.pfc_semantics.specs.Remainders.{Context, Accepting}
 use Rattle.pfc_semantics.specs.Store.{Store}
 use Rattle.pfc_semantics.specs.Configurations.{Config, activity_of}
-use Rattle.pfc_code.specs.declared.instructions.Instr.{Instr}
-use Rattle.pfc_code.specs.declared.instructions.Instr.TheVariants.{ARMA}
-use Rattle.pfc_translation.specs.Sites.{Site, is_mains, linked, is_accept}
-use Rattle.pfc_translation.specs.Selects.{accept_cell, accept_cells}
+use Rattle.pfc_translation.specs.Sites.{is_mains, linked, is_accept}
 use Rattle.pfc_cells.specs.Homes.{Homes}
 use Rattle.pfc_cells.specs.Memory.{Entry, Entries}
-use Rattle.pfc_stacks.specs.Stacks.{stack_of}
 use Rattle.pfc_machines.specs.declared.machine.Machine.{Machine}
-use Rattle.pfc_machines.specs.declared.descriptors.Descriptor.{Descriptor}
-use Rattle.pfc_machines.specs.declared.alternatives.Alternative.{Alternative}
-use Rattle.pfc_machines.specs.declared.alternatives.Offer.TheVariants.{Accept as AcceptOffer}
 use Rattle.pfc_machines.specs.Descriptors.{descriptor_of}
-use Rattle.pfc_standing_code.specs.Effects.{Arm}
-use Rattle.pfc_standing_code.specs.Settings.{View, Setting, of_own, site_of}
+use Rattle.pfc_standing_code.specs.Settings.{View, Setting, of_own}
 use Rattle.pfc_standing_code.specs.Words.{is_known}
-use Rattle.pfc_standing_code.specs.Performs.{MetAt, BranchAt, IsOpen, AreOpen, Performs}
 use Rattle.pfc_standing_code.specs.TypedStatements.{AcceptsEntry}
-use Rattle.pfc_following_source.specs.Behind.{BehindAccept, BehindOpen, branch_of}
-use Rattle.pfc_representation.specs.Alternatives.{IsMadeBy}
 use Rattle.pfc_representation.specs.Levels.{Facts, program_in, LivingLevel, is_met_by, SeesThrough}
-use Rattle.pfc_representation.specs.Rooms.{MayMeet, MayMeetBy, process_count}
-use Rattle.pfc_representation.specs.Acting.{IsActing}
 use Rattle.pfc_representation.specs.Holding.{holders_in}
-use Rattle.pfc_kept_messages.proofs.Finding as finding
-use Rattle.pfc_kept_messages.proofs.Meeting.{is_process}
-use Rattle.pfc_kept_messages.proofs.Partner.{IsShowing}
-use Rattle.pfc_call_laws.proofs.Displays.{any_at, same_of}
+use Rattle.pfc_call_laws.proofs.Displays.{any_at}
 use Rattle.pfc_call_laws.proofs.Places.{or_cases, or_left, or_right}
-use Rattle.pfc_kept_meetings.specs.Owners.{HasTypedEntries}
-use Rattle.pfc_kept_meetings.specs.Accepts.{HasProcesses, KeepsAccepts, AreApart}
-use Rattle.pfc_kept_meetings.specs.Waiting.{StandsWithin, KeepsOffers}
+use Rattle.pfc_kept_meetings.specs.Accepts.{HasProcesses, AreApart}
+use Rattle.pfc_kept_meetings.specs.Waiting.{StandsWithin}
 use Rattle.pfc_kept_meetings.proofs.Arguments.{seen_plainly}
 use Rattle.pfc_kept_meetings.proofs.Few.{only_these, found_at}
 use Rattle.pfc_kept_meetings.proofs.Owner as owner
@@ -85,7 +61,8 @@ module _ (facts : Facts) (m : Machine) (c : Config) (homes : Homes) (entries : E
       same_program facts m c homes entries alike q (descriptor_of m.descriptors q) level stands own
 
   callers_are : (descriptor_of m.descriptors q).communications.callers ≡ level.setting.meetings
-  callers_are = (owner.first facts m c homes entries alike q level stands own there processes b x checked a.entry a.scope accepts).made.1 ∙ append-nil level.setting.meetings
+  callers_are = (owner.first facts m c homes entries alike q level stands own there processes b x checked a.entry a.scope accepts).made.1 ∙ append-nil
+      level.setting.meetings
 
   accepts_count : length level.setting.accepts ≡ length level.setting.meetings
   accepts_count =
@@ -116,7 +93,8 @@ module _ (facts : Facts) (m : Machine) (c : Config) (homes : Homes) (entries : E
           (checked.known i (or_right (is_mains level.setting.program.state.blocks i) _ seen))
 
       unknown : is_known g.state.blocks b [] i ≡ true → ⊥
-      unknown is = (let both : true ≡ false = sym is_one ∙ (owner.scopes facts m c homes entries alike q level stands own there processes b x checked a.entry a.scope accepts).no_accept i is in cc)
+      unknown is = (let both : true ≡ false = sym is_one ∙ (owner.scopes facts m c homes entries alike q level stands own there processes b x checked a.entry
+          a.scope accepts).no_accept i is in cc)
 
       by_rest : (list_any (λ n. n == i) (linked g.state.blocks b.env.view) ≡ true) ⊎ (list_any (λ n. n == i) level.setting.accepts ≡ true)
           → list_any (λ n. n == i) level.setting.accepts ≡ true

@@ -1,58 +1,42 @@
 -- An owner that waits to accept an entry: which accept both sides find, and what is told of it.
-use Rattle.std.proofs.Common.{◌≡◌, ◌≢◌, ℕ, zero, suc, ◌+◌, ◌<◌, ◌≤◌, ◌==◌, ℤ, Bool, true, false, ◌||◌, if◌then◌else◌, List, [], ◌∷◌, ◌++◌, length, slice_get, Option, Some, None, refl, sym, ap, ap₂, ◌∙◌, subst, arith, ◌⊎◌, inl, inr}
+use Rattle.std.proofs.Common.{◌≡◌, ℕ, zero, suc, ◌<◌, ◌≤◌, ℤ, Bool, true, false, if◌then◌else◌, List, [], ◌∷◌, length, slice_get, Option, Some, None, refl, ap, ◌∙◌, subst}
 use Rattle.std.specs.Prelude.{is_some}
-use Rattle.std.specs.List.{list_any}
-use Rattle.std.proofs.lemmas.List.{append-nil}
 use Rattle.pfc_tree.specs.trees.Stmts.{StmtTrees}
-use Rattle.pfc_types.specs.Scopes.{Level}
 use Rattle.pfc_state.specs.declared.waits.Arm.{Arm as WaitArm}
-use Rattle.pfc_state.specs.declared.waits.Arm.TheVariants.{Send as To, Receive as From, Accept as Entered}
+use Rattle.pfc_state.specs.declared.waits.Arm.TheVariants.{Accept as Entered}
 use Rattle.pfc_world.specs.Partners.{ticket_open_to}
-use Rattle.pfc_world.specs.Tables.{Table, at}
+use Rattle.pfc_world.specs.Tables.{at}
 use Rattle.pfc_semantics.specs.Channels as text
 use Rattle.pfc_semantics.specs.Channels.{Side, first_open}
-use Rattle.pfc_semantics.specs.Displays.{Display}
-use Rattle.pfc_semantics.specs.Processes.{process_block}
 use Rattle.pfc_semantics.specs.Programs.{Block, Program}
 use Rattle.pfc_semantics.specs.Remainders.{Context, Accepting, Offer, Open, Remainder, Replica, to_send, to_receive, to_accept, to_wait, to_end}
-use Rattle.pfc_semantics.specs.Store.{Store}
 use Rattle.pfc_semantics.specs.Configurations.{Config, activity_of}
 use Rattle.pfc_code.specs.declared.instructions.Instr.{Instr}
 use Rattle.pfc_code.specs.declared.instructions.Instr.TheVariants.{ARMA}
-use Rattle.pfc_translation.specs.Sites.{Site, is_mains, linked, is_accept}
+use Rattle.pfc_translation.specs.Sites.{Site, is_accept}
 use Rattle.pfc_translation.specs.Selects.{accept_cell, accept_cells}
-use Rattle.pfc_cells.specs.Homes.{Homes}
-use Rattle.pfc_cells.specs.Memory.{Entry, Entries}
 use Rattle.pfc_stacks.specs.Stacks.{stack_of}
 use Rattle.pfc_machines.specs.declared.machine.Machine.{Machine}
-use Rattle.pfc_machines.specs.declared.descriptors.Descriptor.{Descriptor}
-use Rattle.pfc_machines.specs.declared.alternatives.Alternative.{Alternative}
 use Rattle.pfc_machines.specs.declared.alternatives.Offer.TheVariants.{Accept as AcceptOffer}
 use Rattle.pfc_machines.specs.Descriptors.{descriptor_of}
 use Rattle.pfc_standing_code.specs.Effects.{Arm}
-use Rattle.pfc_standing_code.specs.Settings.{View, Setting, of_own, site_of}
-use Rattle.pfc_standing_code.specs.Words.{is_known}
+use Rattle.pfc_standing_code.specs.Settings.{Setting, of_own, site_of}
 use Rattle.pfc_standing_code.specs.Performs.{MetAt, BranchAt, IsOpen, AreOpen, Performs}
 use Rattle.pfc_standing_code.specs.TypedStatements.{AcceptsEntry}
 use Rattle.pfc_following_source.specs.Behind.{BehindAccept, BehindOpen, branch_of}
 use Rattle.pfc_representation.specs.Alternatives.{IsMadeBy}
-use Rattle.pfc_representation.specs.Levels.{Facts, program_in, LivingLevel, is_met_by, SeesThrough}
+use Rattle.pfc_representation.specs.Levels.{Facts, program_in, LivingLevel}
 use Rattle.pfc_representation.specs.Rooms.{MayMeet, MayMeetBy, process_count}
 use Rattle.pfc_representation.specs.Acting.{IsActing}
 use Rattle.pfc_representation.specs.Holding.{holders_in}
 use Rattle.pfc_kept_messages.proofs.Finding as finding
 use Rattle.pfc_kept_messages.proofs.Meeting.{is_process}
 use Rattle.pfc_kept_messages.proofs.Partner.{IsShowing}
-use Rattle.pfc_call_laws.proofs.Displays.{any_at, same_of}
-use Rattle.pfc_call_laws.proofs.Places.{or_cases, or_left, or_right}
+use Rattle.pfc_call_laws.proofs.Displays.{same_of}
 use Rattle.pfc_kept_meetings.specs.Owners.{HasTypedEntries}
 use Rattle.pfc_kept_meetings.specs.Accepts.{HasProcesses, KeepsAccepts, AreApart}
 use Rattle.pfc_kept_meetings.specs.Waiting.{StandsWithin, KeepsOffers}
-use Rattle.pfc_kept_meetings.proofs.Arguments.{seen_plainly}
-use Rattle.pfc_kept_meetings.proofs.Few.{only_these, found_at}
-use Rattle.pfc_kept_meetings.proofs.Owner as owner
 use Rattle.pfc_kept_meetings.proofs.Standing as standing
-use Rattle.pfc_kept_messages.proofs.Sight.{same_program}
 
 -- ## The accept
 
@@ -110,7 +94,8 @@ module _ (facts : Facts) (m : Machine) (c : Config) (p : ℕ) (level : LivingLev
   abbrev pub its_level : LivingLevel
   its_level = finding.its_level facts m c p level acting own q (Entered entry) ticket
 
-  abbrev pub shows : IsShowing facts acting.homes acting.entries c.store m.stacks c.table (holders_in facts c) q (activity_of g c q) (descriptor_of m.descriptors q)
+  abbrev pub shows : IsShowing facts acting.homes acting.entries c.store m.stacks c.table (holders_in facts c) q (activity_of g c q) (descriptor_of
+      m.descriptors q)
       (finding.waits facts m c p level acting own q (Entered entry) ticket)
   shows = finding.shows facts m c p level acting own q (Entered entry) ticket
 
@@ -171,7 +156,8 @@ module _ (facts : Facts) (m : Machine) (c : Config) (p : ℕ) (level : LivingLev
         branch = to;
       }
   alternative_is =
-      (subst (λ (i : Instr). IsMadeBy (finding.makes facts m c p level acting own q (Entered entry) ticket).depth i met.arm.operands met.kept.alternative met.is_kept.words) arm_is met.is_kept.made).1
+      (subst (λ (i : Instr). IsMadeBy (finding.makes facts m c p level acting own q (Entered entry) ticket).depth i met.arm.operands met.kept.alternative
+      met.is_kept.words) arm_is met.is_kept.made).1
 
   -- ## It is not open already
 
@@ -189,7 +175,9 @@ module _ (facts : Facts) (m : Machine) (c : Config) (p : ℕ) (level : LivingLev
       shows.under_way.stands.accepts
 
   pub of_block : is_accept b a.scope ≡ true
-  of_block = standing.of_block facts m c acting.homes acting.entries acting.alike q its_level shows.under_way.stands shows.offers.own inside processes b x shows.offers.checked a accepts within_those
+  of_block = standing.of_block facts m c acting.homes acting.entries acting.alike q its_level shows.under_way.stands shows.offers.own inside processes b x
+      shows.offers.checked a accepts within_those
 
   pub apart : AreApart b a.scope its_level.setting.accepts
-  apart = standing.apart facts m c acting.homes acting.entries acting.alike q its_level shows.under_way.stands shows.offers.own inside processes b x shows.offers.checked a accepts within_those
+  apart = standing.apart facts m c acting.homes acting.entries acting.alike q its_level shows.under_way.stands shows.offers.own inside processes b x
+      shows.offers.checked a accepts within_those

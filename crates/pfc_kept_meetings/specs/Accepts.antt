@@ -14,13 +14,12 @@ use Rattle.pfc_semantics.specs.Values.{Value, Location, ordinal, points}
 use Rattle.pfc_semantics.specs.Layouts.{is_laid, sub_with}
 use Rattle.pfc_semantics.specs.Processes.{declaration_of, process_block}
 use Rattle.pfc_semantics.specs.Programs.{Block, Program, block_at, program_of}
-use Rattle.pfc_semantics.specs.Remainders.{Accepting, Action, to_accept, meets}
 use Rattle.pfc_semantics.specs.Configurations.{Activation, Config, asking, activity_of}
 use Rattle.pfc_translation.specs.Sites.{is_mains, is_accept}
 use Rattle.pfc_translation.specs.Images.{image_of}
 use Rattle.pfc_call_laws.specs.Calls.{HasNoObjects}
 use Rattle.pfc_meeting_laws.specs.Meetings.{display_of}
-use Rattle.pfc_representation.specs.Levels.{Facts, program_in, LivingLevel}
+use Rattle.pfc_representation.specs.Levels.{Facts, program_in}
 use Rattle.pfc_representation.specs.Hands.{laid_parameters, entry_formals}
 
 -- ## Of a program

@@ -36,8 +36,8 @@ pub fn unmet_accepts_are_kept()
         → IsKept facts m c p choice (meets x o k) }
 {}
 
-/// An accept keeps the representation: with the first caller that waits its meeting begins, in which the accept's parameters have the caller's arguments, in the
-/// store and in the cells of the owner, and the caller waits in it; without one the process waits, and offers to accept.
+/// An accept keeps the representation: with the first caller that waits its meeting begins, in which the accept's parameters have the caller's arguments, in
+/// the store and in the cells of the owner, and the caller waits in it; without one the process waits, and offers to accept.
 pub fn accepts_are_kept()
     ensures { (facts : Facts) (m : Machine) (c : Config) (p choice : ℕ) (level : LivingLevel) (x : Context) (o : Open) (k : Remainder) (a : Accepting)
         → HasProcesses facts.tree → HasTypedEntries facts.tree → KeepsAccepts facts c → o.offer ≡ to_accept a → StandsWithin facts c p x a

@@ -7,5 +7,6 @@
 mod laws;
 
 pub use laws::{
-    accepts_are_kept, ends_of_accepts_are_kept, unmet_accepts_are_kept, unmet_calls_are_kept,
+    accepts_are_kept, calls_of_entries_are_kept, ends_of_accepts_are_kept, unmet_accepts_are_kept,
+    unmet_calls_are_kept,
 };

@@ -33,3 +33,4 @@ pub mod Granting
 pub mod Answering
 pub mod Calling
 pub mod Standing
+pub mod Apart

@@ -37,7 +37,8 @@ use Rattle.pfc_representation.specs.Acting.{IsActing, IsActor}
 use Rattle.pfc_kept_object_actions.proofs.Change.{row_here, row_there}
 use Rattle.pfc_kept_messages.proofs.Stacks.{written_same, changed_cells, written_alike}
 use Rattle.pfc_kept_meetings.specs.Owners.{HasTypedEntries}
-use Rattle.pfc_kept_meetings.specs.Accepts.{HasProcesses, KeepsAccepts, AreApart}
+use Rattle.pfc_kept_meetings.specs.Accepts.{HasProcesses, KeepsAccepts}
+use Rattle.pfc_kept_meetings.proofs.Apart.{AreApart}
 use Rattle.pfc_kept_meetings.proofs.Caller.{met_kept}
 use Rattle.pfc_kept_meetings.proofs.Lenders.{ready_unmet}
 use Rattle.pfc_kept_meetings.proofs.Untouched.{others_alike, main_lives}

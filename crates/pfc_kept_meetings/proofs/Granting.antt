@@ -27,7 +27,8 @@ use Rattle.pfc_representation.specs.Keeping.{IsSameStack}
 use Rattle.pfc_representation.specs.Processes.{RepresentsProcess, AreMet, IsAtLevel, IsUnderWay}
 use Rattle.pfc_representation.specs.Acting.{IsActing}
 use Rattle.pfc_kept_meetings.specs.Owners.{HasTypedEntries}
-use Rattle.pfc_kept_meetings.specs.Accepts.{HasProcesses, KeepsAccepts, AreApart}
+use Rattle.pfc_kept_meetings.specs.Accepts.{HasProcesses, KeepsAccepts}
+use Rattle.pfc_kept_meetings.proofs.Apart.{AreApart}
 use Rattle.pfc_kept_meetings.proofs.Untouched.{not_kept}
 use Rattle.pfc_semantics.specs.Rewriting.{Doing, going}
 use Rattle.pfc_stacks.specs.Refs.{word_of}

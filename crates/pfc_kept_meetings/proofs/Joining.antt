@@ -43,7 +43,8 @@ use Rattle.pfc_kept_object_actions.proofs.Change.{within_rows}
 use Rattle.pfc_kept_messages.proofs.Stacks.{changed_cells}
 use Rattle.pfc_kept_messages.proofs.Whole.{comes_then}
 use Rattle.pfc_kept_meetings.specs.Owners.{HasTypedEntries}
-use Rattle.pfc_kept_meetings.specs.Accepts.{HasProcesses, KeepsAccepts, AreApart}
+use Rattle.pfc_kept_meetings.specs.Accepts.{HasProcesses, KeepsAccepts}
+use Rattle.pfc_kept_meetings.proofs.Apart.{AreApart}
 use Rattle.pfc_kept_meetings.specs.Waiting.{StandsWithin}
 use Rattle.pfc_kept_meetings.proofs.Standing as standing
 use Rattle.pfc_kept_meetings.proofs.Accepting as accepting

@@ -33,4 +33,5 @@ pub mod Granting
 pub mod Answering
 pub mod Calling
 pub mod Standing
+pub mod Apart
 pub mod Told

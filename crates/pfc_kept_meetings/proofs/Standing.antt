@@ -22,7 +22,8 @@ use Rattle.pfc_representation.specs.Levels.{Facts, program_in, LivingLevel, is_m
 use Rattle.pfc_representation.specs.Holding.{holders_in}
 use Rattle.pfc_call_laws.proofs.Displays.{any_at}
 use Rattle.pfc_call_laws.proofs.Places.{or_cases, or_left, or_right}
-use Rattle.pfc_kept_meetings.specs.Accepts.{HasProcesses, AreApart}
+use Rattle.pfc_kept_meetings.specs.Accepts.{HasProcesses}
+use Rattle.pfc_kept_meetings.proofs.Apart.{AreApart}
 use Rattle.pfc_kept_meetings.specs.Waiting.{StandsWithin}
 use Rattle.pfc_kept_meetings.proofs.Arguments.{seen_plainly}
 use Rattle.pfc_kept_meetings.proofs.Few.{only_these, found_at}

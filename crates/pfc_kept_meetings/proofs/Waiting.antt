@@ -34,7 +34,8 @@ use Rattle.pfc_kept_messages.proofs.Meeting.{is_process}
 use Rattle.pfc_kept_messages.proofs.Partner.{IsShowing}
 use Rattle.pfc_call_laws.proofs.Displays.{same_of}
 use Rattle.pfc_kept_meetings.specs.Owners.{HasTypedEntries}
-use Rattle.pfc_kept_meetings.specs.Accepts.{HasProcesses, KeepsAccepts, AreApart}
+use Rattle.pfc_kept_meetings.specs.Accepts.{HasProcesses, KeepsAccepts}
+use Rattle.pfc_kept_meetings.proofs.Apart.{AreApart}
 use Rattle.pfc_kept_meetings.specs.Waiting.{StandsWithin, KeepsOffers}
 use Rattle.pfc_kept_meetings.proofs.Standing as standing
 

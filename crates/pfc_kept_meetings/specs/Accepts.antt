@@ -1,6 +1,6 @@
 -- What is told of the accepts of a program, and of a run.
-use Rattle.std.specs.Prelude.{ℕ, ◌≡◌, ◌≢◌, ◌<◌, ◌==◌, pos, true, List, [], ◌∷◌, length, get_or, Some, None}
-use Rattle.std.specs.List.{slice_get, list_any}
+use Rattle.std.specs.Prelude.{ℕ, ◌≡◌, ◌≢◌, ◌<◌, pos, true, List, [], ◌∷◌, length, get_or, Some, None}
+use Rattle.std.specs.List.{slice_get}
 use Rattle.pfc_tree.specs.trees.Parts.{ProgramTree}
 use Rattle.pfc_types.specs.Blocks.{process_at}
 use Rattle.pfc_types.specs.rules.Declarations.{name_cells}
@@ -43,12 +43,6 @@ pub record HasProcesses (t : ProgramTree) : Type 0 where
       → (process_at (program_of t).state.blocks n).scope ≡ (process_at (program_of t).state.blocks k).scope → n ≡ k
   pub declared : (q : ℕ) → 0 < q → q < length (image_of t).processes
       → declaration_of (program_of t) q < length (program_of t).state.blocks.processes
-
--- ## Of an accept that comes
-
--- the accepts that are open are accepts of the block, and others than this
-abbrev pub AreApart : Block → ℕ → List ℕ → Type 0
-AreApart b i accepts = (j : ℕ) → list_any (λ n. n == j) accepts ≡ true → (is_accept b j ≡ true) × (j ≢ i)
 
 -- ## Of a run
 

@@ -38,7 +38,7 @@ use Rattle.pfc_representation.specs.Rooms.{own_address, LeadWithin, LeadsWithin,
 use Rattle.pfc_representation.specs.Callers.{IsWithin, IsFirst, AreCallers}
 use Rattle.pfc_representation.specs.Trials.{TrialIs}
 use Rattle.pfc_kept_messages.proofs.Waiting.{not_empty}
-use Rattle.pfc_kept_meetings.proofs.Settled.{settled, beside_back, through_then, within_then, first_then, beside_then}
+use Rattle.pfc_kept_meetings.proofs.Settled.{settled, beside_back, through_then, within_then, first_then, beside_then, one_more_own}
 use Rattle.pfc_semantics.specs.Rendezvous.{meeting_of}
 use Rattle.pfc_kept_meetings.proofs.Given.{may_lend}
 use Rattle.pfc_kept_meetings.proofs.Few.{found_at}
@@ -342,6 +342,7 @@ module _ (facts : Facts) (m : Machine) (c : Config) (p : ℕ) (level : LivingLev
           laid = s.laid;
           apart = references;
           guarded = s.guarded;
+          accepts = s.accepts;
         };
         fits = record { operands = before.fits.operands; made = (before.fits.made.0, before.fits.made.1, before.fits.made.2); branches = tt };
         made = (refl, before.made.1, none_made);
@@ -356,7 +357,11 @@ module _ (facts : Facts) (m : Machine) (c : Config) (p : ℕ) (level : LivingLev
 
   callers_first : IsFirst facts acting.homes new_store q (stack_of m.stacks q).room level' w latest act e
   callers_first =
-      first_then level0 view' accepts' meetings' latest0 latest.callers fewer facts acting.homes new_store q (stack_of m.stacks q).room w act e first_new
+      first_then level0 view' accepts' meetings' latest0 latest.callers fewer
+      (one_more_own its_level.setting.trial (block_of its_level) i its_level.setting.accepts
+      (ap (λ (y : Block). is_accept y i) (owner.block_is facts m c acting.homes acting.entries acting.alike q its_level shows.under_way.stands
+      shows.offers.own inside processes b x shows.offers.checked a.entry a.scope accepts_so) ∙ of_block_so))
+      facts acting.homes new_store q (stack_of m.stacks q).room w act e first_new
 
   callers_so : AreCallers facts acting.homes acting.entries new_store table' q (stack_of m.stacks q).room level' w latest aq.activations (acting.entries q)
   callers_so =

@@ -248,8 +248,8 @@ module _ (facts : Facts) (m : Machine) (c : Config) (p : ℕ) (level : LivingLev
           callers =
               callers_less facts acting.homes acting.entries c.store c.table (ticked table) p caller row_other awake only (stack_of stacks p).room level'
               (word_of (last_activation stacks p)) latest a.activations (acting.entries p) has_not
-              (callers_then level level.setting.view (drop 1 level.setting.accepts) (drop 1 level.setting.meetings)
-              (λ old i is_open. old i (own_among_all level.setting.trial level.setting.accepts i is_open)) d.communications latest.callers fewer
+              (callers_then level level.setting.view (drop 1 level.setting.accepts) (drop 1 level.setting.meetings) d.communications latest.callers fewer
+              (λ old i is_open. old i (own_among_all level.setting.trial level.setting.accepts i is_open))
               facts acting.homes acting.entries c.store c.table p (stack_of stacks p).room (word_of (last_activation stacks p)) a.activations
               (acting.entries p) old.callers);
           room = old.room;
@@ -279,8 +279,7 @@ module _ (facts : Facts) (m : Machine) (c : Config) (p : ℕ) (level : LivingLev
           within =
               subst (λ (t : Trial). IsWithin facts level' (own_address t (stack_of stacks p).at) latest) (sym own)
               (subst (λ (s : Stack). IsWithin facts level' s.at latest) (sym moved_here)
-              (within_then level level.setting.view (drop 1 level.setting.accepts) (drop 1 level.setting.meetings)
-              (λ old i is_open. old i (own_among_all level.setting.trial level.setting.accepts i is_open)) d.communications latest.callers fewer
+              (within_then level level.setting.view (drop 1 level.setting.accepts) (drop 1 level.setting.meetings) d.communications latest.callers fewer
               facts to within));
           hand = (
             acting.actor.offered,

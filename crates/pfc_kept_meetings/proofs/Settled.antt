@@ -1,5 +1,5 @@
 -- A level with another view, other accepts and other meetings, while all else of it is as it was.
-use Rattle.std.proofs.Common.{◌≡◌, ◌==◌, ℕ, ℤ, true, List, [], ◌∷◌, ◌++◌, length}
+use Rattle.std.proofs.Common.{◌≡◌, ◌==◌, ◌||◌, ℕ, ℤ, Bool, true, false, List, [], ◌∷◌, ◌++◌, length, refl, sym, ap, ◌∙◌, arith}
 use Rattle.std.specs.List.{list_any}
 use Rattle.pfc_world.specs.Tables.{Table}
 use Rattle.pfc_semantics.specs.Configurations.{Activation}
@@ -10,7 +10,7 @@ use Rattle.pfc_translation.specs.Sites.{is_accept}
 use Rattle.pfc_cells.specs.Homes.{Homes}
 use Rattle.pfc_cells.specs.Memory.{Entry, Entries}
 use Rattle.pfc_machines.specs.Communications.{Communicating}
-use Rattle.pfc_standing_code.specs.Settings.{View, IsBeside, same_block, both_mains}
+use Rattle.pfc_standing_code.specs.Settings.{View, Trial, of_own, of_turn, of_another, IsBeside, same_block, both_mains}
 use Rattle.pfc_standing_code.specs.Performs.{own_accepts}
 use Rattle.pfc_representation.specs.Levels.{Facts, LivingLevel, block_of, HasSetting, SeesWith, SeesThrough}
 use Rattle.pfc_representation.specs.Rooms.{HasRoom}
@@ -94,7 +94,7 @@ module _ (level : LivingLevel) (view : View) (accepts meetings : List ℕ) where
   room_then : (facts : Facts) (room k : ℕ) (earlier : Communicating) → HasRoom facts room level k earlier → HasRoom facts room settled k earlier
   room_then facts room k earlier is = record { operands = is.operands; made = is.made; branches = is.branches }
 
-  module _ (opens : AreOwn level.setting.accepts → AreOwn accepts) (latest : Communicating) (callers : List ℕ)
+  module _ (latest : Communicating) (callers : List ℕ)
       (are : (es : List ℕ) → latest.callers ≡ level.setting.meetings ++ es → callers ≡ meetings ++ es) where
     abbrev pub called_so : Communicating
     called_so = record latest { callers = callers }
@@ -102,60 +102,78 @@ module _ (level : LivingLevel) (view : View) (accepts meetings : List ℕ) where
     made_then : (depth : ℕ) (earlier : Communicating) → IsMadeOver depth level earlier latest → IsMadeOver depth settled earlier called_so
     made_then depth earlier is = (is.0, are earlier.callers is.1, is.2)
 
-    pub first_then : (facts : Facts) (homes : Homes) (store : Store) (p room : ℕ) (w : ℤ) (a : Activation) (e : Entry)
-        → IsFirst facts homes store p room level w latest a e → IsFirst facts homes store p room settled w called_so a e
-    first_then facts homes store p room w a e is =
-        record {
-          own = is.own;
-          stands = stands_then opens facts homes store p a e w is.own is.stands;
-          fits = room_then facts room is.own.block (is_unmade latest) is.fits;
-          made = made_then 1 (is_unmade latest) is.made;
-          block = is.block;
-          number = is.number;
-          waits = is.waits;
-          mark = is.mark;
-          under = is.under;
-          caller = is.caller;
-          link = is.link;
-        }
-
-    abbrev called_then : (facts : Facts) (homes : Homes) (entries : Entries) (store : Store) (table : Table) (p room depth : ℕ) (w : ℤ) (a b : Activation)
-        (e : Entry) (below : List Entry) (outer : LivingLevel) (v : ℤ) (earlier : Communicating)
-        → IsCalled facts homes entries store table p room depth level w latest a b e below outer v earlier
-        → IsCalled facts homes entries store table p room depth settled w called_so a b e below outer v earlier
-    called_then facts homes entries store table p room depth w a b e below outer v earlier is =
-        record {
-          own = is.own;
-          stands = stands_then opens facts homes store p a e w is.own is.stands;
-          fits = room_then facts room is.own.block earlier is.fits;
-          made = made_then depth earlier is.made;
-          home = is.home;
-          at = is.at;
-          word = is.word;
-          caller = is.caller;
-          trial = is.trial;
-          accepts = is.accepts;
-          seen = is.seen;
-          back = is.back;
-        }
-
-    pub callers_then : (facts : Facts) (homes : Homes) (entries : Entries) (store : Store) (table : Table) (p room : ℕ) (w : ℤ) (xs : List Activation)
-        (es : List Entry)
-        → AreCallers facts homes entries store table p room level w latest xs es
-        → AreCallers facts homes entries store table p room settled w called_so xs es
-    callers_then facts homes entries store table p room w [] es is = absurd is
-    callers_then facts homes entries store table p room w (a ∷ xs) [] is = absurd is
-    callers_then facts homes entries store table p room w (a ∷ []) (e ∷ []) is = first_then facts homes store p room w a e is
-    callers_then facts homes entries store table p room w (a ∷ []) (e ∷ f ∷ es) is = absurd is
-    callers_then facts homes entries store table p room w (a ∷ b ∷ xs) (e ∷ []) is = absurd is
-    callers_then facts homes entries store table p room w (a ∷ b ∷ xs) (e ∷ f ∷ es) (outer, v, earlier, called, within, others) = (
-      outer,
-      v,
-      earlier,
-      called_then facts homes entries store table p room (length (a ∷ b ∷ xs)) w a b e (f ∷ es) outer v earlier called,
-      within,
-      others,
-    )
-
     pub within_then : (facts : Facts) (to : ℕ) → IsWithin facts level to latest → IsWithin facts settled to called_so
     within_then facts to (k, c, is, goes) = (k, c, is, record { entry = goes.entry; before = goes.before; rest = goes.rest })
+
+    module _ (opens : AreOwn level.setting.accepts → AreOwn accepts) where
+      pub first_then : (facts : Facts) (homes : Homes) (store : Store) (p room : ℕ) (w : ℤ) (a : Activation) (e : Entry)
+          → IsFirst facts homes store p room level w latest a e → IsFirst facts homes store p room settled w called_so a e
+      first_then facts homes store p room w a e is =
+          record {
+            own = is.own;
+            stands = stands_then opens facts homes store p a e w is.own is.stands;
+            fits = room_then facts room is.own.block (is_unmade latest) is.fits;
+            made = made_then 1 (is_unmade latest) is.made;
+            block = is.block;
+            number = is.number;
+            waits = is.waits;
+            mark = is.mark;
+            under = is.under;
+            caller = is.caller;
+            link = is.link;
+          }
+
+      abbrev called_then : (facts : Facts) (homes : Homes) (entries : Entries) (store : Store) (table : Table) (p room depth : ℕ) (w : ℤ) (a b : Activation)
+          (e : Entry) (below : List Entry) (outer : LivingLevel) (v : ℤ) (earlier : Communicating)
+          → IsCalled facts homes entries store table p room depth level w latest a b e below outer v earlier
+          → IsCalled facts homes entries store table p room depth settled w called_so a b e below outer v earlier
+      called_then facts homes entries store table p room depth w a b e below outer v earlier is =
+          record {
+            own = is.own;
+            stands = stands_then opens facts homes store p a e w is.own is.stands;
+            fits = room_then facts room is.own.block earlier is.fits;
+            made = made_then depth earlier is.made;
+            home = is.home;
+            at = is.at;
+            word = is.word;
+            caller = is.caller;
+            trial = is.trial;
+            accepts = is.accepts;
+            seen = is.seen;
+            back = is.back;
+          }
+
+      pub callers_then : (facts : Facts) (homes : Homes) (entries : Entries) (store : Store) (table : Table) (p room : ℕ) (w : ℤ) (xs : List Activation)
+          (es : List Entry)
+          → AreCallers facts homes entries store table p room level w latest xs es
+          → AreCallers facts homes entries store table p room settled w called_so xs es
+      callers_then facts homes entries store table p room w [] es is = absurd is
+      callers_then facts homes entries store table p room w (a ∷ xs) [] is = absurd is
+      callers_then facts homes entries store table p room w (a ∷ []) (e ∷ []) is = first_then facts homes store p room w a e is
+      callers_then facts homes entries store table p room w (a ∷ []) (e ∷ f ∷ es) is = absurd is
+      callers_then facts homes entries store table p room w (a ∷ b ∷ xs) (e ∷ []) is = absurd is
+      callers_then facts homes entries store table p room w (a ∷ b ∷ xs) (e ∷ f ∷ es) (outer, v, earlier, called, within, others) = (
+        outer,
+        v,
+        earlier,
+        called_then facts homes entries store table p room (length (a ∷ b ∷ xs)) w a b e (f ∷ es) outer v earlier called,
+        within,
+        others,
+      )
+
+-- ## One accept more
+
+equal : (n k : ℕ) → (n == k) ≡ true → n ≡ k
+equal n k h = grind (arith, h)
+
+pub one_more_own : (t : Trial) (b : Block) (n : ℕ) (accepts : List ℕ) → is_accept b n ≡ true
+    → ((i : ℕ) → list_any (λ j. j == i) (own_accepts t accepts) ≡ true → is_accept b i ≡ true)
+    → (i : ℕ) → list_any (λ j. j == i) (own_accepts t (n ∷ accepts)) ≡ true → is_accept b i ≡ true
+one_more_own of_own b n accepts its old i is_open = one_more b n accepts its old i is_open (n == i) refl
+  where
+    one_more : (b : Block) (n : ℕ) (accepts : List ℕ) → is_accept b n ≡ true → ((i : ℕ) → list_any (λ j. j == i) accepts ≡ true → is_accept b i ≡ true)
+        → (i : ℕ) → list_any (λ j. j == i) (n ∷ accepts) ≡ true → (c : Bool) → (n == i) ≡ c → is_accept b i ≡ true
+    one_more b n accepts its old i is_open true same = ap (λ k. is_accept b k) (sym (equal n i same)) ∙ its
+    one_more b n accepts its old i is_open false other = old i (sym (ap (λ (c : Bool). c || list_any (λ j. j == i) accepts) other) ∙ is_open)
+one_more_own (of_turn scan back) b n accepts its old i is_open = one_more_own of_own b n accepts its old i is_open
+one_more_own (of_another attempt) b n accepts its old i is_open = old i is_open

@@ -46,7 +46,7 @@ use Rattle.pfc_kept_messages.proofs.Others.{IsBarredStand, lender_waits}
 use Rattle.pfc_kept_messages.proofs.Waiting.{not_empty}
 use Rattle.pfc_kept_messages.proofs.Whole.{IsNewStand, IsBehind}
 use Rattle.pfc_kept_meetings.proofs.Tried.{tried_barred}
-use Rattle.pfc_kept_meetings.proofs.Settled.{settled, beside_back, through_then, within_then, first_then, beside_then}
+use Rattle.pfc_kept_meetings.proofs.Settled.{settled, beside_back, through_then, within_then, first_then, beside_then, one_more_own}
 use Rattle.pfc_semantics.specs.Rendezvous.{meeting_of}
 use Rattle.pfc_following_source.specs.Behind.{BehindAccept}
 use Rattle.pfc_kept_meetings.proofs.Given.{may_lend}
@@ -283,6 +283,7 @@ module _ (facts : Facts) (m : Machine) (c : Config) (p : ℕ) (level : LivingLev
           laid = s.laid;
           apart = references;
           guarded = s.guarded;
+          accepts = s.accepts;
         };
         fits = before.fits;
         made = before.made;
@@ -297,7 +298,11 @@ module _ (facts : Facts) (m : Machine) (c : Config) (p : ℕ) (level : LivingLev
 
   callers_first : IsFirst facts acting.homes new_store p (stack_of m.stacks p).room level' w latest act e
   callers_first =
-      first_then level view' accepts' meetings' d.communications latest.callers fewer facts acting.homes new_store p (stack_of m.stacks p).room w act e
+      first_then level view' accepts' meetings' d.communications latest.callers fewer
+      (one_more_own level.setting.trial (block_of level) i level.setting.accepts
+      (ap (λ (y : Block). is_accept y i) (owner.block_is facts m c acting.homes acting.entries acting.alike p level acting.actor.stands own
+      acting.actor.process processes b x checked acc.entry acc.scope accepts) ∙ of_block))
+      facts acting.homes new_store p (stack_of m.stacks p).room w act e
       first_new
 
   callers_so : AreCallers facts acting.homes acting.entries new_store table' p (stack_of m.stacks p).room level' w latest a.activations (acting.entries p)

@@ -4,6 +4,8 @@ use Rattle.std.proofs.lemmas.Bool.Decides.{nat_tests}
 use Rattle.std.specs.List.{AllByRecursion, list_any}
 use Rattle.pfc_tree.specs.trees.Stmts.{BodyTree, body}
 use Rattle.pfc_tree.specs.trees.Parts.{KindTree, PartTree, PartTrees, SubTree, ModuleTree, ProcessTree, procedure, function, guarded, consts, types, vars, sub_part, monitor, resource, process_part, no_parts, more_parts, sub, the_module, process}
+use Rattle.pfc_tree.specs.forget.Parts.{forget_kind, forget_part, forget_parts, forget_sub}
+use Rattle.pfc_tree.specs.lawful.Parts.{of_other, IsLawfulKind, IsLawfulPart, AreLawfulParts, IsLawfulSub}
 use Rattle.pfc_types.specs.Scopes.{Level, all_names, scope_at, here}
 use Rattle.pfc_types.specs.Blocks.{State, no_module}
 use Rattle.pfc_types.specs.declared.heads.ModuleHead.{ModuleHead}
@@ -63,14 +65,15 @@ module _ (lo hi : ℕ) (some : lo < hi) where
   pub never_out : (view : List Level) → AreOut view → Sees view lo → ⊥
   never_out view out seen = elim (out lo seen) [ inl low ↦ omega (arith, low) | inr high ↦ omega (arith, high, some) ]
 
-  -- A body from which the module is seen has its scope among the module's, and so has the scope in which it is declared.
+  -- A body from which the module is seen has its scope among the module's, and so has the scope in which it is declared. Guards do not see it.
   pub record IsPlaced (b : Block) : Type 0 where
     pub view : Kept b.env.view
     pub outer : Sees b.env.view lo → (lo ≤ b.outer) × (b.outer < hi)
     pub own : Sees b.env.view lo → (lo < b.scope) × (b.scope < hi)
-    pub guard : (guard : Guard) → b.guard ≡ Some guard → Kept guard.env.view
+    pub apart : b.scope ≡ lo → ⊥
+    pub guard : (guard : Guard) → b.guard ≡ Some guard → AreOut guard.env.view
 
-  abbrev GuardIs : (List Level → Type 0) → Option Guard → Type 0
+  abbrev pub GuardIs : (List Level → Type 0) → Option Guard → Type 0
   GuardIs P o = (guard : Guard) → o ≡ Some guard → P guard.env.view
 
   guard_is : (P : List Level → Type 0) (s : State) (view : List Level) (i : ℕ) (kind : KindTree) → P view
@@ -81,24 +84,30 @@ module _ (lo hi : ℕ) (some : lo < hi) where
       let same : record { env = env_at s view (around_guard i); test = test; line = p.line } ≡ guard = cc in
       subst (λ (w : Guard). P w.env.view) same is
 
-  no_guard : (P : List Level → Type 0) → GuardIs P None
+  kind_alone : (P : List Level → Type 0) (env : Env) (kind : KindTree) → IsLawfulKind of_other (forget_kind kind) → GuardIs P (guard_of env kind)
+  kind_alone P env procedure lawful guard e = absurd (cc)
+  kind_alone P env (function x p) lawful guard e = absurd (cc)
+  kind_alone P env (guarded test p) lawful guard e = absurd lawful.0
+
+  pub no_guard : (P : List Level → Type 0) → GuardIs P None
   no_guard P guard e = absurd (cc)
 
   placed_in :
       (scope outer : ℕ) (env : Env) (next : ℕ) (b : BodyTree) (layout : Layout) (accepts : ℕ) (guard : Option Guard)
-      → Sees env.view lo → lo ≤ outer → outer < hi → lo < scope → scope < hi → GuardIs Kept guard
+      → Sees env.view lo → lo ≤ outer → outer < hi → lo < scope → scope < hi → GuardIs AreOut guard
       → IsPlaced (block_of scope outer env next b layout accepts guard)
   placed_in scope outer env next (body ss from to) layout accepts guard seen a b c d test =
-      record { view = inl seen; outer = λ h. (a, b); own = λ h. (c, d); guard = test }
+      record { view = inl seen; outer = λ h. (a, b); own = λ h. (c, d); apart = λ e. omega (arith, c, e); guard = test }
 
-  placed_out :
+  pub placed_out :
       (scope outer : ℕ) (env : Env) (next : ℕ) (b : BodyTree) (layout : Layout) (accepts : ℕ) (guard : Option Guard)
-      → AreOut env.view → GuardIs Kept guard → IsPlaced (block_of scope outer env next b layout accepts guard)
-  placed_out scope outer env next (body ss from to) layout accepts guard out test =
+      → AreOut env.view → IsOut scope → GuardIs AreOut guard → IsPlaced (block_of scope outer env next b layout accepts guard)
+  placed_out scope outer env next (body ss from to) layout accepts guard out beside test =
       record {
         view = inr out;
         outer = λ h. absurd (never_out env.view out h);
         own = λ h. absurd (never_out env.view out h);
+        apart = λ e. elim beside [ inl low ↦ omega (arith, low, e) | inr high ↦ omega (arith, high, some, e) ];
         guard = test;
       }
 
@@ -108,27 +117,28 @@ module _ (lo hi : ℕ) (some : lo < hi) where
     mutual
       part_in :
           (in_process : Bool) (i n : ℕ) (outer : List Level) (next : ℕ) (q : PartTree) → Sees (level i 0 ∷ outer) lo → lo ≤ i → i < hi → lo < next
-          → next + part_scopes q ≤ hi → AllByRecursion IsPlaced (part_blocks s in_process i n outer next q)
-      part_in in_process i n outer next (consts items) seen a b c d = tt
-      part_in in_process i n outer next (types items) seen a b c d = tt
-      part_in in_process i n outer next (vars vs) seen a b c d = tt
-      part_in in_process i n outer next (sub_part q) seen a b c d = sub_in in_process i n outer next q seen a b c d
-      part_in in_process i n outer next (monitor m) seen a b c d = module_in i n outer next m seen c d
-      part_in in_process i n outer next (resource m) seen a b c d = module_in i n outer next m seen c d
-      part_in in_process i n outer next (process_part q) seen a b c d = process_in i n outer next q seen a b c d
+          → next + part_scopes q ≤ hi → IsLawfulPart of_other (forget_part q) → AllByRecursion IsPlaced (part_blocks s in_process i n outer next q)
+      part_in in_process i n outer next (consts items) seen a b c d lawful = tt
+      part_in in_process i n outer next (types items) seen a b c d lawful = tt
+      part_in in_process i n outer next (vars vs) seen a b c d lawful = tt
+      part_in in_process i n outer next (sub_part q) seen a b c d lawful = sub_in in_process i n outer next q seen a b c d lawful
+      part_in in_process i n outer next (monitor m) seen a b c d lawful = absurd lawful.0
+      part_in in_process i n outer next (resource m) seen a b c d lawful = absurd lawful.0
+      part_in in_process i n outer next (process_part q) seen a b c d lawful = absurd lawful.0
 
       pub parts_in :
           (in_process : Bool) (i n : ℕ) (outer : List Level) (next : ℕ) (qs : PartTrees) → Sees (level i 0 ∷ outer) lo → lo ≤ i → i < hi → lo < next
-          → next + parts_scopes qs ≤ hi → AllByRecursion IsPlaced (parts_blocks s in_process i n outer next qs)
-      parts_in in_process i n outer next no_parts seen a b c d = tt
-      parts_in in_process i n outer next (more_parts q qs) seen a b c d =
-          all_append IsPlaced (part_blocks s in_process i n outer next q) _ (part_in in_process i n outer next q seen a b c (omega (arith, d)))
-          (parts_in in_process i (passed_part (scope_at s.blocks.scopes i) n q) outer (next + part_scopes q) qs seen a b (omega (arith, c)) (omega (arith, d)))
+          → next + parts_scopes qs ≤ hi → AreLawfulParts of_other (forget_parts qs) → AllByRecursion IsPlaced (parts_blocks s in_process i n outer next qs)
+      parts_in in_process i n outer next no_parts seen a b c d lawful = tt
+      parts_in in_process i n outer next (more_parts q qs) seen a b c d lawful =
+          all_append IsPlaced (part_blocks s in_process i n outer next q) _ (part_in in_process i n outer next q seen a b c (omega (arith, d)) lawful.0)
+          (parts_in in_process i (passed_part (scope_at s.blocks.scopes i) n q) outer (next + part_scopes q) qs seen a b (omega (arith, c)) (omega (arith, d))
+          lawful.1)
 
       sub_in :
           (in_process : Bool) (i n : ℕ) (outer : List Level) (next : ℕ) (q : SubTree) → Sees (level i 0 ∷ outer) lo → lo ≤ i → i < hi → lo < next
-          → next + part_scopes (sub_part q) ≤ hi → AllByRecursion IsPlaced (sub_blocks s in_process i n outer next q)
-      sub_in in_process i n outer next (sub x gs kind ps b p) seen low high over fit =
+          → next + part_scopes (sub_part q) ≤ hi → IsLawfulSub of_other (forget_sub q) → AllByRecursion IsPlaced (sub_blocks s in_process i n outer next q)
+      sub_in in_process i n outer next (sub x gs kind ps b p) seen low high over fit lawful =
           let own = scope_at s.blocks.scopes next in
           let count = passed_groups own 0 gs in
           let around = level i (passed (scope_at s.blocks.scopes i) n x) ∷ outer in
@@ -140,32 +150,9 @@ module _ (lo hi : ℕ) (some : lo < hi) where
           let within : next < hi = omega (arith, fit) in
           all_push IsPlaced (parts_blocks s in_process next count around (next + 1) ps) (block_of next i inside behind b layout 0 guard)
           (parts_in in_process next count around (next + 1) ps (sees_further (level next 0) around lo seen) (omega (arith, over)) within (omega (arith, over))
-          (omega (arith, fit)))
+          (omega (arith, fit)) lawful.2)
           (placed_in next i inside behind b layout 0 guard (sees_further (all_names s.blocks.scopes next) around lo seen) low high over within
-          (guard_is Kept s view i kind (inl (sees_further (level next count) (level i n ∷ outer) lo seen))))
-
-      pub module_in :
-          (i n : ℕ) (outer : List Level) (next : ℕ) (m : ModuleTree) → Sees (level i 0 ∷ outer) lo → lo < next
-          → next + module_scopes m ≤ hi → AllByRecursion IsPlaced (module_blocks s i n outer next m)
-      module_in i n outer next (the_module x exports ps b last p) seen over fit =
-          parts_in false next 0 (level i n ∷ outer) (next + 1) ps (sees_further (level next 0) (level i n ∷ outer) lo seen) (omega (arith, over))
-          (omega (arith, fit)) (omega (arith, over)) (omega (arith, fit))
-
-      process_in :
-          (i n : ℕ) (outer : List Level) (next : ℕ) (q : ProcessTree) → Sees (level i 0 ∷ outer) lo → lo ≤ i → i < hi → lo < next
-          → next + part_scopes (process_part q) ≤ hi → AllByRecursion IsPlaced (process_blocks s i n outer next q)
-      process_in i n outer next (process many x gs es ps b p) seen low high over fit =
-          let own = scope_at s.blocks.scopes next in
-          let count = passed_entries own (passed_groups own 0 gs) es in
-          let around = level i (passed (scope_at s.blocks.scopes i) n x) ∷ outer in
-          let inner = next + 1 + parts_scopes ps in
-          let inside = env_at s (here s.blocks.scopes next around) around_process in
-          let layout = process_layout own (take (body_scopes b) (drop inner s.blocks.scopes)) in
-          let within : next < hi = omega (arith, fit) in
-          all_push IsPlaced (parts_blocks s true next count around (next + 1) ps) (block_of next i inside inner b layout (body_scopes b) None)
-          (parts_in true next count around (next + 1) ps (sees_further (level next 0) around lo seen) (omega (arith, over)) within (omega (arith, over))
-          (omega (arith, fit)))
-          (placed_in next i inside inner b layout (body_scopes b) None (sees_further (all_names s.blocks.scopes next) around lo seen) low high over within (no_guard Kept))
+          (kind_alone AreOut (env_at s view (around_guard i)) kind lawful.1))
 
     -- ## Outside
 
@@ -219,8 +206,8 @@ module _ (lo hi : ℕ) (some : lo < hi) where
           let own_out : IsOut next = first_out next size (omega arith) c in
           all_push IsPlaced (parts_blocks s in_process next count around (next + 1) ps) (block_of next i inside behind b layout 0 guard)
           (parts_out in_process next count around (next + 1) ps own_out around_out (beside_in next size (next + 1) (parts_scopes ps) (omega arith) (omega arith) c))
-          (placed_out next i inside behind b layout 0 guard (more_out (all_names s.blocks.scopes next) around own_out around_out)
-          (guard_is Kept s view i kind (inr (more_out (level next count) (level i n ∷ outer) own_out (more_out (level i n) outer a out)))))
+          (placed_out next i inside behind b layout 0 guard (more_out (all_names s.blocks.scopes next) around own_out around_out) own_out
+          (guard_is AreOut s view i kind (more_out (level next count) (level i n ∷ outer) own_out (more_out (level i n) outer a out))))
 
       module_out :
           (i n : ℕ) (outer : List Level) (next : ℕ) (m : ModuleTree) → IsOut i → AreOut outer → Beside next (module_scopes m)
@@ -245,4 +232,4 @@ module _ (lo hi : ℕ) (some : lo < hi) where
           let own_out : IsOut next = first_out next size (omega arith) c in
           all_push IsPlaced (parts_blocks s true next count around (next + 1) ps) (block_of next i inside inner b layout (body_scopes b) None)
           (parts_out true next count around (next + 1) ps own_out around_out (beside_in next size (next + 1) (parts_scopes ps) (omega arith) (omega arith) c))
-          (placed_out next i inside inner b layout (body_scopes b) None (more_out (all_names s.blocks.scopes next) around own_out around_out) (no_guard Kept))
+          (placed_out next i inside inner b layout (body_scopes b) None (more_out (all_names s.blocks.scopes next) around own_out around_out) own_out (no_guard AreOut))

@@ -1,8 +1,7 @@
 -- What processes show that wait for an entry is what they were about to ask.
-use Rattle.std.proofs.Common.{◌≡◌, ◌≢◌, ◌⊎◌, inl, inr, ℕ, ◌+◌, Bool, true, false, if◌then◌else◌, List, [], ◌∷◌, Option, Some, None, Ok, Err, refl, sym, ap, subst}
+use Rattle.std.proofs.Common.{◌≡◌, ◌≢◌, ◌⊎◌, inl, inr, ℕ, ◌+◌, Bool, true, false, if◌then◌else◌, List, [], Option, Some, None, Ok, Err, refl, sym, ap, subst}
 use Rattle.pfc_base.specs.declared.faults.RunFault.TheVariants.{NotActive}
 use Rattle.pfc_state.specs.declared.waits.Arm.TheVariants.{Accept as Entry}
-use Rattle.pfc_state.specs.declared.waits.Why.{Why}
 use Rattle.pfc_state.specs.declared.waits.Why.TheVariants.{Call as ACall, Meeting}
 use Rattle.pfc_state.specs.Stands.{Stand, Is_idle, Is_ready, Waits}
 use Rattle.pfc_world.specs.Tables.{Table, at}
@@ -13,8 +12,8 @@ use Rattle.pfc_world.specs.Terminating.{wholly_settled}
 use Rattle.pfc_semantics.specs.Values.{Value}
 use Rattle.pfc_semantics.specs.Displays.{Spot}
 use Rattle.pfc_semantics.specs.Programs.{Program}
-use Rattle.pfc_semantics.specs.Remainders.{Context, Argument, Call, Offer, Open, Remainder, Way, Action, leave, own, to_send, to_receive, to_accept, to_wait, to_end, to_procedure, to_function, to_module, to_requeue, to_process, to_entry, reads, writes, turns, calls, finishes, prints, inputs, skips, asks_eof, asks_eoln, asks_clock, asks_empty, draws, joins, initials, waits, signals, delays, resumes, sleeps, meets, decides, parts, scans, bars, passes, faults}
-use Rattle.pfc_semantics.specs.Configurations.{Activity, Hand, empty_hand, offering, asking, barred_at, Config, Effect, nobody, activity_of, goes_on, showing, number_for, all_passed, with_table, start, after, done_at}
+use Rattle.pfc_semantics.specs.Remainders.{Context, Argument, Offer, Remainder, Way, Action, leave, own, to_send, to_receive, to_accept, to_wait, to_end, to_procedure, to_function, to_module, to_requeue, to_process, to_entry, reads, writes, turns, calls, finishes, prints, inputs, skips, asks_eof, asks_eoln, asks_clock, asks_empty, draws, joins, initials, waits, signals, delays, resumes, sleeps, meets, decides, parts, scans, bars, passes, faults}
+use Rattle.pfc_semantics.specs.Configurations.{Activity, Hand, empty_hand, offering, asking, barred_at, Config, nobody, activity_of, goes_on, showing, number_for, all_passed, with_table, start, after, done_at}
 use Rattle.pfc_semantics.specs.Channels.{Side, side_of}
 use Rattle.pfc_semantics.specs.Rendezvous.{called_into, called_at, enters}
 use Rattle.pfc_semantics.specs.Events.{step}
@@ -24,9 +23,9 @@ use Rattle.pfc_accept_laws.specs.Shown.{ShowsArguments, IsToAsk}
 use Rattle.pfc_accept_laws.proofs.Lists.{set_changes}
 use Rattle.pfc_accept_laws.proofs.Each.{Told, IsTold, Each, it_shows}
 use Rattle.pfc_accept_laws.proofs.Communications.{called_at_so}
-use Rattle.pfc_accept_laws.proofs.Effects.{CallsSo, ShowsWay, ActsSo, effect_so}
+use Rattle.pfc_accept_laws.proofs.Effects.{ShowsWay, ActsSo, effect_so}
 use Rattle.pfc_accept_laws.proofs.Runs.{start_so, settled_so, done_so, after_so}
-use Rattle.pfc_accept_laws.proofs.Rows.{IsNoCall, RowsSo, wholly_so}
+use Rattle.pfc_accept_laws.proofs.Rows.{IsNoCall, wholly_so}
 use Rattle.pfc_accept_laws.proofs.Waits.{IsElse, after_rows, effect_rows}
 
 -- ## Waits for entries

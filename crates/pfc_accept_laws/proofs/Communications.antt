@@ -1,5 +1,5 @@
 -- What is told of each process is so behind communication, and behind the deciding action of a select.
-use Rattle.std.proofs.Common.{ℕ, suc, ◌+◌, Bool, true, false, nat_le, if◌then◌else◌, List, [], ◌∷◌, Option, Some, None, Ok, Err}
+use Rattle.std.proofs.Common.{ℕ, ◌+◌, nat_le, List, [], ◌∷◌, Option, Some, None, Ok, Err}
 use Rattle.std.specs.Prelude.{◌==◌, ◌*◌, slice_get}
 use Rattle.pfc_base.specs.declared.faults.RunFault.TheVariants.{Late}
 use Rattle.pfc_state.specs.declared.waits.Arm.{Arm}

@@ -5,7 +5,7 @@ use Rattle.pfc_semantics.specs.Programs.{Program}
 use Rattle.pfc_semantics.specs.Remainders.{Context, Argument, Call, Way, leave, own, to_procedure, to_function, to_module, to_requeue, to_process, to_entry, calls, meets, decides, bars, passes, Action}
 use Rattle.pfc_semantics.specs.Processes.{process_block}
 use Rattle.pfc_semantics.specs.Calls.{new_number, new_display, new_activation, cells_above}
-use Rattle.pfc_semantics.specs.Configurations.{Mark, plain, Activation, Activity, Config, activity_of}
+use Rattle.pfc_semantics.specs.Configurations.{plain, Activation, Config, activity_of}
 use Rattle.pfc_semantics.specs.Events.{step}
 use Rattle.pfc_semantics.specs.Steps.{next_of}
 use Rattle.pfc_accept_laws.specs.Displays.{first_display, GoesBack, AllGoBack, RequeuesInside}

@@ -1,8 +1,6 @@
 -- Who waits for an entry behind an action, or when it is settled, waited for it before, but for who calls one.
-use Rattle.std.proofs.Common.{◌≡◌, ◌≢◌, ℕ, ℤ, pos, negsuc, zero, suc, ◌+◌, Bool, true, false, nat_le, if◌then◌else◌, List, [], ◌∷◌, map, get_or, Option, Some, None, Result, Ok, Err, refl, subst}
-use Rattle.std.specs.Prelude.{◌*◌, ◌-◌, ◌==◌, slice_get}
-use Rattle.rand_pcg.specs.Lcg.{Lcg}
-use Rattle.pfc_base.specs.declared.faults.RunFault.{RunFault}
+use Rattle.std.proofs.Common.{ℕ, ℤ, zero, suc, ◌+◌, Bool, true, false, if◌then◌else◌, List, [], ◌∷◌, map, Option, Some, None}
+use Rattle.std.specs.Prelude.{◌-◌, ◌==◌, slice_get}
 use Rattle.pfc_state.specs.declared.waits.Arm.{Arm}
 use Rattle.pfc_state.specs.declared.waits.Arm.TheVariants.{Send as To, Receive as From, Accept as Entry}
 use Rattle.pfc_state.specs.declared.waits.Why.{Why}
@@ -15,11 +13,11 @@ use Rattle.pfc_world.specs.Semaphores.{Counted, count_of, counting, waited, sign
 use Rattle.pfc_world.specs.Monitors.{entered, entered_where, handed_over, delayed, resumed_with, resumed}
 use Rattle.pfc_world.specs.Resources.{resource_entered, resource_entered_where, given_up, barred, passed_to, requeued}
 use Rattle.pfc_world.specs.Partners.{semaphore_waiter, next_holder, condition_waiter, next_entrant, receiver, sender, caller, partner}
-use Rattle.pfc_world.specs.Channels.{passed_with, sent, received}
-use Rattle.pfc_world.specs.Rendezvous.{accepted_with, accepted}
+use Rattle.pfc_world.specs.Channels.{passed_with}
+use Rattle.pfc_world.specs.Rendezvous.{accepted_with}
 use Rattle.pfc_world.specs.Selects.{communicated_with, committed_to, committed_at, committed, matched}
 use Rattle.pfc_world.specs.Settling.{earliest, woken_now, moved_to, settled, may_all_end}
-use Rattle.pfc_world.specs.Terminating.{terminated_child, over_children, terminated, terminated_where, wholly_settled}
+use Rattle.pfc_world.specs.Terminating.{terminated_child, over_children, terminated_where, wholly_settled}
 use Rattle.pfc_semantics.specs.Selects.{plainly}
 use Rattle.pfc_accept_laws.proofs.Lists.{set_changes}
 

@@ -1,11 +1,11 @@
 -- What is told of each process is so from the start on, while it settles, and behind each step.
-use Rattle.std.proofs.Common.{◌≡◌, ℕ, zero, suc, Bool, true, false, if◌then◌else◌, List, [], ◌∷◌, get_or, map, Some, Ok, Err, refl}
+use Rattle.std.proofs.Common.{ℕ, zero, suc, Bool, true, false, if◌then◌else◌, List, [], ◌∷◌, get_or, map, Some, Ok, Err}
 use Rattle.pfc_state.specs.Stands.{Stand, may_end}
 use Rattle.pfc_world.specs.Tables.{Table}
 use Rattle.pfc_world.specs.Transitions.{ticked}
 use Rattle.pfc_world.specs.Settling.{may_all_end, settled}
 use Rattle.pfc_semantics.specs.Programs.{Program}
-use Rattle.pfc_semantics.specs.Configurations.{Activity, Config, Effect, main_activity, idle_activity, nobody, activity_of, start, done_at, after}
+use Rattle.pfc_semantics.specs.Configurations.{Activity, Config, Effect, idle_activity, nobody, activity_of, start, done_at, after}
 use Rattle.pfc_semantics.specs.Processes.{ended_activity}
 use Rattle.pfc_semantics.specs.Time.{ended_children, terminated_over, settled_config}
 use Rattle.pfc_semantics.specs.Events.{step}

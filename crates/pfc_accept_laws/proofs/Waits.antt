@@ -1,6 +1,6 @@
 -- What is told of the standings of all processes is so behind every action that is no call of an entry.
-use Rattle.std.proofs.Common.{◌≡◌, ℕ, ℤ, pos, negsuc, zero, suc, ◌+◌, Bool, true, false, nat_le, if◌then◌else◌, List, [], ◌∷◌, Option, Some, None, Result, Ok, Err}
-use Rattle.std.specs.Prelude.{◌*◌, ◌/◌, ◌==◌, slice_get}
+use Rattle.std.proofs.Common.{ℕ, ℤ, pos, negsuc, zero, suc, ◌+◌, Bool, true, false, nat_le, if◌then◌else◌, List, [], ◌∷◌, Option, Some, None, Result, Ok, Err}
+use Rattle.std.specs.Prelude.{◌*◌, ◌/◌, ◌==◌}
 use Rattle.rand_pcg.specs.Lcg.{Lcg}
 use Rattle.pfc_base.specs.declared.faults.RunFault.{RunFault}
 use Rattle.pfc_base.specs.declared.faults.RunFault.TheVariants.{Active, Late, Stack, Count as TooLarge}
@@ -13,7 +13,7 @@ use Rattle.pfc_values.specs.Inputs.{Item, item, skipped}
 use Rattle.pfc_values.specs.Numbers.{Outcome, fitting}
 use Rattle.pfc_world.specs.Tables.{at, some_created}
 use Rattle.pfc_world.specs.Transitions.{blocked, all_started}
-use Rattle.pfc_world.specs.Holders.{Held, standing}
+use Rattle.pfc_world.specs.Holders.{standing}
 use Rattle.pfc_world.specs.Semaphores.{is_overfull, signalled}
 use Rattle.pfc_world.specs.Monitors.{entered, delayed}
 use Rattle.pfc_world.specs.Partners.{next_barred}
@@ -22,7 +22,7 @@ use Rattle.pfc_semantics.specs.Objects.{module_number}
 use Rattle.pfc_semantics.specs.Operators.{simple_of}
 use Rattle.pfc_semantics.specs.Displays.{Spot}
 use Rattle.pfc_semantics.specs.Programs.{Block, Program, block_at}
-use Rattle.pfc_semantics.specs.Remainders.{Context, Argument, Bar, Call, Open, Otherwise, Selecting, Remainder, AwaitsValue, Scan, Tried, Way, leave, own as trying, in_names, scan_on, to_procedure, to_function, to_module, to_requeue, to_process, to_entry, Action, reads, writes, turns, calls, finishes, prints, inputs, skips, asks_eof, asks_eoln, asks_clock, asks_empty, draws, joins, initials, waits, signals, delays, resumes, sleeps, meets, decides, parts, scans, bars, passes, faults}
+use Rattle.pfc_semantics.specs.Remainders.{Context, Argument, Call, Open, Otherwise, Selecting, Remainder, AwaitsValue, Scan, Tried, Way, leave, own as trying, to_procedure, to_function, to_module, to_requeue, to_process, to_entry, Action, reads, writes, turns, calls, finishes, prints, inputs, skips, asks_eof, asks_eoln, asks_clock, asks_empty, draws, joins, initials, waits, signals, delays, resumes, sleeps, meets, decides, parts, scans, bars, passes, faults}
 use Rattle.pfc_semantics.specs.Rewriting.{going}
 use Rattle.pfc_semantics.specs.Configurations.{Mark, plain, of_monitor, of_resource, Caller, of_nobody, of_remainder, of_value, Activation, Config, Effect, activity_of, goes_on, number_for, all_passed, with_table, counted, with_counted, monitors_held, with_monitors, resources_held, with_resources, body_of, after}
 use Rattle.pfc_semantics.specs.Calls.{most_cells, cells_above, activated, left_by, unless_full}

@@ -6,4 +6,7 @@
 
 mod laws;
 
-pub use laws::{callers_pass_locations, first_displays_come_back, hands_show_what_was_asked, hands_show_what_was_offered};
+pub use laws::{
+    callers_pass_locations, first_displays_come_back, hands_show_what_was_asked,
+    hands_show_what_was_offered,
+};

@@ -1,4 +1,4 @@
-use Rattle.std.proofs.Common.{◌≡◌, ◌⊎◌, inl, inr, ℕ, List, refl}
+use Rattle.std.proofs.Common.{◌≡◌, ◌⊎◌, inl, inr, refl}
 use Rattle.pfc_accept_laws.specs.Shown.{ShowsArguments, IsToAsk}
 use Rattle.pfc_accept_laws.proofs.Asked.{start_asked, settled_asked, step_asked}
 use Rattle.pfc_accept_laws.proofs.laws.hands_show_what_was_asked.Goals as goal

@@ -1,4 +1,4 @@
-use Rattle.std.proofs.Common.{◌≡◌, ◌⊎◌, inl, inr, ℕ, List, refl}
+use Rattle.std.proofs.Common.{◌≡◌, ◌⊎◌, inl, inr, refl}
 use Rattle.pfc_accept_laws.proofs.Offered.{start_offered, settled_offered, step_offered}
 use Rattle.pfc_accept_laws.specs.Shown.{ShowsOpen, IsToOffer}
 use Rattle.pfc_accept_laws.proofs.laws.hands_show_what_was_offered.Goals as goal

@@ -1,0 +1,10 @@
+pub mod Lists
+pub mod Each
+pub mod Communications
+pub mod Effects
+pub mod Runs
+pub mod Displays
+pub mod Rows
+pub mod Waits
+pub mod Offered
+pub mod Asked

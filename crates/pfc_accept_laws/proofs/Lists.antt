@@ -1,0 +1,21 @@
+-- A list with another element in one place.
+use Rattle.std.proofs.Common.{◌≡◌, ◌≢◌, ℕ, zero, suc, List, [], ◌∷◌, get_or, set, refl, ap, arith}
+
+never : (n : ℕ) → suc n ≡ zero → ⊥
+never n is = grind (arith, is)
+
+never_back : (n : ℕ) → zero ≡ suc n → ⊥
+never_back n is = grind (arith, is)
+
+less_one : (n k : ℕ) → suc n ≡ suc k → n ≡ k
+less_one n k is = grind (arith, is)
+
+-- what is found there, or else in the list, or nowhere
+pub set_changes : {X : Type 0} (P : X → Type 0) (d : X) (xs : List X) (p q : ℕ) (x : X) → (q ≡ p → P x) → (q ≢ p → P (get_or xs q d)) → P d
+    → P (get_or (set xs p x) q d)
+set_changes P d [] p q x one other nowhere = nowhere
+set_changes P d (y ∷ xs) zero zero x one other nowhere = one refl
+set_changes P d (y ∷ xs) zero (suc q) x one other nowhere = other (never q)
+set_changes P d (y ∷ xs) (suc p) zero x one other nowhere = other (never_back p)
+set_changes P d (y ∷ xs) (suc p) (suc q) x one other nowhere =
+    set_changes P d xs p q x (λ is. one (ap suc is)) (λ off. other (λ is. off (less_one q p is))) nowhere

@@ -1,0 +1,52 @@
+//! The laws. The functions do nothing: their contracts are the laws.
+ghost use Rattle.std.specs.Prelude.{◌≡◌, ◌≢◌, ◌⊎◌, ◌<◌, ℕ, List, [], ◌∷◌};
+ghost use Rattle.pfc_semantics.specs.Values.{Value};
+ghost use Rattle.pfc_semantics.specs.Programs.{Program};
+ghost use Rattle.pfc_semantics.specs.Processes.{process_block};
+ghost use Rattle.pfc_semantics.specs.Remainders.{Context, Open, Remainder};
+ghost use Rattle.pfc_semantics.specs.Configurations.{Activation, Config, activity_of, start};
+ghost use Rattle.pfc_semantics.specs.Events.{step};
+ghost use Rattle.pfc_semantics.specs.Time.{settled_config};
+ghost use Rattle.pfc_accept_laws.specs.Displays.{first_display, AllGoBack, RequeuesInside};
+ghost use Rattle.pfc_accept_laws.specs.Shown.{ShowsOpen, IsToOffer, ShowsArguments, IsToAsk, AllPass, Passes};
+
+/// From the start on, while it settles, and behind each step of a process that has living activations, displays go back to those with which processes began. A
+/// process that is in its first activation has that one.
+pub fn first_displays_come_back()
+    ensures start { (g : Program) (input : List ℕ) (seed : ℕ) → AllGoBack g (start g input seed) }
+    ensures settles { (g : Program) (c : Config) → AllGoBack g c → AllGoBack g (settled_config c) }
+    ensures steps { (g : Program) (c : Config) (p choice : ℕ) → AllGoBack g c → (activity_of g c p).activations ≢ [] → RequeuesInside g c p
+        → AllGoBack g (step g c p choice).config }
+    ensures first { (g : Program) (c : Config) (q : ℕ) (a : Activation) → AllGoBack g c → 0 < q → (activity_of g c q).activations ≡ a ∷ []
+        → (activity_of g c q).display ≡ first_display g a.number (process_block g q) }
+{}
+
+/// Alternatives that a process shows behind a step it showed before, or it has just gone to offer them, in this step. While it settles nobody begins to show any,
+/// and nobody shows any at the start.
+pub fn hands_show_what_was_offered()
+    ensures start { (g : Program) (input : List ℕ) (seed q : ℕ) (x : Context) (os : List Open) (k : Remainder)
+        → ShowsOpen g (start g input seed) q x os k → ⊥ }
+    ensures settles { (g : Program) (c : Config) (q : ℕ) (x : Context) (os : List Open) (k : Remainder) → ShowsOpen g (settled_config c) q x os k
+        → ShowsOpen g c q x os k }
+    ensures steps { (g : Program) (c : Config) (p choice q : ℕ) (x : Context) (os : List Open) (k : Remainder)
+        → ShowsOpen g (step g c p choice).config q x os k → ShowsOpen g c q x os k ⊎ ((q ≡ p) × IsToOffer g c p x os k) }
+{}
+
+/// Arguments that a process shows while it waits for an entry it showed before, waiting for it already, or it has just called the entry with them, in this step.
+/// While it settles nobody begins to show any, and nobody shows any at the start.
+pub fn hands_show_what_was_asked()
+    ensures start { (g : Program) (input : List ℕ) (seed q owner entry ticket : ℕ) (values : List Value)
+        → ShowsArguments g (start g input seed) q owner entry ticket values → ⊥ }
+    ensures settles { (g : Program) (c : Config) (q owner entry ticket : ℕ) (values : List Value)
+        → ShowsArguments g (settled_config c) q owner entry ticket values → ShowsArguments g c q owner entry ticket values }
+    ensures steps { (g : Program) (c : Config) (p choice q owner entry ticket : ℕ) (values : List Value)
+        → ShowsArguments g (step g c p choice).config q owner entry ticket values
+        → ShowsArguments g c q owner entry ticket values ⊎ ((q ≡ p) × IsToAsk g c p owner entry values) }
+{}
+
+/// So what callers that wait for an entry pass by reference is a location, where that is so of each call when it is made.
+pub fn callers_pass_locations()
+    ensures start { (g : Program) (input : List ℕ) (seed : ℕ) → AllPass g (start g input seed) }
+    ensures settles { (g : Program) (c : Config) → AllPass g c → AllPass g (settled_config c) }
+    ensures steps { (g : Program) (c : Config) (p choice : ℕ) → AllPass g c → Passes g c p → AllPass g (step g c p choice).config }
+{}

@@ -55,7 +55,7 @@ module _ (lo hi : ℕ) where
         let same : lo ≡ next = is.0 in
         let end : hi ≡ next + module_scopes (the_module x exports ps b last p) = is.1 in
         let own : Sees (level next 0 ∷ level 0 n ∷ []) lo =
-            subst (λ (j : ℕ). Sees (level next 0 ∷ level 0 n ∷ []) j) (sym same) (sees_own (level next 0) (level 0 n ∷ [])) in
+        subst (λ (j : ℕ). Sees (level next 0 ∷ level 0 n ∷ []) j) (sym same) (sees_own (level next 0) (level 0 n ∷ [])) in
         parts_in lo hi some s false next 0 (level 0 n ∷ []) (next + 1) ps own (omega (arith, same)) (omega (arith, end)) (omega (arith, same))
         (omega (arith, end)) lawful.1.1
     itself n next (consts items) is lawful = absurd is

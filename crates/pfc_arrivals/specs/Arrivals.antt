@@ -7,6 +7,7 @@ use Rattle.pfc_world.specs.Tables.{at}
 use Rattle.pfc_world.specs.Transitions.{begun}
 use Rattle.pfc_sched.specs.Picks.{Picking}
 use Rattle.pfc_semantics.specs.Configurations.{Config}
+use Rattle.pfc_semantics.specs.Remainders.{Action}
 use Rattle.pfc_semantics.specs.Programs.{program_of}
 use Rattle.pfc_semantics.specs.Events.{step}
 use Rattle.pfc_semantics.specs.Selects.{choices}
@@ -20,21 +21,23 @@ use Rattle.pfc_machine_acts.specs.Performing.{acts_by, choices_for}
 use Rattle.pfc_machine_acts.specs.Quietly.{quietly}
 use Rattle.pfc_machine_acts.specs.Running.{QuietRun}
 use Rattle.pfc_object_laws.specs.Objects.{number_at}
+use Rattle.pfc_run_rules.specs.Rules.{KeepsToRules}
 use Rattle.pfc_representation.specs.Levels.{Facts, program_in, LivingLevel}
 use Rattle.pfc_representation.specs.Machines.{Agrees}
 use Rattle.pfc_representation.specs.Acting.{IsActing, TakesNumber, HasArrived}
-use Rattle.pfc_representation.specs.Actions.{ComeToSame}
+use Rattle.pfc_representation.specs.Actions.{IsChoice, ComeToSame, IsKept}
 
 -- the process acts
 abbrev pub begins : ℕ → Machine → Machine
 begins p m = record m { world = begun m.world p }
 
--- Process p is ready and may be picked. What its next action takes as a count or as a rank has 32 bits.
+-- Process p is ready and may be picked, in a run that keeps to the rules. What its next action takes as a count or as a rank has 32 bits.
 pub record IsAboutToAct (facts : Facts) (m : Machine) (c : Config) (p : ℕ) : Type 0 where
   pub process : p < length c.activities
   pub ready : at c.table.rows p ≡ Is_ready
   pub few : c.table.done < 10 ^ 18
   pub number : TakesNumber (next_of (program_in facts) c p)
+  pub rules : KeepsToRules (program_in facts) c p
 
 -- Quiet instructions of process p, no more than the code has, lead to the action that comes next in the source text.
 pub record ComesToAction (facts : Facts) (m : Machine) (c : Config) (p : ℕ) : Type 0 where
@@ -74,3 +77,11 @@ AreNumbered facts = facts.number ≡ number_at (image_of facts.tree).objects
 -- so it is told where a process is at this level
 abbrev pub IsNumbered : LivingLevel → Type 0
 IsNumbered level = (t : ProgramTree) → level.setting.program ≡ program_of t → level.setting.number ≡ number_at (image_of t).objects
+
+-- ## All actions
+
+-- Every action is kept, wherever a run keeps to the rules, of a program whose objects are numbered so.
+abbrev pub AreAllKept : Type 0
+AreAllKept =
+    (facts : Facts) (m : Machine) (c : Config) (p choice : ℕ) (level : LivingLevel) (n : Action) → IsNumbered level → KeepsToRules (program_in facts) c p
+    → IsActing facts m c p level → HasArrived facts m c p level n → IsChoice choice (choices (program_in facts) c p n) → IsKept facts m c p choice n

@@ -10,8 +10,7 @@ ghost use Rattle.pfc_machine_acts.specs.Acting.{IsActed, choice_among};
 ghost use Rattle.pfc_machine_acts.specs.Performing.{choices_for};
 ghost use Rattle.pfc_representation.specs.Levels.{Facts};
 ghost use Rattle.pfc_representation.specs.Machines.{Represents};
-ghost use Rattle.pfc_representation.specs.Actions.{AreKept};
-ghost use Rattle.pfc_arrivals.specs.Arrivals.{IsAboutToAct, ComesToAction, ActsAsItsSource, HasAgreed, AreNumbered, IsNumbered};
+ghost use Rattle.pfc_arrivals.specs.Arrivals.{IsAboutToAct, ComesToAction, ActsAsItsSource, HasAgreed, AreNumbered, AreAllKept};
 
 /// Where the machine represents a configuration, the code of a process that is ready goes by quiet instructions to the action that comes next in its source
 /// text.
@@ -23,7 +22,7 @@ pub fn code_comes_to_actions()
 /// source text.
 pub fn who_is_picked_may_act()
     ensures { (facts : Facts) (m : Machine) (c : Config) (p : ℕ) (picking : Picking)
-        → AreKept (λ level n. IsNumbered level) → AreNumbered facts → Represents facts m c → IsAboutToAct facts m c p
+        → AreAllKept → AreNumbered facts → Represents facts m c → IsAboutToAct facts m c p
         → ActsAsItsSource facts m c p picking }
 {}
 

@@ -51,7 +51,7 @@ use Rattle.pfc_standing_code.specs.Settings.{Setting, of_own, site_of, IsAt, Sta
 use Rattle.pfc_standing_code.specs.Effects.{Arm, of_own_effect, numbered, CanPerform}
 use Rattle.pfc_standing_code.specs.ValueTypes.{IsValueType}
 use Rattle.pfc_standing_code.proofs.ValueTypes.{awaited_value}
-use Rattle.pfc_standing_code.specs.Typed.{unlined, IsDeclared, IsArray, IsField, IsSub, Either, IsPassed, IsFunction, IsUse, HasShape, HasShapeSimple, AreSummands, HasShapeTerm, AreMultipliers, HasShapeFactor, IsGivenFirst, IsLentFirst, IsGiven, IsLent, IsVariable, AreArguments, AreSelectors, AreIndices}
+use Rattle.pfc_standing_code.specs.Typed.{unlined, IsDeclared, IsArray, IsField, InExpressions, IsSub, Either, IsPassed, IsFunction, IsUse, HasShape, HasShapeSimple, AreSummands, HasShapeTerm, AreMultipliers, HasShapeFactor, IsGivenFirst, IsLentFirst, IsGiven, IsLent, IsVariable, AreArguments, AreSelectors, AreIndices}
 use Rattle.pfc_standing_code.specs.Words.{first_word, IsWord, IsPart, IsObject, IsChecked, AreHeld, none_held, one_more}
 use Rattle.pfc_standing_code.specs.Awaits.{has_argument, is_asked, finishing, TakesValue, TakesLocation, CallsAt}
 use Rattle.pfc_standing_code.specs.Following.{Follows, arrives}
@@ -405,7 +405,7 @@ module _ (g : Setting) (b : Block) (names : List Level) (around : Around) (check
   -- the call of a function, behind its arguments
   called_follows :
       (head : SubHead) (args : Code) (h : Shape) (from : List Argument → Call → Action)
-      → h ≡ a_number → IsSub s head 1 → g.trial ≡ of_own → IsSized args
+      → h ≡ a_number → IsSub s head 1 InExpressions → g.trial ≡ of_own → IsSized args
       → ((at n held : ℕ) → held_after g.program held (args.put at n) ≡ formals_cells forms head.formals + held) → Passes args head.formals from
       → Evaluates (args ⨾ one s (call_instr s head)) h (λ u go. from [] (to_function head.scope u))
   called_follows sub args h from e is own sized held passes u go at n to ops st ends waits on =

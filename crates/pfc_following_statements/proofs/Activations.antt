@@ -256,7 +256,7 @@ module _ (g : Setting) (b : Block) (names : List Level) (around : Around) (check
   single_runs found q None args k go is = λ at n to ops st ends rest on. activation_follows q (spot found) no_selectors args k at n to ops is st ends rest
   single_runs found q (Some y) args k go is = entry_runs q (name_in_process (blocks_of s) q y.0) (spot found) no_selectors args k go is
 
-  exported_runs : (q : ℕ) (m : Option Meaning) (args : ActualTrees) (k : Remainder) (go : Action) → IsExported s m args → Runs (exported_code s q m args) k go (from_exported x q m args k go)
+  exported_runs : (q : ℕ) (m : Option Meaning) (args : ActualTrees) (k : Remainder) (go : Action) → IsExported s q m args → Runs (exported_code s q m args) k go (from_exported x q m args k go)
   exported_runs q (Some (Sub j)) args k go is =
       λ at n to ops st ends rest on. exported_follows g b names around checked few own line q j args k at n to ops is st ends rest
   exported_runs q None args k go is = absurd is

@@ -165,7 +165,7 @@ module _ (s : Site) (sound : IsSound (forms_of s)) where
   enter_leaves true m k = refl
   enter_leaves false m k = refl
 
-  exported_changes : (n : ℕ) (m : Option Meaning) (args : ActualTrees) → IsExported s m args → Changes s.program (exported_code s n m args) 0 0
+  exported_changes : (n : ℕ) (m : Option Meaning) (args : ActualTrees) → IsExported s n m args → Changes s.program (exported_code s n m args) 0 0
   exported_changes n (Some (Sub k)) args is =
       let sub = sub_at (blocks_of s) k in
       let r = (module_at (blocks_of s) n).resource in

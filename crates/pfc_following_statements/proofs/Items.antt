@@ -23,7 +23,7 @@ use Rattle.pfc_translation.specs.Expressions.{expr_code, desig_code, args_code, 
 use Rattle.pfc_translation.specs.Calls.{write_instr, read_instr, plain_item, wide_item, item_code, writes_code, input_code, reads_code, formals_cells, enter_instr, resource_of, sub_code}
 use Rattle.pfc_standing_code.specs.Shapes.{a_number}
 use Rattle.pfc_standing_code.specs.Settings.{Setting, of_own, AreOver, site_of, IsAt, Stands, arrived}
-use Rattle.pfc_standing_code.specs.Typed.{HasShape}
+use Rattle.pfc_standing_code.specs.Typed.{ByName, FromOutside, ByRequeue, HasShape}
 use Rattle.pfc_standing_code.specs.TypedStatements.{IsItem, IsWritten, AreWritten, IsRead, AreRead, IsSubCall}
 use Rattle.pfc_standing_code.specs.Words.{IsChecked, none_held}
 use Rattle.pfc_standing_code.specs.Performs.{Performs}
@@ -188,7 +188,7 @@ module _ (g : Setting) (b : Block) (names : List Level) (around : Around) (check
   -- of a procedure of the program, or of the own module
   pub sub_follows :
       (q : ℕ) (args : ActualTrees) (k : Remainder) (at n to : ℕ) (ops : List ℤ)
-      → IsSubCall s q args → Stands g at n (length ops) (sub_code s q args) → at + (sub_code s q args).size ≡ to → Performs g b x.env to ops [] k
+      → IsSubCall s ByName q args → Stands g at n (length ops) (sub_code s q args) → at + (sub_code s q args).size ≡ to → Performs g b x.env to ops [] k
       → Follows g (from_args x (sub_at g.program.state.blocks q).formals args [] (to_procedure (sub_at g.program.state.blocks q).scope k)) at ops []
   sub_follows q args k at n to ops is st ends rest =
       let sub = sub_at g.program.state.blocks q in
@@ -204,7 +204,7 @@ module _ (g : Setting) (b : Block) (names : List Level) (around : Around) (check
       (m q : ℕ) (args : ActualTrees) (k : Remainder) (at n to : ℕ) (ops : List ℤ)
       → (let sub = sub_at g.program.state.blocks q in
       let code = args_code s sub.formals args ⨾ one s (enter_instr (module_at g.program.state.blocks m).resource (module_number g.program.state.blocks m) (block_number g.program sub.scope)) in
-      IsSubCall s q args → Stands g at n (length ops) code → at + code.size ≡ to → Performs g b x.env to ops [] k
+      IsSubCall s (FromOutside g.program.state.blocks m) q args → Stands g at n (length ops) code → at + code.size ≡ to → Performs g b x.env to ops [] k
       → Follows g (from_args x sub.formals args [] (to_module m sub.scope k)) at ops [])
   exported_follows m q args k at n to ops is st ends rest =
       let sub = sub_at g.program.state.blocks q in
@@ -219,7 +219,7 @@ module _ (g : Setting) (b : Block) (names : List Level) (around : Around) (check
       (q : ℕ) (args : ActualTrees) (at n : ℕ) (ops : List ℤ)
       → (let sub = sub_at g.program.state.blocks q in
       let code = args_code s sub.formals args ⨾ one s (REQ (resource_of s) (block_number g.program sub.scope)) in
-      IsSubCall s q args → AreOver g ops → Stands g at n (length ops) code → Follows g (from_args x sub.formals args [] (to_requeue sub.scope)) at ops [])
+      IsSubCall s (ByRequeue b) q args → AreOver g ops → Stands g at n (length ops) code → Follows g (from_args x sub.formals args [] (to_requeue sub.scope)) at ops [])
   requeue_follows q args at n ops is over st =
       let sub = sub_at g.program.state.blocks q in
       let code = args_code s sub.formals args in

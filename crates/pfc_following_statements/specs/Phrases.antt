@@ -19,6 +19,7 @@ use Rattle.pfc_translation.specs.Calls.{writes_code, reads_code, procedure_code,
 use Rattle.pfc_translation.specs.Selects.{send_code, receive_code}
 use Rattle.pfc_translation.specs.Statements.{assign_code}
 use Rattle.pfc_standing_code.specs.Settings.{Setting, of_own, AreOver, site_of, Stands}
+use Rattle.pfc_standing_code.specs.Typed.{ByName, FromOutside, ByRequeue}
 use Rattle.pfc_standing_code.specs.TypedStatements.{IsAssignment, IsSend, IsReceive, AreWritten, AreRead, IsProcedure, IsSubCall, IsActivation, IsEntryCall, IsCall}
 use Rattle.pfc_standing_code.specs.Words.{IsChecked}
 use Rattle.pfc_standing_code.specs.Performs.{Performs}
@@ -63,18 +64,19 @@ ReadFollows g b x =
 abbrev pub CallFollows : Setting → Block → Context → Type 0
 CallFollows g b x =
     IsChecked g b x.env → g.trial ≡ of_own → (q : ℕ) (v : TypedSpot) (ss : SelectorTrees) (args : ActualTrees) (k : Remainder) (go : Action)
-    → IsSubCall (site_of g b x) q args
+    → IsSubCall (site_of g b x) ByName q args
     → CodeFollows g b x (sub_code (site_of g b x) q args) k (from_called x (Some (Sub q)) v ss args k go)
 
 -- the call of an exported procedure from outside its monitor or resource
 abbrev pub ModuleCallFollows : Setting → Block → Context → Type 0
 ModuleCallFollows g b x =
-    IsChecked g b x.env → g.trial ≡ of_own → (m q : ℕ) (args : ActualTrees) (k : Remainder) (go : Action) → IsSubCall (site_of g b x) q args
+    IsChecked g b x.env → g.trial ≡ of_own → (m q : ℕ) (args : ActualTrees) (k : Remainder) (go : Action)
+    → IsSubCall (site_of g b x) (FromOutside g.program.state.blocks m) q args
     → CodeFollows g b x (exported_code (site_of g b x) m (Some (Sub q)) args) k (from_exported x m (Some (Sub q)) args k go)
 
 abbrev pub RequeueFollows : Setting → Block → Context → Type 0
 RequeueFollows g b x =
-    IsChecked g b x.env → g.trial ≡ of_own → (q : ℕ) (args : ActualTrees) (go : Action) → IsSubCall (site_of g b x) q args
+    IsChecked g b x.env → g.trial ≡ of_own → (q : ℕ) (args : ActualTrees) (go : Action) → IsSubCall (site_of g b x) (ByRequeue b) q args
     → (at i : ℕ) (ops : List ℤ) → AreOver g ops → Stands g at i (length ops) (requeue_code (site_of g b x) (Some (Sub q)) args)
     → Follows g (from_requeue x (Some (Sub q)) args go) at ops []
 

@@ -1,7 +1,7 @@
 -- An activation begins: both sides agree behind the action that begins it, counted.
-use Rattle.std.proofs.Common.{◌≡◌, ◌≢◌, ℕ, ◌+◌, ◌^◌, ◌<◌, ◌≤◌, ℤ, true, false, List, ◌∷◌, length, set, slice_get, get_or, Option, Some, None, refl, sym, ap}
+use Rattle.std.proofs.Common.{◌≡◌, ◌≢◌, ℕ, ◌+◌, ◌^◌, ◌<◌, ◌≤◌, ℤ, true, false, List, ◌∷◌, length, slice_get, Option, Some, None, refl, sym, ap}
 use Rattle.std.proofs.Common.{◌∙◌, subst, arith, ◌⊎◌, inl, inr}
-use Rattle.std.proofs.lemmas.List.{get_or-set_same, get_or-set_other, length-set}
+use Rattle.std.proofs.lemmas.List.{length-set}
 use Rattle.pfc_types.specs.declared.types.TypeId.{TypeId}
 use Rattle.pfc_monitor.specs.declared.monitors.Monitors.{Monitors}
 use Rattle.pfc_state.specs.Stands.{is_unfinished, ticket_of, due_of}
@@ -12,16 +12,16 @@ use Rattle.pfc_semantics.specs.Values.{Location, path_of}
 use Rattle.pfc_semantics.specs.Layouts.{Layout}
 use Rattle.pfc_semantics.specs.Programs.{Block, Program}
 use Rattle.pfc_semantics.specs.Rewriting.{going}
-use Rattle.pfc_semantics.specs.Configurations.{Activity, Config, nobody, activity_of, at_work, done_at}
+use Rattle.pfc_semantics.specs.Configurations.{Activity, Config, activity_of, at_work, done_at}
 use Rattle.pfc_semantics.specs.Calls.{activated}
 use Rattle.pfc_stacks.specs.declared.refs.Ref.{Ref}
-use Rattle.pfc_stacks.specs.Stacks.{Stack, Stacks, no_stack, stack_of}
+use Rattle.pfc_stacks.specs.Stacks.{Stack, Stacks, stack_of}
 use Rattle.pfc_cells.specs.Homes.{Home, Homes, Lies, layout_at}
 use Rattle.pfc_cells.specs.Memory.{Entries}
 use Rattle.pfc_machines.specs.declared.machine.Machine.{Machine}
 use Rattle.pfc_machines.specs.declared.descriptors.Descriptor.{Descriptor}
 use Rattle.pfc_machines.specs.Actions.{at_rest}
-use Rattle.pfc_machines.specs.Descriptors.{descriptor_by, descriptor_of, entered, roomier}
+use Rattle.pfc_machines.specs.Descriptors.{descriptor_of, entered, roomier}
 use Rattle.pfc_machine_acts.specs.Acting.{acted}
 use Rattle.pfc_call_actions.specs.Calls.{activated as machine_activated}
 use Rattle.pfc_standing_code.specs.Shapes.{is_object_type}
@@ -32,7 +32,7 @@ use Rattle.pfc_representation.specs.Callers.{stack_mark, IsWithin}
 use Rattle.pfc_representation.specs.Holding.{Holders, holders_in}
 use Rattle.pfc_representation.specs.Trials.{TrialIs, HasTried}
 use Rattle.pfc_representation.specs.Processes.{IsAtLevel, IsUnderWay, RepresentsProcess}
-use Rattle.pfc_representation.specs.Keeping.{IsSameStack, IsUntouched}
+use Rattle.pfc_representation.specs.Keeping.{IsUntouched}
 use Rattle.pfc_representation.specs.Machines.{machine_table, SharesWords, HoldsStore, IsBetweenActions, AreAlike, Represents}
 use Rattle.pfc_representation.specs.Acting.{IsActing}
 use Rattle.pfc_representation.proofs.Kept.{process_still}
@@ -40,6 +40,8 @@ use Rattle.pfc_representation.proofs.Quiet.{tried_waits}
 use Rattle.pfc_kept_own_actions.proofs.Arrived.{descriptor_there as has_descriptor}
 use Rattle.pfc_kept_object_actions.proofs.Step.{Objects}
 use Rattle.pfc_kept_calls.proofs.Caller.{kinds_still, entries_there, home_here, home_there, either_number}
+use Rattle.pfc_kept_calls.proofs.Lists.{stack_beside, own_activity, other_activity, as_many_activities, lined_descriptors, own_descriptor, other_descriptor}
+use Rattle.pfc_kept_calls.proofs.Lists.{as_many_descriptors}
 use Rattle.pfc_kept_calls.proofs.Inside.{Beginning, IsBegun, table, holders, n, home, homes, mine, entries, store, stack, stacks, display, room, latest}
 use Rattle.pfc_kept_calls.proofs.Inside.{activation, inner_level, like, at_home, lenders_stay, is_stack, new_level, goes_within}
 
@@ -86,23 +88,11 @@ module _ (facts : Facts) (m : Machine) (c : Config) (p : ℕ) (level : LivingLev
 
   -- ## What the others keep
 
-  stack_beside : (q : ℕ) → q ≢ p → IsSameStack (stack_of m.stacks q) (stack_of new_stacks q)
-  stack_beside q apart =
-      let same : stack_of new_stacks q ≡ stack_of m.stacks q = get_or-set_other m.stacks p q new_stack no_stack apart in
-      record {
-        at = ap (λ (x : Stack). x.at) same;
-        base = ap (λ (x : Stack). x.base) same;
-        operands = ap (λ (x : Stack). x.operands) same;
-        room = ap (λ (x : Stack). x.room) same;
-        spare = ap (λ (x : Stack). x.spare) same;
-        looks_from = ap (λ (x : Stack). x.looks_from) same;
-      }
-
   untouched : (q : ℕ) → q ≢ p → IsUntouched facts q acting.homes new_homes acting.entries new_entries c.store new_store m.stacks new_stacks c.table table'
   untouched q apart = record {
     like = λ keeps these. like facts m c p level acting o b keeps;
     lenders = λ r lender. lenders_stay facts m c p level acting o b is.same q r lender;
-    stack = stack_beside q apart;
+    stack = stack_beside m.stacks p new_stack q apart;
     entries_same = entries_there acting.entries p (mine facts m c p level acting o b) q apart;
     row = is.same q apart;
   }
@@ -190,45 +180,25 @@ module _ (facts : Facts) (m : Machine) (c : Config) (p : ℕ) (level : LivingLev
     -- ### All lists
 
     activity_here : activity_of g c' p ≡ a'
-    activity_here =
-        let once : get_or (set c.activities p next_activity) p (nobody g) ≡ next_activity = get_or-set_same c.activities p next_activity
-        (nobody g) acting.actor.process in
-        let size : length (set c.activities p next_activity) ≡ length c.activities = length-set c.activities p next_activity in
-        get_or-set_same (set c.activities p next_activity) p (record (get_or (set c.activities p next_activity) p (nobody g)) { line = line })
-        (nobody g) (subst (λ i. p < i) (sym size) acting.actor.process)
-        ∙ ap (λ (x : Activity). record x { line = line }) once
+    activity_here = own_activity g c.activities p acting.actor.process next_activity line
 
     activity_there : (q : ℕ) → q ≢ p → activity_of g c' q ≡ activity_of g c q
-    activity_there q apart =
-        get_or-set_other (set c.activities p next_activity) p q (record (get_or (set c.activities p next_activity) p (nobody g)) { line = line })
-        (nobody g) apart
-        ∙ get_or-set_other c.activities p q next_activity (nobody g) apart
+    activity_there q apart = other_activity g c.activities p acting.actor.process next_activity line q apart
 
     activity_count : length c'.activities ≡ length c.activities
-    activity_count =
-        length-set (set c.activities p next_activity) p (record (get_or (set c.activities p next_activity) p (nobody g)) { line = line })
-        ∙ length-set c.activities p next_activity
+    activity_count = as_many_activities g c.activities p acting.actor.process next_activity line
 
     abbrev descriptors' : List Descriptor
-    descriptors' = set (set m.descriptors p d1) p (record (get_or (set m.descriptors p d1) p (descriptor_by 0)) { line = line })
+    descriptors' = lined_descriptors m.descriptors p (has_descriptor facts m c p level acting) d1 line
 
     descriptor_here : descriptor_of descriptors' p ≡ d'
-    descriptor_here =
-        let once : get_or (set m.descriptors p d1) p (descriptor_by 0) ≡ d1 = get_or-set_same m.descriptors p d1 (descriptor_by 0)
-        (has_descriptor facts m c p level acting) in
-        let size : length (set m.descriptors p d1) ≡ length m.descriptors = length-set m.descriptors p d1 in
-        get_or-set_same (set m.descriptors p d1) p (record (get_or (set m.descriptors p d1) p (descriptor_by 0)) { line = line }) (descriptor_by 0)
-        (subst (λ i. p < i) (sym size) (has_descriptor facts m c p level acting))
-        ∙ ap (λ (x : Descriptor). record x { line = line }) once
+    descriptor_here = own_descriptor m.descriptors p (has_descriptor facts m c p level acting) d1 line
 
     descriptor_there : (q : ℕ) → q ≢ p → descriptor_of descriptors' q ≡ descriptor_of m.descriptors q
-    descriptor_there q apart =
-        get_or-set_other (set m.descriptors p d1) p q (record (get_or (set m.descriptors p d1) p (descriptor_by 0)) { line = line }) (descriptor_by 0) apart
-        ∙ get_or-set_other m.descriptors p q d1 (descriptor_by 0) apart
+    descriptor_there q apart = other_descriptor m.descriptors p (has_descriptor facts m c p level acting) d1 line q apart
 
     descriptor_count : length descriptors' ≡ length m.descriptors
-    descriptor_count =
-        length-set (set m.descriptors p d1) p (record (get_or (set m.descriptors p d1) p (descriptor_by 0)) { line = line }) ∙ length-set m.descriptors p d1
+    descriptor_count = as_many_descriptors m.descriptors p (has_descriptor facts m c p level acting) d1 line
 
     processes : (q : ℕ) → (q ≡ p) ⊎ (q ≢ p) → q < length c.activities → RepresentsProcess facts new_homes new_entries new_store new_stacks table' holders' q
         (activity_of g c' q) (descriptor_of descriptors' q)

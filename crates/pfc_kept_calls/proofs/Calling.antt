@@ -33,7 +33,7 @@ use Rattle.pfc_standing_code.specs.Settings.{Trial, of_own, site_of, IsBeside, s
 use Rattle.pfc_standing_code.specs.Shapes.{a_number}
 use Rattle.pfc_standing_code.specs.Effects.{Arm}
 use Rattle.pfc_standing_code.specs.Words.{AreHeld, AreKnown, IsChecked}
-use Rattle.pfc_standing_code.specs.Typed.{IsOfSub}
+use Rattle.pfc_standing_code.specs.Typed.{ByName, InExpressions, IsOfSub}
 use Rattle.pfc_standing_code.specs.Performs.{own_block, Performs}
 use Rattle.pfc_standing_code.proofs.Checked.{checked_for}
 use Rattle.pfc_representation.specs.Levels.{Facts, program_in, LivingLevel, block_of}
@@ -118,9 +118,10 @@ ends_with_result head one = by head.sort one
 
 module _ (facts : Facts) (m : Machine) (c : Config) (p choice : ℕ) (level : LivingLevel) (acting : IsActing facts m c p level) (x : Context) (b : Block)
     (scope : ℕ)
-    (formals : List Formal) (given : List Argument) (below : List ℤ) (checked : IsChecked level.setting b x.env) (own : level.setting.trial ≡ of_own)
+    (formals : List Formal) (asked : ℕ → SubSort → Type 0) (given : List Argument) (below : List ℤ) (checked : IsChecked level.setting b x.env)
+    (own : level.setting.trial ≡ of_own)
     (may : MayCall level scope)
-    (sub : IsOfSub (site_of level.setting b x) scope formals) (held : AreHeld level.setting.view (site_of level.setting b x) formals given
+    (sub : IsOfSub (site_of level.setting b x) scope formals asked) (held : AreHeld level.setting.view (site_of level.setting b x) formals given
     (operands_of m.stacks p) below)
     (there : IsAt level.setting (stack_of m.stacks p).at (CALL (block_number level.setting.program scope) (links_to (site_of level.setting b x)
     (block_at level.setting.program scope).outer)) x.line)
@@ -143,11 +144,11 @@ module _ (facts : Facts) (m : Machine) (c : Config) (p choice : ℕ) (level : Li
   pub can : IsCallable facts.tree b callee k l formals
   can = callable_by level.setting.program same sub
     where
-      callable_by : (q : Program) → q ≡ g0 → IsOfSub (record (site_of level.setting b x) { program = q }) scope formals
+      callable_by : (q : Program) → q ≡ g0 → IsOfSub (record (site_of level.setting b x) { program = q }) scope formals asked
           → IsCallable facts.tree b callee k l formals
       callable_by q is of_sub =
-          let of : IsOfSub (record (site_of level.setting b x) { program = g0 }) scope formals = subst (λ (z : Program). IsOfSub (record
-          (site_of level.setting b x) { program = z }) scope formals) is of_sub in
+          let of : IsOfSub (record (site_of level.setting b x) { program = g0 }) scope formals asked = subst (λ (z : Program). IsOfSub (record
+          (site_of level.setting b x) { program = z }) scope formals asked) is of_sub in
           subst (λ (fs : List Formal). IsCallable facts.tree b callee k l fs) (sym of.own_formals)
           (may.callable facts.tree b of.number same acting.alike.program checked.beside of.among of.own_scope)
 
@@ -203,13 +204,13 @@ module _ (facts : Facts) (m : Machine) (c : Config) (p choice : ℕ) (level : Li
 pub procedures_kept : AreKept CallsProcedure
 procedures_kept facts m c p choice level (calls x (to_procedure scope k) given) may acting arrived chosen =
     let (b, checked, (formals, below, held, (alone, (sub, takes, leaves, there, behind)))) = arrived.arrived in
-    kept_by facts m c p choice level acting x b scope formals given below checked alone.0 may sub held there arrived.within (of_remainder x.env k) RET
+    kept_by facts m c p choice level acting x b scope formals ByName given below checked alone.0 may sub held there arrived.within (of_remainder x.env k) RET
     (calls x (to_procedure scope k) given)
-    (ends_by (can facts m c p choice level acting x b scope formals given below checked alone.0 may sub held there arrived.within).head
-    (left_behind facts m c p choice level acting x b scope formals given below checked alone.0 may sub held there arrived.within 0 leaves))
+    (ends_by (can facts m c p choice level acting x b scope formals ByName given below checked alone.0 may sub held there arrived.within).head
+    (left_behind facts m c p choice level acting x b scope formals ByName given below checked alone.0 may sub held there arrived.within 0 leaves))
     refl (
       shorter (length below) (length (operands_of m.stacks p)) level.setting.room
-          (is_short facts m c p choice level acting x b scope formals given below checked alone.0 may sub held there arrived.within) arrived.room,
+          (is_short facts m c p choice level acting x b scope formals ByName given below checked alone.0 may sub held there arrived.within) arrived.room,
       arrived.arms,
       b,
       checked.beside,
@@ -229,10 +230,10 @@ procedures_kept facts m c p choice level n may acting arrived chosen = absurd ma
 pub functions_kept : AreKept CallsFunction
 functions_kept facts m c p choice level (calls x (to_function scope u) given) may acting arrived chosen =
     let (b, checked, (formals, below, held, (own, (sub, takes, leaves, there, room, awaited)))) = arrived.arrived in
-    kept_by facts m c p choice level acting x b scope formals given below checked own may sub held there arrived.within (of_value x u) RETF (calls x
+    kept_by facts m c p choice level acting x b scope formals InExpressions given below checked own may sub held there arrived.within (of_value x u) RETF (calls x
     (to_function scope u) given)
-    (ends_with_result (can facts m c p choice level acting x b scope formals given below checked own may sub held there arrived.within).head
-    (left_behind facts m c p choice level acting x b scope formals given below checked own may sub held there arrived.within 1 leaves))
+    (ends_with_result (can facts m c p choice level acting x b scope formals InExpressions given below checked own may sub held there arrived.within).head
+    (left_behind facts m c p choice level acting x b scope formals InExpressions given below checked own may sub held there arrived.within 1 leaves))
     refl
     (λ n. (room, arrived.arms, b, checked.beside, (a_number, below, checked, (n, refl), refl, awaited)))
     refl refl refl

@@ -2,6 +2,7 @@ pub mod Roomier
 pub mod Tops
 pub mod Beginnings
 pub mod Faults
+pub mod Lists
 pub mod Caller
 pub mod Inside
 pub mod Begun
@@ -13,3 +14,4 @@ pub mod Turned
 pub mod Returned
 pub mod Returning
 pub mod Scanning
+pub mod Callable

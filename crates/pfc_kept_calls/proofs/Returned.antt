@@ -1,7 +1,7 @@
 -- An activation that was called from inside its module ends: its caller goes on.
 use Rattle.std.proofs.Common.{◌≡◌, ◌≢◌, ℕ, suc, ◌+◌, ◌-◌, ◌^◌, ◌<◌, ◌≤◌, ℤ, pos, List, [], ◌∷◌, length, set, get_or, All, Option}
 use Rattle.std.proofs.Common.{Some, None, refl, sym, ap, ◌∙◌, subst, arith, ◌⊎◌, inl, inr}
-use Rattle.std.proofs.lemmas.List.{get_or-set_same, get_or-set_other, length-set}
+use Rattle.std.proofs.lemmas.List.{get_or-set_same, length-set}
 use Rattle.pfc_base.specs.declared.faults.RunFault.TheVariants.{Stack as Full}
 use Rattle.pfc_code.specs.declared.instructions.Instr.TheVariants.{END}
 use Rattle.pfc_state.specs.Stands.{is_unfinished}
@@ -10,7 +10,7 @@ use Rattle.pfc_world.specs.Transitions.{ticked}
 use Rattle.pfc_semantics.specs.Store.{Store, without}
 use Rattle.pfc_semantics.specs.Programs.{Program}
 use Rattle.pfc_semantics.specs.Rewriting.{Doing}
-use Rattle.pfc_semantics.specs.Configurations.{Activation, Activity, Config, nobody, activity_of, with_activity, at_work, done_at}
+use Rattle.pfc_semantics.specs.Configurations.{Activation, Activity, Config, activity_of, with_activity, at_work, done_at}
 use Rattle.pfc_semantics.specs.Calls.{left_by}
 use Rattle.pfc_stacks.specs.Refs.{word_of, number_of}
 use Rattle.pfc_stacks.specs.Stacks.{Stack, Stacks, no_stack, stack_of, own_word, last_activation}
@@ -23,7 +23,7 @@ use Rattle.pfc_machines.specs.declared.descriptors.Descriptor.{Descriptor}
 use Rattle.pfc_machines.specs.declared.descriptors.Scan.{Scan as MachineScan}
 use Rattle.pfc_machines.specs.Actions.{at_rest}
 use Rattle.pfc_machines.specs.Communications.{Communicating}
-use Rattle.pfc_machines.specs.Descriptors.{descriptor_by, descriptor_of, left as one_less}
+use Rattle.pfc_machines.specs.Descriptors.{descriptor_of, left as one_less}
 use Rattle.pfc_machine_acts.specs.Acting.{acted}
 use Rattle.pfc_standing_code.specs.Settings.{Trial, of_own, of_turn, of_another}
 use Rattle.pfc_standing_code.specs.Performs.{own_room}
@@ -37,11 +37,13 @@ use Rattle.pfc_representation.specs.Holding.{Holders, holders_in, HoldsFor, Hold
 use Rattle.pfc_representation.specs.Trials.{TrialIs, HasTried}
 use Rattle.pfc_representation.specs.Processes.{IsAtLevel, IsUnderWay, RepresentsProcess}
 use Rattle.pfc_representation.specs.Machines.{SharesWords, HoldsStore, AreAlike, Represents}
-use Rattle.pfc_representation.specs.Keeping.{IsLender, IsSameStack, IsUntouched}
+use Rattle.pfc_representation.specs.Keeping.{IsLender, IsUntouched}
 use Rattle.pfc_representation.specs.Acting.{IsActing}
 use Rattle.pfc_representation.proofs.Kept.{seen_still, callers_still, process_still}
 use Rattle.pfc_representation.proofs.Quiet.{tried_waits}
 use Rattle.pfc_kept_calls.proofs.Tops.{same_cell}
+use Rattle.pfc_kept_calls.proofs.Lists.{stack_beside, own_activity, other_activity, as_many_activities, own_descriptor, other_descriptor}
+use Rattle.pfc_kept_calls.proofs.Lists.{as_many_descriptors}
 use Rattle.pfc_kept_calls.proofs.Turned.{IsOwnTurn, seen_turned, callers_turned}
 use Rattle.pfc_kept_calls.proofs.Beginnings.{end_within}
 use Rattle.pfc_kept_calls.proofs.Faults.{world_then}
@@ -293,18 +295,6 @@ module _ (facts : Facts) (m : Machine) (c : Config) (p : ℕ) (level : LivingLev
 
       -- ## What the others keep
 
-      stack_there : (q : ℕ) → q ≢ p → IsSameStack (stack_of m.stacks q) (stack_of stacks q)
-      stack_there q apart =
-          let same : stack_of stacks q ≡ stack_of m.stacks q = get_or-set_other m.stacks p q stack no_stack apart in
-          record {
-            at = ap (λ (x : Stack). x.at) same;
-            base = ap (λ (x : Stack). x.base) same;
-            operands = ap (λ (x : Stack). x.operands) same;
-            room = ap (λ (x : Stack). x.room) same;
-            spare = ap (λ (x : Stack). x.spare) same;
-            looks_from = ap (λ (x : Stack). x.looks_from) same;
-          }
-
       untouched : (q : ℕ) → q ≢ p → IsUntouched facts q acting.homes acting.homes acting.entries entries c.store store m.stacks stacks c.table
           (ticked c.table)
       untouched q apart = record {
@@ -314,7 +304,7 @@ module _ (facts : Facts) (m : Machine) (c : Config) (p : ℕ) (level : LivingLev
             home home_at q apart)
             (λ r lender. lender_apart c.table p q r acting.actor.ready lender) keeps these;
         lenders = λ r lender. lenders_stay q r lender;
-        stack = stack_there q apart;
+        stack = stack_beside m.stacks p stack q apart;
         entries_same = entries_there acting.entries p rest q apart;
         row = refl;
       }
@@ -390,9 +380,9 @@ module _ (facts : Facts) (m : Machine) (c : Config) (p : ℕ) (level : LivingLev
             trial_again : (t : Trial) → IsOwnTurn t → TrialIs t facts acting.homes entries store stacks (ticked c.table) p (now trial)
                 (has.next ∷ has.rest) d2
                 → TrialIs t facts acting.homes entries store stacks (ticked c.table) p (now trial) a'.activations d'
-            trial_again of_own own is = is
-            trial_again (of_turn scan at) own is = is
-            trial_again (of_another attempt) own is = absurd own
+            trial_again of_own _ is = is
+            trial_again (of_turn scan at) _ is = is
+            trial_again (of_another attempt) none is = absurd none
 
         process_here : RepresentsProcess facts acting.homes entries store stacks (ticked c.table) h p a' d'
         process_here = record { line = refl; spare = ap (λ (x : Stack). x.spare) is_stack ∙ acting.actor.spare; activations = goes_on }
@@ -400,46 +390,25 @@ module _ (facts : Facts) (m : Machine) (c : Config) (p : ℕ) (level : LivingLev
         -- ### All lists
 
         activity_here : activity_of g c' p ≡ a'
-        activity_here =
-            let once : get_or (set c.activities p next_activity) p (nobody g) ≡ next_activity = get_or-set_same c.activities p next_activity
-            (nobody g) acting.actor.process in
-            let size : length (set c.activities p next_activity) ≡ length c.activities = length-set c.activities p next_activity in
-            get_or-set_same (set c.activities p next_activity) p (record (get_or (set c.activities p next_activity) p (nobody g)) { line = line })
-            (nobody g) (subst (λ n. p < n) (sym size) acting.actor.process)
-            ∙ ap (λ (x : Activity). record x { line = line }) once
+        activity_here = own_activity g c.activities p acting.actor.process next_activity line
 
         activity_there : (q : ℕ) → q ≢ p → activity_of g c' q ≡ activity_of g c q
-        activity_there q apart =
-            get_or-set_other (set c.activities p next_activity) p q (record (get_or (set c.activities p next_activity) p (nobody g)) { line = line })
-            (nobody g) apart
-            ∙ get_or-set_other c.activities p q next_activity (nobody g) apart
+        activity_there q apart = other_activity g c.activities p acting.actor.process next_activity line q apart
 
         activity_count : length c'.activities ≡ length c.activities
-        activity_count =
-            length-set (set c.activities p next_activity) p (record (get_or (set c.activities p next_activity) p (nobody g)) { line = line })
-            ∙ length-set c.activities p next_activity
+        activity_count = as_many_activities g c.activities p acting.actor.process next_activity line
 
         descriptor_fits : p < length m.descriptors
         descriptor_fits = subst (λ n. p < n) (sym acting.alike.words.descriptors) acting.actor.process
 
         descriptor_here : descriptor_of m'.descriptors p ≡ d'
-        descriptor_here =
-            let once : get_or (set m.descriptors p d2) p (descriptor_by 0) ≡ d2 = get_or-set_same m.descriptors p d2 (descriptor_by 0) descriptor_fits in
-            let size : length (set m.descriptors p d2) ≡ length m.descriptors = length-set m.descriptors p d2 in
-            get_or-set_same (set m.descriptors p d2) p (record (get_or (set m.descriptors p d2) p (descriptor_by 0)) { line = line }) (descriptor_by 0)
-            (subst (λ n. p < n) (sym size) descriptor_fits)
-            ∙ ap (λ (x : Descriptor). record x { line = line }) once
+        descriptor_here = own_descriptor m.descriptors p descriptor_fits d2 line
 
         descriptor_there : (q : ℕ) → q ≢ p → descriptor_of m'.descriptors q ≡ descriptor_of m.descriptors q
-        descriptor_there q apart =
-            get_or-set_other (set m.descriptors p d2) p q (record (get_or (set m.descriptors p d2) p (descriptor_by 0)) { line = line })
-            (descriptor_by 0) apart
-            ∙ get_or-set_other m.descriptors p q d2 (descriptor_by 0) apart
+        descriptor_there q apart = other_descriptor m.descriptors p descriptor_fits d2 line q apart
 
         descriptor_count : length m'.descriptors ≡ length m.descriptors
-        descriptor_count =
-            length-set (set m.descriptors p d2) p (record (get_or (set m.descriptors p d2) p (descriptor_by 0)) { line = line })
-            ∙ length-set m.descriptors p d2
+        descriptor_count = as_many_descriptors m.descriptors p descriptor_fits d2 line
 
         processes : (q : ℕ) → (q ≡ p) ⊎ (q ≢ p) → q < length c.activities → RepresentsProcess facts acting.homes entries store stacks
             (ticked c.table) h q (activity_of g c' q) (descriptor_of m'.descriptors q)

@@ -1,5 +1,5 @@
 -- The end of a procedure that was called from outside its resource: a scan comes before its caller goes on.
-use Rattle.std.proofs.Common.{◌≡◌, ℕ, zero, suc, ◌+◌, ◌-◌, ◌%◌, ◌^◌, ◌<◌, ℤ, pos, true, false, List, [], ◌∷◌, length, set, slice_get, get_or}
+use Rattle.std.proofs.Common.{◌≡◌, ℕ, ◌+◌, ◌-◌, ◌%◌, ◌^◌, ◌<◌, ℤ, pos, true, false, List, [], ◌∷◌, length, set, slice_get, get_or}
 use Rattle.std.proofs.Common.{Some, None, Ok, refl, sym, ap, ◌∙◌, subst, arith, ◌⊎◌, inl, inr}
 use Rattle.std.specs.Prelude.{◌-ℤ◌, unsigned_abs, All}
 use Rattle.std.specs.Prelude.{int_lt}
@@ -43,6 +43,7 @@ use Rattle.pfc_kept_own_actions.proofs.Arrived.{code_there, code_line, acts_now}
 use Rattle.pfc_kept_calls.specs.Groups.{EndsProcedure}
 use Rattle.pfc_kept_calls.proofs.Beginnings.{scan_within}
 use Rattle.pfc_kept_calls.proofs.Ended.{number_back}
+use Rattle.pfc_kept_calls.proofs.Lists.{set_twice}
 use Rattle.pfc_kept_calls.proofs.Returned.{has, own, mark_there, back_at, is_stack, represents_returned}
 
 -- ## The mark
@@ -62,15 +63,8 @@ size_below n = grind (arith, ints)
 resource_back : (r : ℕ) → r < 2 ^ 32 → mark_in_word (word_of_mark (Resource r)) ≡ Resource r
 resource_back r h = rw (not_above r, below_zero r, size_below r) (ap Resource (less_one r ∙ number_back r h))
 
--- ## Lists
-
-set_twice : {A : Type 0} (xs : List A) (i : ℕ) (x y : A) → set (set xs i x) i y ≡ set xs i y
-set_twice [] i x y = refl
-set_twice (z ∷ xs) zero x y = refl
-set_twice (z ∷ xs) (suc i) x y = ap (λ rest. z ∷ rest) (set_twice xs i x y)
-
 -- who is ready waits for nothing
-ready_holds : (holds : Type 0) (r : ℕ) (stand : Stand) → stand ≡ Is_ready → holds ⊎ (waits_for_resource r stand ≡ true) → holds
+pub ready_holds : (holds : Type 0) (r : ℕ) (stand : Stand) → stand ≡ Is_ready → holds ⊎ (waits_for_resource r stand ≡ true) → holds
 ready_holds holds r stand ready (inl h) = h
 ready_holds holds r stand ready (inr h) = absurd (let both : false ≡ true = ap (λ (s : Stand). waits_for_resource r s) (sym ready) ∙ h in cc)
 

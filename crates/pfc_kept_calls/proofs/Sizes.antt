@@ -88,7 +88,7 @@ module _ (facts : Facts) (m : Machine) (c : Config) (p : ℕ) (level : LivingLev
         (hand facts m c p level acting own b beside) p x (hold facts m c p level acting) refl known
         first_values callee code formals takes given ops below held
 
-    params_within : code.params ≤ code.cells
+    pub params_within : code.params ≤ code.cells
     params_within =
         let whole : code.cells ≡ layout_cells (program_in facts).state.forms takes.parameters + layout_cells
         (program_in facts).state.forms takes.others =

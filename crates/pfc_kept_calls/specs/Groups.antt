@@ -67,3 +67,20 @@ abbrev pub EndsFunction : LivingLevel → Action → Type 0
 EndsFunction level (finishes line) =
     (level.setting.last ≡ RETF) × ((t : ProgramTree) → level.setting.program ≡ program_of t → IsProgram t → HasResult t level.setting.block)
 EndsFunction level n = ⊥
+
+-- ## By the action alone
+
+-- a call of a procedure from inside its module
+abbrev pub IsProcedureCall : LivingLevel → Action → Type 0
+IsProcedureCall level (calls x (to_procedure scope k) given) = Unit {0}
+IsProcedureCall level n = ⊥
+
+-- a call of a function
+abbrev pub IsFunctionCall : LivingLevel → Action → Type 0
+IsFunctionCall level (calls x (to_function scope u) given) = Unit {0}
+IsFunctionCall level n = ⊥
+
+-- the end of a function
+abbrev pub IsFunctionEnd : LivingLevel → Action → Type 0
+IsFunctionEnd level (finishes line) = level.setting.last ≡ RETF
+IsFunctionEnd level n = ⊥

@@ -5,4 +5,7 @@
 
 mod laws;
 
-pub use laws::{calls_are_kept, faults_end_alike, returns_are_kept};
+pub use laws::{
+    calls_are_kept, checked_programs_may_call, faults_end_alike, plain_calls_are_kept,
+    returns_are_kept,
+};

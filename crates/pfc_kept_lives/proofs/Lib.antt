@@ -6,3 +6,7 @@ pub mod Ending
 pub mod Makers
 pub mod Begun
 pub mod Newborn
+pub mod Others
+pub mod Created
+pub mod Numbers
+pub mod Creating

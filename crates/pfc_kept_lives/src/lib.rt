@@ -5,4 +5,4 @@
 
 mod laws;
 
-pub use laws::ends_are_kept;
+pub use laws::{creations_are_kept, ends_are_kept};

@@ -63,7 +63,7 @@ inside_or_not from to k = by (either k from)
         last (inr over) = inr (λ other high. below k to high over)
 
 module _ (g : Program) (sound : AreCounted g.state.forms) (homes : Homes) (entries : Entries) (store store' : Store) (keeps keeps' : ℕ → Bool)
-    (display : Display) (b : Block) (accepts : List ℕ) (w : ℤ) (chain : List ℕ) (view : View) (a : ℕ) (home : Home) (cells : List ℤ) (from to : ℕ) where
+    (display : Display) (b : Block) (accepts : List ℕ) (w : ℤ) (chain : List ℕ) (view : View) (a : ℕ) (home : Home) (cells : List ℤ) (from to : ℕ) (accepts' : List ℕ) where
   abbrev layout : Layout
   layout = b.layout
 
@@ -114,8 +114,10 @@ module _ (g : Program) (sound : AreCounted g.state.forms) (homes : Homes) (entri
     pub others : (x : ℕ) → x ≢ a → values_in store' x ≡ values_in store x
     pub places : (k : ℕ) → (from ≤ k → k < to → ⊥) → get_or values k (ordinal (pos 0)) ≡ get_or (values_in store a) k (ordinal (pos 0))
     pub sized : (k : ℕ) (m : Meaning) → slice_get layout k ≡ Some m → is_laid m ≡ true → 0 < name_cells g.state.forms m
-    pub lent : (k : ℕ) (t : TypeId) → from ≤ k → k < to → slice_get layout k ≡ Some (Variable t true)
-        → (l : Location) × (get_or values k (ordinal (pos 0)) ≡ points l) × (keeps' l.activation ≡ true)
+    pub lent : (v : Spot) (t : TypeId) → is_known g.state.blocks b accepts' v.scope ≡ true → links_to here v.scope ≡ 0
+        → v.variable < variables_of here v.scope
+        → from ≤ place_of here v → place_of here v < to → slice_get layout (place_of here v) ≡ Some (Variable t true)
+        → (l : Location) × (get_or values (place_of here v) (ordinal (pos 0)) ≡ points l) × (keeps' l.activation ≡ true)
     pub near : (j : ℕ) → is_known g.state.blocks b accepts j ≡ true → (links_to here j ≡ 0) ⊎ (links_to here j ≡ 1)
 
   module _ (sees : Sees g homes entries store keeps display b accepts w chain view) (are : AreOther) where
@@ -143,7 +145,7 @@ module _ (g : Program) (sound : AreCounted g.state.forms) (homes : Homes) (entri
     first_is [] x head there = absurd (let no : None ≡ Some x = there in cc)
     first_is (y ∷ xs) x head there = sym (some_same y x there) ∙ head y xs refl
 
-    own_is : (x : ℕ) → slice_get chain 0 ≡ Some x → x ≡ a
+    pub own_is : (x : ℕ) → slice_get chain 0 ≡ Some x → x ≡ a
     own_is x there = first_is chain x are.head there
 
     main_is_other : (x : ℕ) → slice_get chain 1 ≡ Some x → x ≢ a
@@ -330,19 +332,21 @@ module _ (g : Program) (sound : AreCounted g.state.forms) (homes : Homes) (entri
             let one = lends its.0 (laid ∙ ap Some its.1) in
             refers_there g.state.forms layout values (place_of here v) meaning laid reference (ap is_pointer one.1)
 
-    new_named : (v : Spot) (meaning : Meaning) → IsNewScope v.scope → v.variable < variables_of here v.scope
+    new_named : (v : Spot) (meaning : Meaning) → is_known g.state.blocks b accepts' v.scope ≡ true → IsNewScope v.scope
+        → v.variable < variables_of here v.scope
         → slice_get (layout_with here v.scope) (place_of here v) ≡ Some meaning → is_laid meaning ≡ true
         → IsNamed g homes store' keeps' display b chain' view' v meaning
-    new_named v meaning new own there variable_laid =
+    new_named v meaning known new own there variable_laid =
         let laid : slice_get layout (place_of here v) ≡ Some meaning = ap (λ (x : Layout). slice_get x (place_of here v)) (sym new.laid) ∙ there in
         let low = new.low v refl own in
         let high = new.high v refl own in
         in_cells v meaning (ap (λ (f : Frame). f.activation) new.frame) (ap (λ (f : Frame). f.first + v.variable) new.frame) new.links new.laid laid
         (range_has g.state.forms layout from to (place_of here v) meaning laid (are.sized (place_of here v) meaning laid variable_laid) low high)
-        (λ t is. are.lent (place_of here v) t low high is)
+        (λ t is. are.lent v t known new.links own low high is)
 
     module _ (v : Spot) (meaning : Meaning) (old : IsNamed g homes store keeps display b chain view v meaning)
-        (there : slice_get (layout_with here v.scope) (place_of here v) ≡ Some meaning) (variable_laid : is_laid meaning ≡ true) where
+        (there : slice_get (layout_with here v.scope) (place_of here v) ≡ Some meaning) (variable_laid : is_laid meaning ≡ true)
+        (known : is_known g.state.blocks b accepts' v.scope ≡ true) (own : v.variable < variables_of here v.scope) where
       -- in main's activation
       outer_named : links_to here v.scope ≡ 1 → IsNamed g homes store' keeps' display b chain' view' v meaning
       outer_named links =
@@ -369,22 +373,22 @@ module _ (g : Program) (sound : AreCounted g.state.forms) (homes : Homes) (entri
           }
 
       module _ (links : links_to here v.scope ≡ 0) where
-        is_own : (frame_of display v.scope).activation ≡ a
+        pub is_own : (frame_of display v.scope).activation ≡ a
         is_own = own_is (frame_of display v.scope).activation (ap (λ n. slice_get chain n) (sym links) ∙ old.linked)
 
         its_home : old.home ≡ home
         its_home = some_same old.home home (sym old.at ∙ ap homes is_own ∙ are.at)
 
-        its_layout : layout_with here v.scope ≡ layout
+        pub its_layout : layout_with here v.scope ≡ layout
         its_layout = sym old.layout ∙ ap (λ (y : Home). layout_at g y) its_home ∙ are.is_layout
 
         abbrev k : ℕ
         k = place_of here v
 
-        laid : slice_get layout k ≡ Some meaning
+        pub laid : slice_get layout k ≡ Some meaning
         laid = ap (λ (x : Layout). slice_get x k) (sym its_layout) ∙ there
 
-        cell : cell_of here v ≡ cells_before g.state.forms layout k
+        pub cell : cell_of here v ≡ cells_before g.state.forms layout k
         cell = ap (λ (x : Layout). layout_cells g.state.forms (take k x)) its_layout
 
         holds_so : get_or (values_in store (frame_of display v.scope).activation) ((frame_of display v.scope).first + v.variable) (ordinal (pos 0))
@@ -397,7 +401,7 @@ module _ (g : Program) (sound : AreCounted g.state.forms) (homes : Homes) (entri
           where
             by : ((from ≤ k) × (k < to)) ⊎ (from ≤ k → k < to → ⊥)
                 → (l : Location) × (get_or values k (ordinal (pos 0)) ≡ points l) × (keeps' l.activation ≡ true)
-            by (inl within) = are.lent k t within.0 within.1 is
+            by (inl within) = are.lent v t known links own within.0 within.1 is
             by (inr out) =
                 let one = old.target t (some_same meaning (Variable t true) (sym laid ∙ is)) in
                 (one.0, are.places k out ∙ sym holds_so ∙ one.2, are.kept one.0.activation one.3)
@@ -445,22 +449,21 @@ module _ (g : Program) (sound : AreCounted g.state.forms) (homes : Homes) (entri
       known_named (inl links) = own_named links (ranged (cells_before g.state.forms layout (place_of here v))) refl
       known_named (inr links) = outer_named links
 
-    pub sees_anew : (accepts' : List ℕ)
-        → ((j : ℕ) → is_known g.state.blocks b accepts' j ≡ true → (is_known g.state.blocks b accepts j ≡ true) ⊎ IsNewScope j)
+    pub sees_anew : ((j : ℕ) → is_known g.state.blocks b accepts' j ≡ true → (is_known g.state.blocks b accepts j ≡ true) ⊎ IsNewScope j)
         → Sees g homes entries store' keeps' display b accepts' w chain' view'
-    sees_anew accepts' more =
+    sees_anew more =
         record {
           live = are.live;
           links = links_of chain are.head sees.links;
           firsts = first_then;
           cells = cell_then;
           references = reference_then;
-          names = λ v meaning known own there laid. named v meaning own there laid (more v.scope known);
+          names = λ v meaning known own there laid. named v meaning known own there laid (more v.scope known);
         }
       where
-        named : (v : Spot) (meaning : Meaning) → v.variable < variables_of here v.scope
+        named : (v : Spot) (meaning : Meaning) → is_known g.state.blocks b accepts' v.scope ≡ true → v.variable < variables_of here v.scope
             → slice_get (layout_with here v.scope) (place_of here v) ≡ Some meaning → is_laid meaning ≡ true
             → (is_known g.state.blocks b accepts v.scope ≡ true) ⊎ IsNewScope v.scope → IsNamed g homes store' keeps' display b chain' view' v meaning
-        named v meaning own there laid (inl known) =
-            known_named v meaning (sees.names v meaning known own there laid) there laid (are.near v.scope known)
-        named v meaning own there laid (inr new) = new_named v meaning new own there laid
+        named v meaning known own there laid (inl before) =
+            known_named v meaning (sees.names v meaning before own there laid) there laid known own (are.near v.scope before)
+        named v meaning known own there laid (inr new) = new_named v meaning known new own there laid

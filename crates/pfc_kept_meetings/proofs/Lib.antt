@@ -12,4 +12,8 @@ pub mod Accepting
 pub mod Accepts
 pub mod Ranges
 pub mod Anew
+pub mod Alike
 pub mod Owner
+pub mod Known
+pub mod Parameters
+pub mod Told

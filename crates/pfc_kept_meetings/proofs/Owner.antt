@@ -37,7 +37,7 @@ use Rattle.pfc_views.specs.Views.{own_place, first_number, IsLiving, latest, ear
 use Rattle.pfc_views.proofs.Living.{own_of}
 use Rattle.pfc_views.proofs.Links.{ref_back, link_is}
 use Rattle.pfc_call_laws.specs.Around.{HasScopes, IsNested, scopes_around}
-use Rattle.pfc_call_laws.proofs.Displays.{is_same, is_other, linked_not_mains, at_any}
+use Rattle.pfc_call_laws.proofs.Displays.{is_same, same_of, is_other, place_of_scope, no_place, linked_not_mains, at_any}
 use Rattle.pfc_call_laws.proofs.Places.{or_left, or_right}
 use Rattle.pfc_nesting_laws.proofs.Programs.{has_scopes, is_laid as block_laid, nested_in_mains, main_alone, main_has_none}
 use Rattle.pfc_meeting_laws.specs.Meetings.{display_of, StandIn}
@@ -59,6 +59,30 @@ bit_false false h = refl
 
 some_same : {A : Type 0} (x y : A) → Some x ≡ Some y → x ≡ y
 some_same x y h = cc
+
+-- one scope is the first
+only_place : (s j : ℕ) → unwrap_or (position (λ n. n == j) (s ∷ [])) 0 ≡ 0
+only_place s j = by_test (s == j) refl
+  where
+    least : (n : ℕ) → 0 ≤ n
+    least n = grind arith
+
+    by_test : (t : Bool) → (s == j) ≡ t → unwrap_or (position (λ n. n == j) (s ∷ [])) 0 ≡ 0
+    by_test true is = place_of_scope (s ∷ []) 0 j (ap (λ n. Some n) (same_of s j is)) (λ n there. least n)
+    by_test false is = no_place (s ∷ []) j other
+      where
+        other : (k : ℕ) → slice_get (s ∷ []) k ≡ Some j → ⊥
+        other zero there = (let both : true ≡ false = sym (is_same s j (some_same s j there)) ∙ is in (let none : ⊥ = cc in none))
+        other (suc k) there = (let no : None ≡ Some j = there in (let none : ⊥ = cc in none))
+
+not_living : (f : Entry) (es : List Entry) → es ≡ [] → IsLiving f es → ⊥
+not_living f _ same (latest below) = (let no : f ∷ below ≡ [] = same in cc)
+not_living f _ same (earlier other below there) = (let no : other ∷ below ≡ [] = same in cc)
+
+one_living : (f e : Entry) (es : List Entry) → es ≡ e ∷ [] → IsLiving f es → f ≡ e
+one_living f e _ same (latest below) = (let both : f ∷ below ≡ e ∷ [] = same in cc)
+one_living f e _ same (earlier other below there) =
+    absurd (not_living f below (let both : other ∷ below ≡ e ∷ [] = same in cc) there)
 
 -- ## One activation
 
@@ -175,7 +199,7 @@ module _ (facts : Facts) (m : Machine) (c : Config) (homes : Homes) (entries : E
   pub formals_are : entry_at g.state.blocks known.process entry ≡ entry_formals g q entry
   formals_are = ap (λ n. entry_at g.state.blocks n entry) declaration_is
 
-  in_blocks : slice_get g.blocks first.own.block ≡ Some b
+  pub in_blocks : slice_get g.blocks first.own.block ≡ Some b
   in_blocks = by_place first.stands.is.2
     where
       by_place : (slice_get g.blocks first.own.block ≡ Some (block_of level)) ⊎ ((first.own.block ≡ length g.blocks) × (block_of level ≡ g.main))
@@ -196,29 +220,30 @@ module _ (facts : Facts) (m : Machine) (c : Config) (homes : Homes) (entries : E
 
   -- ### Its scopes
 
-  own_not_mains : is_mains g.state.blocks b.scope ≡ false
+  pub own_not_mains : is_mains g.state.blocks b.scope ≡ false
   own_not_mains = linked_not_mains g.state.blocks b.env.view 0 b.scope (ap (λ (xs : List ℕ). slice_get xs 0) around)
 
-  own_known : is_known g.state.blocks b [] b.scope ≡ true
+  pub own_known : is_known g.state.blocks b [] b.scope ≡ true
   own_known =
       or_right (is_mains g.state.blocks b.scope) _
       (or_left (list_any (λ j. j == b.scope) (scopes_around g b)) _ (at_any b.scope (scopes_around g b) 0 (ap (λ (xs : List ℕ). slice_get xs 0) around)))
 
+  pub links_own : (j : ℕ) → is_mains g.state.blocks j ≡ false → links_to here j ≡ 0
+  links_own j is =
+      ap (λ (y : Bool). if y then length (scopes_around g b) else unwrap_or (position (λ n. n == j) (scopes_around g b)) 0) is
+      ∙ ap (λ (xs : List ℕ). unwrap_or (position (λ n. n == j) xs) 0) around ∙ only_place b.scope j
+
+  pub links_mains : (j : ℕ) → is_mains g.state.blocks j ≡ true → links_to here j ≡ 1
+  links_mains j is =
+      ap (λ (y : Bool). if y then length (scopes_around g b) else unwrap_or (position (λ n. n == j) (scopes_around g b)) 0) is
+      ∙ ap (λ (xs : List ℕ). length xs) around
+
   pub near : (j : ℕ) → (links_to here j ≡ 0) ⊎ (links_to here j ≡ 1)
   near j = by_mains (is_mains g.state.blocks j) refl
     where
-      links : Bool → List ℕ → ℕ
-      links mains xs = if mains then length xs else unwrap_or (position (λ n. n == j) xs) 0
-
-      in_one : (t : Bool) → (b.scope == j) ≡ t → unwrap_or (position (λ n. n == j) (b.scope ∷ [])) 0 ≡ 0
-      in_one true is = ap (λ (y : Bool). unwrap_or (if y then Some 0 else None) 0) is
-      in_one false is = ap (λ (y : Bool). unwrap_or (if y then Some 0 else None) 0) is
-
       by_mains : (t : Bool) → is_mains g.state.blocks j ≡ t → (links_to here j ≡ 0) ⊎ (links_to here j ≡ 1)
-      by_mains true is = inr (ap (λ (y : Bool). links y (scopes_around g b)) is ∙ ap (λ (xs : List ℕ). length xs) around)
-      by_mains false is =
-          inl (ap (λ (y : Bool). links y (scopes_around g b)) is ∙ ap (λ (xs : List ℕ). unwrap_or (position (λ n. n == j) xs) 0) around
-          ∙ in_one (b.scope == j) refl)
+      by_mains true is = inr (links_mains j is)
+      by_mains false is = inl (links_own j is)
 
   -- ### Its place
 
@@ -232,13 +257,7 @@ module _ (facts : Facts) (m : Machine) (c : Config) (homes : Homes) (entries : E
   living = subst (λ (es : List Entry). IsLiving e es) (sym only.entries_are) (latest [])
 
   alone : (f : Entry) → IsLiving f (entries q) → f ≡ e
-  alone f is = by_one (subst (λ (es : List Entry). IsLiving f es) only.entries_are is)
-    where
-      by_one : IsLiving f (e ∷ []) → f ≡ e
-      by_one is = elim is [ | latest _ ↦ refl | earlier _ _ h ↦ absurd (nobody h) ]
-
-      nobody : IsLiving f [] → ⊥
-      nobody h = elim h [ ]
+  alone f is = one_living f e (entries q) only.entries_are is
 
   short : (f : Entry) (r : ℕ) (other : Home) → homes f.activation ≡ Some other → IsLiving f (entries r) → (other.cell < 2 ^ 32) × (other.process ≡ r)
   short f r other at is =

@@ -1,23 +1,30 @@
 -- What is told of the accepts of a program, and of a run.
-use Rattle.std.specs.Prelude.{ℕ, ◌≡◌, ◌≢◌, ◌<◌, ◌==◌, not, Bool, true, List, [], ◌∷◌, length, Some, None}
-use Rattle.std.specs.List.{slice_get, list_any}
+use Rattle.std.specs.Prelude.{ℕ, ◌≡◌, ◌≢◌, ◌<◌, ◌==◌, ◌||◌, ◌&&◌, not, pos, Bool, true, List, [], ◌∷◌, length, get_or, Some, None}
+use Rattle.std.specs.List.{slice_get, list_all}
 use Rattle.pfc_tree.specs.trees.Parts.{ProgramTree}
 use Rattle.pfc_types.specs.Blocks.{process_at}
 use Rattle.pfc_types.specs.Scopes.{Level}
 use Rattle.pfc_types.specs.rules.Declarations.{name_cells}
 use Rattle.pfc_types.specs.rules.Expressions.{Env}
 use Rattle.pfc_types.specs.declared.scope.Meaning.{Meaning}
+use Rattle.pfc_types.specs.declared.scope.Meaning.TheVariants.{Variable}
+use Rattle.pfc_types.specs.declared.types.TypeId.{TypeId}
+use Rattle.pfc_state.specs.Stands.{Waits}
+use Rattle.pfc_state.specs.declared.waits.Why.TheVariants.{Call}
+use Rattle.pfc_world.specs.Tables.{at}
+use Rattle.pfc_semantics.specs.Values.{Value, Location, ordinal, points}
 use Rattle.pfc_semantics.specs.Layouts.{is_laid, sub_with}
 use Rattle.pfc_semantics.specs.Processes.{declaration_of, process_block}
 use Rattle.pfc_semantics.specs.Programs.{Block, Program, block_at, program_of}
 use Rattle.pfc_semantics.specs.Remainders.{Context, Accepting, Open, Remainder, Action, to_accept, meets}
-use Rattle.pfc_semantics.specs.Configurations.{Activation, Config, offering, activity_of}
+use Rattle.pfc_semantics.specs.Configurations.{Activation, Config, asking, offering, activity_of}
 use Rattle.pfc_translation.specs.Sites.{is_mains, is_accept}
 use Rattle.pfc_translation.specs.Images.{image_of}
 use Rattle.pfc_kept_code.specs.Kept.{Among, InRemainder}
 use Rattle.pfc_call_laws.specs.Calls.{HasNoObjects}
 use Rattle.pfc_meeting_laws.specs.Meetings.{display_of}
 use Rattle.pfc_representation.specs.Levels.{Facts, program_in, LivingLevel}
+use Rattle.pfc_representation.specs.Hands.{laid_parameters, entry_formals}
 
 -- ## Of a program
 
@@ -43,27 +50,34 @@ pub record HasProcesses (t : ProgramTree) : Type 0 where
 
 -- ## Of an accept that comes
 
--- no name of this scope is in view
-abbrev pub without : ℕ → Env → Bool
-without i env = not (list_any (λ (level : Level). level.scope == i) env.view)
+-- the scopes of the names in view are main's, the block's own, or those of its accepts, but for one of these
+abbrev pub is_apart : Program → Block → ℕ → Env → Bool
+is_apart g b i env =
+    list_all
+    (λ (level : Level). is_mains g.state.blocks level.scope || (level.scope == b.scope || (is_accept b level.scope && not (level.scope == i)))) env.view
 
 -- The accept is one of the block; its parameters are not in view where it stands, and in nothing that is left behind it: an accept is not within itself.
-pub record IsNewAccept (b : Block) (x : Context) (a : Accepting) (k : Remainder) : Type 0 where
+pub record IsNewAccept (g : Program) (b : Block) (x : Context) (a : Accepting) (k : Remainder) : Type 0 where
   pub of_block : is_accept b a.scope ≡ true
-  pub outside : Among (without a.scope) x.env
-  pub behind : InRemainder (without a.scope) k
+  pub outside : Among (is_apart g b a.scope) x.env
+  pub behind : InRemainder (is_apart g b a.scope) k
 
 -- an accept as a statement
 abbrev pub Accepts : LivingLevel → Action → Type 0
-Accepts level (meets x o k) = (a : Accepting) × (o.offer ≡ to_accept a) × IsNewAccept level.setting.block x a k
+Accepts level (meets x o k) = (a : Accepting) × (o.offer ≡ to_accept a) × IsNewAccept level.setting.program level.setting.block x a k
 Accepts level n = ⊥
 
 -- ## Of a run
 
--- As long as a program runs, a process in its first activation has the display with which it began; and accepts that a process offers are new.
+-- As long as a program runs, a process in its first activation has the display with which it began; accepts that a process offers are new; and what a caller
+-- that waits passes by reference is a location.
 pub record KeepsAccepts (facts : Facts) (c : Config) : Type 0 where
   pub displays : (q : ℕ) (a : Activation) → 0 < q → (activity_of (program_in facts) c q).activations ≡ a ∷ []
       → (activity_of (program_in facts) c q).display ≡ display_of (program_in facts) a.number (process_block (program_in facts) q)
   pub offered : (q j : ℕ) (x : Context) (os : List Open) (k : Remainder) (o : Open) (a : Accepting) → 0 < q
       → (activity_of (program_in facts) c q).hand ≡ offering x os k → slice_get os j ≡ Some o → o.offer ≡ to_accept a
-      → IsNewAccept (process_block (program_in facts) q) x a k
+      → IsNewAccept (program_in facts) (process_block (program_in facts) q) x a k
+  pub asked : (q owner entry ticket : ℕ) (values : List Value) → (activity_of (program_in facts) c q).hand ≡ asking values
+      → at c.table.rows q ≡ Waits (Call owner entry) ticket [] → (k : ℕ) (t : TypeId)
+      → slice_get (laid_parameters (entry_formals (program_in facts) owner entry)) k ≡ Some (Variable t true)
+      → (l : Location) × (get_or values k (ordinal (pos 0)) ≡ points l)

@@ -5,9 +5,11 @@ ghost use Rattle.pfc_semantics.specs.Configurations.{Config, number_for};
 ghost use Rattle.pfc_semantics.specs.Displays.{Spot};
 ghost use Rattle.pfc_semantics.specs.Remainders.{Accepting, Argument, Context, Open, Remainder, to_accept, to_entry, calls, meets};
 ghost use Rattle.pfc_machines.specs.declared.machine.Machine.{Machine};
-ghost use Rattle.pfc_representation.specs.Levels.{Facts, program_in, LivingLevel};
+ghost use Rattle.pfc_representation.specs.Levels.{Facts, program_in, LivingLevel, IsProgram};
 ghost use Rattle.pfc_representation.specs.Acting.{IsActing, HasArrived};
 ghost use Rattle.pfc_representation.specs.Actions.{IsKept, AreKept};
+ghost use Rattle.pfc_tree.specs.trees.Parts.{ProgramTree};
+ghost use Rattle.pfc_kept_meetings.specs.Accepts.{HasProcesses};
 ghost use Rattle.pfc_kept_meetings.specs.Groups.{EndsAccept};
 ghost use Rattle.pfc_kept_meetings.specs.Owners.{HasTypedEntries, HasSingles};
 
@@ -32,4 +34,11 @@ pub fn unmet_accepts_are_kept()
     ensures { (facts : Facts) (m : Machine) (c : Config) (p choice : ℕ) (level : LivingLevel) (x : Context) (o : Open) (k : Remainder) (a : Accepting)
         → o.offer ≡ to_accept a → caller c.table.rows p a.entry ≡ None → IsActing facts m c p level → HasArrived facts m c p level (meets x o k)
         → IsKept facts m c p choice (meets x o k) }
+{}
+
+/// What rendezvous ask of the processes of a program is so of every checked one: each has a block of its own, which is told by its scope, and each parameter of
+/// an entry has a type.
+pub fn checked_programs_have_processes()
+    ensures processes { (t : ProgramTree) → IsProgram t → HasProcesses t }
+    ensures entries { (t : ProgramTree) → IsProgram t → HasTypedEntries t }
 {}

@@ -5,4 +5,7 @@
 
 mod laws;
 
-pub use laws::{ends_of_accepts_are_kept, unmet_accepts_are_kept, unmet_calls_are_kept};
+pub use laws::{
+    checked_programs_have_processes, ends_of_accepts_are_kept, unmet_accepts_are_kept,
+    unmet_calls_are_kept,
+};

@@ -39,6 +39,7 @@ use Rattle.pfc_call_actions.specs.Calls.{activated as machine_activated, unless_
 use Rattle.pfc_call_actions.specs.Calls.{with_resources as machine_with_resources}
 use Rattle.pfc_machine_acts.specs.Performing.{silent, with_block}
 use Rattle.pfc_standing_code.specs.Settings.{Trial, of_own, site_of, IsBeside, same_block, IsAt}
+use Rattle.pfc_types.specs.declared.heads.SubSort.{SubSort}
 use Rattle.pfc_standing_code.specs.Typed.{IsOfSub}
 use Rattle.pfc_standing_code.specs.Words.{AreHeld, AreKnown, IsChecked}
 use Rattle.pfc_standing_code.specs.Performs.{own_block, Performs}
@@ -369,7 +370,7 @@ module _ (facts : Facts) (m : Machine) (c : Config) (p choice : ℕ) (level : Li
 
 module _ (facts : Facts) (m : Machine) (c : Config) (p choice : ℕ) (level : LivingLevel) (acting : IsActing facts m c p level) (x : Context) (b : Block)
     (n scope : ℕ) (rest : Remainder) (formals : List Formal) (given : List Argument) (below : List ℤ) (checked : IsChecked level.setting b x.env)
-    (alone : (level.setting.trial ≡ of_own) × (level.arms ≡ [])) (may : MayEnter level n scope) (sub : IsOfSub (site_of level.setting b x) scope formals)
+    (alone : (level.setting.trial ≡ of_own) × (level.arms ≡ [])) (may : MayEnter level n scope) {asked : ℕ → SubSort → Type 0} (sub : IsOfSub (site_of level.setting b x) scope formals asked)
     (held : AreHeld level.setting.view (site_of level.setting b x) formals given (operands_of m.stacks p) below)
     (there : IsAt level.setting (stack_of m.stacks p).at (enter_instr (module_at level.setting.program.state.blocks n).resource
     (module_number level.setting.program.state.blocks n) (block_number level.setting.program scope)) x.line)
@@ -390,11 +391,11 @@ module _ (facts : Facts) (m : Machine) (c : Config) (p choice : ℕ) (level : Li
   exported : IsExported facts.tree n number_of_block called formals
   exported = by level.setting.program same sub
     where
-      by : (q : Program) → q ≡ g0 → IsOfSub (record (site_of level.setting b x) { program = q }) scope formals
+      by : (q : Program) → q ≡ g0 → IsOfSub (record (site_of level.setting b x) { program = q }) scope formals asked
           → IsExported facts.tree n number_of_block called formals
       by q is of_sub =
-          let of : IsOfSub (record (site_of level.setting b x) { program = g0 }) scope formals = subst (λ (z : Program). IsOfSub (record
-          (site_of level.setting b x) { program = z }) scope formals) is of_sub in
+          let of : IsOfSub (record (site_of level.setting b x) { program = g0 }) scope formals asked = subst (λ (z : Program). IsOfSub (record
+          (site_of level.setting b x) { program = z }) scope formals asked) is of_sub in
           subst (λ (fs : List Formal). IsExported facts.tree n number_of_block called fs) (sym of.own_formals)
           (may.exported facts.tree of.number same acting.alike.program of.among of.own_scope)
 

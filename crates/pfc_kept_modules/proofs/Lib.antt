@@ -4,5 +4,15 @@ pub mod Entered
 pub mod Entrances
 pub mod Behind
 pub mod Entering
+pub mod Exports
+pub mod Enterable
+pub mod Requeueable
 pub mod Settled
 pub mod Leaving
+pub mod Keeping
+pub mod Lent
+pub mod Replaced
+pub mod Renewed
+pub mod Lined
+pub mod Requeued
+pub mod Requeueing

@@ -26,3 +26,8 @@ IsEnteredBy level call = ⊥
 abbrev pub EntersModule : LivingLevel → Action → Type 0
 EntersModule level (calls x call given) = IsEnteredBy level call
 EntersModule level n = ⊥
+
+-- a call from outside a module, by the action alone
+abbrev pub IsModuleEntry : LivingLevel → Action → Type 0
+IsModuleEntry level (calls x (to_module n scope k) given) = Unit {0}
+IsModuleEntry level n = ⊥

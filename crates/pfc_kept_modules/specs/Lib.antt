@@ -1,3 +1,5 @@
 pub mod Exported
 pub mod Groups
 pub mod Endings
+pub mod Requeued
+pub mod Requeueable

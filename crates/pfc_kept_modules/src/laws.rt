@@ -1,14 +1,16 @@
 //! The laws. The functions do nothing: their contracts are the laws.
-ghost use Rattle.std.specs.Prelude.{◌≡◌, ℕ};
+ghost use Rattle.std.specs.Prelude.{◌≡◌, ℕ, List};
 ghost use Rattle.pfc_semantics.specs.Configurations.{of_monitor, Config, activity_of};
-ghost use Rattle.pfc_semantics.specs.Remainders.{Action};
+ghost use Rattle.pfc_semantics.specs.Remainders.{Context, Remainder, Argument, Action, calls, to_module, to_requeue};
 ghost use Rattle.pfc_machines.specs.declared.machine.Machine.{Machine};
 ghost use Rattle.pfc_representation.specs.Levels.{Facts, program_in, LivingLevel};
 ghost use Rattle.pfc_representation.specs.Trials.{mark_of};
 ghost use Rattle.pfc_representation.specs.Acting.{IsActing, HasArrived};
 ghost use Rattle.pfc_representation.specs.Actions.{IsKept, AreKept};
-ghost use Rattle.pfc_kept_modules.specs.Groups.{EntersModule};
+ghost use Rattle.pfc_kept_modules.specs.Groups.{MayEnter, EntersModule, IsModuleEntry};
 ghost use Rattle.pfc_kept_modules.specs.Endings.{EndsInMonitor, AreOutside};
+ghost use Rattle.pfc_kept_modules.specs.Requeueable.{CanRequeue};
+ghost use Rattle.pfc_kept_modules.specs.Requeued.{MayRequeue, AreLentOn};
 
 /// A call of a procedure of a monitor or of a resource from outside begins the same activation on both sides, and the process has the module or waits for it
 /// on both, also where it holds it itself; or both find the stack full.
@@ -23,4 +25,31 @@ pub fn monitors_are_left()
         → EndsInMonitor level action → mark_of (activity_of (program_in facts) c p).activations ≡ of_monitor n
         → AreOutside n (activity_of (program_in facts) c p).activations → IsActing facts m c p level → HasArrived facts m c p level action
         → IsKept facts m c p choice action }
+{}
+
+/// A requeue begins the same activation on both sides in place of the last, with the same caller, and the same scan comes first; or both find the stack full.
+pub fn requeues_are_kept()
+    ensures { (facts : Facts) (m : Machine) (c : Config) (p choice : ℕ) (level : LivingLevel) (x : Context) (scope : ℕ) (given : List Argument)
+        → MayRequeue level scope → AreLentOn (program_in facts) c p given (activity_of (program_in facts) c p).activations
+        → IsActing facts m c p level → HasArrived facts m c p level (calls x (to_requeue scope) given)
+        → IsKept facts m c p choice (calls x (to_requeue scope) given) }
+{}
+
+/// Wherever the code of a checked program calls a procedure from outside its module, that can be called: the module exports it, and no part of its variables
+/// is an object.
+pub fn checked_programs_may_enter()
+    ensures { (facts : Facts) (m : Machine) (c : Config) (p : ℕ) (level : LivingLevel) (x : Context) (n scope : ℕ) (k : Remainder) (given : List Argument)
+        → IsActing facts m c p level → HasArrived facts m c p level (calls x (to_module n scope k) given) → MayEnter level n scope }
+{}
+
+/// So all calls from outside modules are kept.
+pub fn module_entries_are_kept()
+    ensures { AreKept IsModuleEntry }
+{}
+
+/// Wherever the code of a checked program requeues, it stands in the body of a guarded procedure, in which no accept stands, and names another of the same
+/// resource, which can be called.
+pub fn checked_programs_can_requeue()
+    ensures { (facts : Facts) (m : Machine) (c : Config) (p : ℕ) (level : LivingLevel) (x : Context) (scope : ℕ) (given : List Argument)
+        → IsActing facts m c p level → HasArrived facts m c p level (calls x (to_requeue scope) given) → CanRequeue level scope }
 {}

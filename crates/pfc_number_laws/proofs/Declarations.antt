@@ -8,27 +8,23 @@ use Rattle.pfc_tree.specs.declared.tree.Constant.{Constant}
 use Rattle.pfc_tree.specs.declared.tree.ConstItem.{ConstItem}
 use Rattle.pfc_tree.specs.trees.Types.{TypeTree, VarTree, VarTrees, TypeItemTree, GroupTree, named, channel, array, fields, var_item, no_vars, more_vars}
 use Rattle.pfc_tree.specs.trees.Stmts.{StmtTree, StmtTrees, BodyTree, ArmTree, ArmTrees, AcceptTree, AltTree, AltTrees, CommTree, empty, null, block, if_then, if_then_else, case_of, while_do, repeat_until, repeat_forever, for_do, cobegin, accepting, requeue, select, select_else, assign, send, receive, call, no_stmts, more_stmts, body, arm, no_arms, more_arms, accept, accept_do, alt, no_alts, more_alts, comm_accept, comm_send, comm_receive, timeout, terminate}
-use Rattle.pfc_tree.specs.trees.Parts.{KindTree, EntryTree, PartTree, PartTrees, SubTree, ModuleTree, ProcessTree, ProgramTree, consts, types, vars, sub_part, monitor, resource, process_part, no_parts, more_parts, sub, the_module, process}
+use Rattle.pfc_tree.specs.trees.Parts.{EntryTree}
 use Rattle.pfc_types.specs.Faults.{Faults, none, one, ◌⨾◌, unless}
 use Rattle.pfc_types.specs.Fields.{type_named}
 use Rattle.pfc_types.specs.Types.{integer, refusal_of, most_processes}
 use Rattle.pfc_types.specs.Scopes.{Level, meaning_in, scope_at, here, look}
-use Rattle.pfc_types.specs.Blocks.{State, note, declare, open_scope, add_name, add_form, add_sub, add_module, add_process, add_entry, export_sub, set_population, sub_at}
+use Rattle.pfc_types.specs.Blocks.{State, note, declare, open_scope, add_name, add_entry, set_population}
 use Rattle.pfc_types.specs.declared.types.TypeId.{TypeId}
 use Rattle.pfc_types.specs.declared.types.TypeForm.{TypeForm}
-use Rattle.pfc_types.specs.declared.types.TypeForm.TheVariants.{Process as AProcess}
 use Rattle.pfc_types.specs.declared.table.TypeFault.{TypeFault}
 use Rattle.pfc_types.specs.declared.table.TypeFault.TheVariants.{Bounds, Cells, Memory}
 use Rattle.pfc_types.specs.declared.scope.Meaning.{Meaning}
-use Rattle.pfc_types.specs.declared.scope.Meaning.TheVariants.{Sub, Module, Process, Named, Faulty}
-use Rattle.pfc_types.specs.declared.heads.SubHead.{SubHead}
-use Rattle.pfc_types.specs.declared.heads.ProcessHead.{ProcessHead}
+use Rattle.pfc_types.specs.declared.scope.Meaning.TheVariants.{Faulty}
 use Rattle.pfc_types.specs.rules.Kinds.{has_object, type_name_rules, type_meaning, variable_meaning}
 use Rattle.pfc_types.specs.rules.Constants.{Ordinal, Extent, same_ordinal, constant_value, constant_place, broken_constant, broken_ranges, range_extents, Made, added_unless, added, channel_form, array_of, made_arrays, MadeFields, made_field, made_names, made_group, record_form, fields_begun, made, made_items, made_item, type_place}
-use Rattle.pfc_types.specs.rules.Declarations.{constant_meaning, const_state, consts_state, type_state, types_state, Owner, in_program, elsewhere, owner_rules, owned_type, passes_most, populated, brought, var_name_state, var_names_state, var_state, vars_state, broken_group, group_type, Heading, formal_heading, formals_heading, group_viewed, group_heading, groups_heading, heading, EntryHeading, entry_formal, entry_formals, entry_group, entry_groups, entry_meaning, entry_state, entries_state, scope_cells, result_cells, cells_rule, accept_rule, accept_groups, accept_heading, accepted, Labels, label_noted, labels_noted, stmt_state, stmts_state, body_state, arms_state, arm_state, accept_state, alts_state, alt_state, comm_state, broken_sort, sort_of, whole_sort, sub_meaning, sub_headed, may_export, export_state, export_list, exports_state, module_owner, module_closed, init_state, process_named, process_headed, process_cells, part_state, parts_state, sub_state, module_state, process_state}
-use Rattle.pfc_types.specs.rules.Whole.{begun, declared_parts, declared_all, main_cells, finished}
-use Rattle.pfc_number_laws.specs.Fitting.{FitsMeaning, FitNames}
-use Rattle.pfc_number_laws.specs.Written.{FitsItem, FitsPart, FitParts, FitsSub, FitsModule, FitsProcess, FitsTree}
+use Rattle.pfc_types.specs.rules.Declarations.{constant_meaning, const_state, consts_state, type_state, types_state, Owner, owner_rules, owned_type, passes_most, populated, brought, var_name_state, var_names_state, var_state, vars_state, broken_group, group_type, Heading, formal_heading, formals_heading, group_viewed, group_heading, groups_heading, heading, EntryHeading, entry_formal, entry_formals, entry_group, entry_groups, entry_meaning, entry_state, entries_state, accept_rule, accept_groups, accept_heading, accepted, Labels, label_noted, labels_noted, stmt_state, stmts_state, body_state, arms_state, arm_state, accept_state, alts_state, alt_state, comm_state, sub_meaning}
+use Rattle.pfc_number_laws.specs.Fitting.{FitsMeaning}
+use Rattle.pfc_number_laws.specs.Written.{FitsItem}
 use Rattle.pfc_number_laws.proofs.Lists.{all_push, all_set, all_get}
 use Rattle.pfc_number_laws.proofs.Alternatives.{FitsOrdinal, constant_fits}
 use Rattle.pfc_number_laws.proofs.Names.{FitsName, FitsScope, names_fit}
@@ -43,10 +39,10 @@ noted s none fits = fits
 noted s (one f) fits = fits
 noted s (fs ⨾ gs) fits = noted (note s fs) gs (noted s fs fits)
 
-opened : (s : State) → FitsState s → FitsState (open_scope s)
+pub opened : (s : State) → FitsState s → FitsState (open_scope s)
 opened s fits = all_push FitsScope s.blocks.scopes [] fits tt
 
-declared : (s : State) (i : ℕ) (x : Text × Place) (m : Meaning) → FitsState s → FitsMeaning (Some m) → FitsState (declare s i x m)
+pub declared : (s : State) (i : ℕ) (x : Text × Place) (m : Meaning) → FitsState s → FitsMeaning (Some m) → FitsState (declare s i x m)
 declared s i x m fits new = by (is_some (meaning_in (scope_at s.blocks.scopes i) x.0))
   where
     by : (b : Bool) → FitsState (if b then note s (unless false x.1 302) else add_name s i x.0 m)
@@ -55,7 +51,7 @@ declared s i x m fits new = by (is_some (meaning_in (scope_at s.blocks.scopes i)
         all_set FitsScope s.blocks.scopes i (scope_at s.blocks.scopes i ++ (x.0, m) ∷ []) fits
         (all_push FitsName (scope_at s.blocks.scopes i) (x.0, m) (all_get FitsScope s.blocks.scopes i [] fits tt) new)
 
-either_state : (b : Bool) (s t : State) → FitsState s → FitsState t → FitsState (if b then s else t)
+pub either_state : (b : Bool) (s t : State) → FitsState s → FitsState t → FitsState (if b then s else t)
 either_state true s t first second = first
 either_state false s t first second = second
 
@@ -72,7 +68,7 @@ entry_fits : (whole : Bool) (k : ℕ) → FitsMeaning (Some (entry_meaning whole
 entry_fits true k = tt
 entry_fits false k = tt
 
-sub_fits : (whole : Bool) (n : ℕ) → FitsMeaning (Some (sub_meaning whole n))
+pub sub_fits : (whole : Bool) (n : ℕ) → FitsMeaning (Some (sub_meaning whole n))
 sub_fits true n = tt
 sub_fits false n = tt
 
@@ -82,7 +78,7 @@ ordinal_named (Some o) fits = fits
 
 -- ## Constants and types
 
-consts_fit : (s : State) (i : ℕ) (outer : List Level) (items : List ConstItem) → FitsState s → AllByRecursion FitsItem items
+pub consts_fit : (s : State) (i : ℕ) (outer : List Level) (items : List ConstItem) → FitsState s → AllByRecursion FitsItem items
     → FitsState (consts_state s i outer items)
 consts_fit s i outer [] fits all = fits
 consts_fit s i outer (c ∷ cs) fits all =
@@ -149,7 +145,7 @@ mutual
   item_fits view r (var_item xs t) fits =
       let m = made false r.state view t in group_fits (record r { state = m.state }) m.t xs (made_fits false r.state view t fits)
 
-types_fit : (s : State) (i : ℕ) (outer : List Level) (items : List TypeItemTree) → FitsState s → FitsState (types_state s i outer items)
+pub types_fit : (s : State) (i : ℕ) (outer : List Level) (items : List TypeItemTree) → FitsState s → FitsState (types_state s i outer items)
 types_fit s i outer [] fits = fits
 types_fit s i outer (d ∷ ds) fits =
     let m = made false s (here s.blocks.scopes i outer) d.form in
@@ -158,7 +154,7 @@ types_fit s i outer (d ∷ ds) fits =
 
 -- ## Variables
 
-populated_fits :
+pub populated_fits :
     (s : State) (i more : ℕ) (x : Text × Place) (m : Meaning) → FitsState s → FitsMeaning (Some m) → FitsState (populated s i more x m)
 populated_fits s i more x m fits new =
     let counted = set_population s (most_processes (s.blocks.population + more)) in
@@ -182,7 +178,7 @@ var_fits owner s i outer (var_item xs t) fits =
     let rules = owner_rules owner m.state.forms m.t (type_place t) in
     var_names_fit (note m.state rules) i (owned_type owner m.state.forms m.t) xs (noted m.state rules (made_fits false s view t fits))
 
-vars_fit : (owner : Owner) (s : State) (i : ℕ) (outer : List Level) (vs : VarTrees) → FitsState s → FitsState (vars_state owner s i outer vs)
+pub vars_fit : (owner : Owner) (s : State) (i : ℕ) (outer : List Level) (vs : VarTrees) → FitsState s → FitsState (vars_state owner s i outer vs)
 vars_fit owner s i outer no_vars fits = fits
 vars_fit owner s i outer (more_vars v vs) fits = vars_fit owner (var_state owner s i outer v) i outer vs (var_fits owner s i outer v fits)
 
@@ -206,7 +202,7 @@ groups_fit i outer h [] fits = fits
 groups_fit i outer h (g ∷ gs) fits =
     groups_fit i outer (group_heading i outer h g) gs (viewed_fits i (here h.state.blocks.scopes i outer) h g fits)
 
-heading_fits : (s : State) (i : ℕ) (outer : List Level) (gs : List GroupTree) → FitsState s → FitsState (heading s i outer gs).state
+pub heading_fits : (s : State) (i : ℕ) (outer : List Level) (gs : List GroupTree) → FitsState s → FitsState (heading s i outer gs).state
 heading_fits s i outer gs fits = groups_fit i outer (record { state = s; formals = []; whole = true }) gs fits
 
 entry_formals_fit : (reference : Bool) (t : Option TypeId) (h : EntryHeading) (xs : List (Text × Place)) → FitsState h.state
@@ -223,7 +219,7 @@ entry_groups_fit view h (g ∷ gs) fits =
     entry_groups_fit view (entry_group view h g) gs
     (entry_formals_fit g.reference t (record h { state = ruled; whole = h.whole && is_some t }) g.names (noted h.state (broken_group h.state view g) fits))
 
-entries_fit : (s : State) (i : ℕ) (outer : List Level) (k : ℕ) (es : List EntryTree) → FitsState s → FitsState (entries_state s i outer k es)
+pub entries_fit : (s : State) (i : ℕ) (outer : List Level) (k : ℕ) (es : List EntryTree) → FitsState s → FitsState (entries_state s i outer k es)
 entries_fit s i outer k [] fits = fits
 entries_fit s i outer k (e ∷ es) fits =
     let begin : EntryHeading = record { state = s; own = []; formals = []; whole = true } in
@@ -284,7 +280,7 @@ mutual
   stmts_fit s view no_stmts fits = fits
   stmts_fit s view (more_stmts t ts) fits = stmts_fit (stmt_state s view t) view ts (stmt_fits s view t fits)
 
-  body_fits : (s : State) (view : List Level) (b : BodyTree) → FitsState s → FitsState (body_state s view b)
+  pub body_fits : (s : State) (view : List Level) (b : BodyTree) → FitsState s → FitsState (body_state s view b)
   body_fits s view (body ts first last) fits = stmts_fit s view ts fits
 
   arms_fit : (view : List Level) (r : Labels) (arms : ArmTrees) → FitsState r.state → FitsState (arms_state view r arms).state
@@ -313,120 +309,3 @@ mutual
   comm_fits s view (comm_receive d v p) fits = fits
   comm_fits s view (timeout e p) fits = fits
   comm_fits s view (terminate p) fits = fits
-
--- ## Subs, modules and processes
-
-sub_headed_fits : (s : State) (i : ℕ) (outer : List Level) (x : Text × Place) (gs : List GroupTree) (kind : KindTree) → FitsState s
-    → FitsState (sub_headed s i outer x gs kind)
-sub_headed_fits s i outer x gs kind fits =
-    let own = length s.blocks.scopes in
-    let around = here s.blocks.scopes i outer in
-    let h = heading (open_scope s) own around gs in
-    let view = here h.state.blocks.scopes own around in
-    let sort = sort_of h.state view kind in
-    let head : SubHead = record { formals = h.formals; sort = sort; scope = own; exported = false } in
-    let ruled = note h.state (broken_sort h.state view kind) in
-    declared (add_sub ruled head) i x (sub_meaning (h.whole && whole_sort sort) (length s.blocks.subs))
-    (noted h.state (broken_sort h.state view kind) (heading_fits (open_scope s) own around gs (opened s fits)))
-    (sub_fits (h.whole && whole_sort sort) (length s.blocks.subs))
-
-export_fits : (s : State) (m : Option Meaning) (p : Place) → FitsState s → FitsState (export_state s m p)
-export_fits s (Some (Sub n)) p fits =
-    either_state (may_export (sub_at s.blocks n)) (export_sub s n) (note s (unless false p 409)) fits (noted s (unless false p 409) fits)
-export_fits s (Some Faulty) p fits = fits
-export_fits s m p fits = noted s (unless false p 409) fits
-
-list_fits : (s : State) (i : ℕ) (xs : List (Text × Place)) → FitsState s → FitsState (export_list s i xs)
-list_fits s i [] fits = fits
-list_fits s i (x ∷ xs) fits =
-    let m = meaning_in (scope_at s.blocks.scopes i) x.0 in list_fits (export_state s m x.1) i xs (export_fits s m x.1 fits)
-
-exports_fit : (s : State) (i : ℕ) (lists : List (List (Text × Place))) → FitsState s → FitsState (exports_state s i lists)
-exports_fit s i [] fits = fits
-exports_fit s i (xs ∷ lists) fits = exports_fit (export_list s i xs) i lists (list_fits s i xs fits)
-
-closed_fits : (is_resource : Bool) (s : State) (i own : ℕ) (x : Text × Place) (exports : List (List (Text × Place))) → FitsState s
-    → FitsState (module_closed is_resource s i own x exports)
-closed_fits is_resource s i own x exports fits =
-    let t = exports_state s own exports in
-    declared (add_module t (record { scope = own; resource = is_resource })) i x (Module (length s.blocks.modules)) (exports_fit s own exports fits) tt
-
-init_fits : (s : State) (view : List Level) (b : Option BodyTree) → FitsState s → FitsState (init_state s view b)
-init_fits s view None fits = fits
-init_fits s view (Some b) fits = body_fits s view b fits
-
-process_named_fits : (s : State) (i : ℕ) (many whole : Bool) (x : Text × Place) (n : ℕ) → FitsState s → FitsState (process_named s i many whole x n)
-process_named_fits s i many false x n fits = declared s i x Faulty fits tt
-process_named_fits s i true true x n fits = declared (add_form s (AProcess n)) i x (Named (record { place = length s.forms })) fits tt
-process_named_fits s i false true x n fits =
-    either_state (is_some (meaning_in (scope_at s.blocks.scopes i) x.0)) (declare s i x Faulty) (populated s i 1 x (Process n))
-    (declared s i x Faulty fits tt) (populated_fits s i 1 x (Process n) fits tt)
-
-process_headed_fits : (s : State) (i : ℕ) (outer : List Level) (many : Bool) (x : Text × Place) (gs : List GroupTree) → FitsState s
-    → FitsState (process_headed s i outer many x gs)
-process_headed_fits s i outer many x gs fits =
-    let own = length s.blocks.scopes in
-    let around = here s.blocks.scopes i outer in
-    let h = heading (open_scope s) own around gs in
-    let head : ProcessHead = record { formals = h.formals; entries = length s.blocks.entries; scope = own } in
-    process_named_fits (add_process h.state head) i many h.whole x (length s.blocks.processes)
-    (heading_fits (open_scope s) own around gs (opened s fits))
-
--- ## Parts
-
-mutual
-  part_fits : (owner : Owner) (s : State) (i : ℕ) (outer : List Level) (q : PartTree) → FitsState s → FitsPart q → FitsState (part_state owner s i outer q)
-  part_fits owner s i outer (consts items) fits small = consts_fit s i outer items fits small
-  part_fits owner s i outer (types items) fits small = types_fit s i outer items fits
-  part_fits owner s i outer (vars vs) fits small = vars_fit owner s i outer vs fits
-  part_fits owner s i outer (sub_part b) fits small = sub_part_fits s i outer b fits small
-  part_fits owner s i outer (monitor m) fits small = module_fits false s i outer m fits small
-  part_fits owner s i outer (resource m) fits small = module_fits true s i outer m fits small
-  part_fits owner s i outer (process_part q) fits small = process_fits s i outer q fits small
-
-  pub parts_fit : (owner : Owner) (s : State) (i : ℕ) (outer : List Level) (qs : PartTrees) → FitsState s → FitParts qs
-      → FitsState (parts_state owner s i outer qs)
-  parts_fit owner s i outer no_parts fits small = fits
-  parts_fit owner s i outer (more_parts q qs) fits small =
-      parts_fit owner (part_state owner s i outer q) i outer qs (part_fits owner s i outer q fits small.0) small.1
-
-  sub_part_fits : (s : State) (i : ℕ) (outer : List Level) (b : SubTree) → FitsState s → FitsSub b → FitsState (sub_state s i outer b)
-  sub_part_fits s i outer (sub x gs kind ps b p) fits small =
-      let own = length s.blocks.scopes in
-      let headed = sub_headed s i outer (x, p) gs kind in
-      let around = here headed.blocks.scopes i outer in
-      let inner = parts_state elsewhere headed own around ps in
-      let done = body_state inner (here inner.blocks.scopes own around) b in
-      noted done (cells_rule (scope_cells done.forms (scope_at done.blocks.scopes own) + result_cells kind) p)
-      (body_fits inner (here inner.blocks.scopes own around) b
-      (parts_fit elsewhere headed own around ps (sub_headed_fits s i outer (x, p) gs kind fits) small.1))
-
-  module_fits : (is_resource : Bool) (s : State) (i : ℕ) (outer : List Level) (m : ModuleTree) → FitsState s → FitsModule m
-      → FitsState (module_state is_resource s i outer m)
-  module_fits is_resource s i outer (the_module x exports ps b last p) fits small =
-      let own = length s.blocks.scopes in
-      let around = here s.blocks.scopes i outer in
-      let inner = parts_state (module_owner is_resource) (open_scope s) own around ps in
-      let done = init_state inner (here inner.blocks.scopes own around) b in
-      closed_fits is_resource done i own (x, p) exports
-      (init_fits inner (here inner.blocks.scopes own around) b (parts_fit (module_owner is_resource) (open_scope s) own around ps (opened s fits) small.0))
-
-  process_fits : (s : State) (i : ℕ) (outer : List Level) (q : ProcessTree) → FitsState s → FitsProcess q → FitsState (process_state s i outer q)
-  process_fits s i outer (process many x gs es ps b p) fits small =
-      let own = length s.blocks.scopes in
-      let headed = process_headed s i outer many (x, p) gs in
-      let around = here headed.blocks.scopes i outer in
-      let entered = entries_state headed own around 0 es in
-      let inner = parts_state elsewhere entered own around ps in
-      let done = body_state inner (here inner.blocks.scopes own around) b in
-      noted done (cells_rule (process_cells done own (length inner.blocks.scopes)) p)
-      (body_fits inner (here inner.blocks.scopes own around) b
-      (parts_fit elsewhere entered own around ps (entries_fit headed own around 0 es (process_headed_fits s i outer many (x, p) gs fits)) small.0))
-
-pub finished_fits : (t : ProgramTree) → FitsTree t → FitNames (finished t).blocks.scopes
-finished_fits t small =
-    let s = declared_parts t in
-    let done = declared_all t in
-    names_fit (finished t).blocks.scopes
-    (noted done (cells_rule (main_cells done) t.name.1)
-    (body_fits s (here s.blocks.scopes 0 []) t.body (parts_fit in_program begun 0 [] t.parts (tt, tt) small.parts)))

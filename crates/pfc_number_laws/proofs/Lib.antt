@@ -12,6 +12,7 @@ pub mod Runs
 pub mod Objects
 pub mod Names
 pub mod Declarations
+pub mod Parts
 pub mod Programs
 pub mod Few
 pub mod Tokens

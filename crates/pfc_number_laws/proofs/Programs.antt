@@ -17,7 +17,7 @@ use Rattle.pfc_number_laws.specs.Objects.{AreFew}
 use Rattle.pfc_number_laws.specs.Configurations.{FitsGuard, FitsBlock, FitsProgram}
 use Rattle.pfc_number_laws.proofs.Lists.{all_append, all_push}
 use Rattle.pfc_number_laws.proofs.Objects.{firsts_fit, variables_fit}
-use Rattle.pfc_number_laws.proofs.Declarations.{finished_fits}
+use Rattle.pfc_number_laws.proofs.Parts.{finished_fits}
 
 block_fits :
     (scope outer : ℕ) (env : Env) (next : ℕ) (b : BodyTree) (layout : Layout) (accepts : ℕ) (guard : Option Guard) → FitsEnv env → FitsBody b

@@ -25,10 +25,10 @@ use Rattle.pfc_machine_acts.specs.Quietly.{quietly}
 use Rattle.pfc_machine_acts.specs.Settling.{machine_settled}
 use Rattle.pfc_representation.specs.Levels.{Facts, program_in}
 use Rattle.pfc_representation.specs.Machines.{Represents, Reports, Agrees, goes_on}
-use Rattle.pfc_representation.specs.Actions.{ComeToSame, AreKept}
+use Rattle.pfc_representation.specs.Actions.{ComeToSame}
 use Rattle.pfc_settling_laws.proofs.Reported.{agreeing_reports, still_represented}
 use Rattle.pfc_settling_laws.proofs.Settled.{agrees_settled}
-use Rattle.pfc_arrivals.specs.Arrivals.{IsAboutToAct, ActsAsItsSource, AreNumbered, IsNumbered}
+use Rattle.pfc_arrivals.specs.Arrivals.{IsAboutToAct, ActsAsItsSource, AreNumbered, AreAllKept}
 use Rattle.pfc_arrivals.proofs.Picked.{acts_alike}
 use Rattle.pfc_sessions.specs.Courses.{IsCourse}
 use Rattle.pfc_sessions.specs.Runs.{IsPicked, step_of, run_from}
@@ -39,7 +39,7 @@ use Rattle.pfc_run_agreement.specs.Courses.{IsSourceCourse}
 use Rattle.pfc_run_agreement.proofs.Agreeing.{same_ending, settled_output, settled_fault, same_runs}
 use Rattle.pfc_run_agreement.proofs.Coursing.{same_course}
 use Rattle.pfc_run_agreement.proofs.Keeping.{kept_agrees}
-use Rattle.pfc_simulation.specs.Reached.{IsReached, at_first, one_further, TakeNumbers}
+use Rattle.pfc_simulation.specs.Reached.{IsReached, at_first, one_further, RunKeepsToRules}
 use Rattle.pfc_simulation.proofs.Communications.{Keeps}
 use Rattle.pfc_simulation.proofs.Effects.{effect_keeps}
 use Rattle.pfc_simulation.proofs.Resting.{Rests, effect_rests}
@@ -122,7 +122,7 @@ few_of n h = grind (arith, h)
 -- ## An action
 
 module _
-    (facts : Facts) (first : Config) (kept : AreKept (λ level n. IsNumbered level)) (numbered : AreNumbered facts) (numbers : TakeNumbers (program_in facts) first) (picking : Picking) (m : Machine)
+    (facts : Facts) (first : Config) (kept : AreAllKept) (numbered : AreNumbered facts) (numbers : RunKeepsToRules (program_in facts) first) (picking : Picking) (m : Machine)
     (c : Config) (p : ℕ) (so : Relates facts first m c) (pick : IsPicked picking (machine_settled m) p)
   where
     abbrev pub image : PlainImage
@@ -170,7 +170,8 @@ module _
           ready = there;
           few = subst (λ (n : ℕ). n < 10 ^ 18) (ap (λ (w : Table). w.done) reports.world)
               (few_of s.world.done (first_of (nat_le (10 ^ 18) s.world.done) (nat_le (10 ^ 18) s.world.moment) pick.counts));
-          number = numbers c p so.reached there;
+          number = (let of_action = numbers c p so.reached there in of_action.0);
+          rules = (let of_action = numbers c p so.reached there in of_action.1);
         }
 
     acts : ActsAsItsSource facts s d p behind
@@ -247,7 +248,7 @@ module _
 -- ## Any number of actions
 
 pub goes_on_agreeing :
-    (facts : Facts) (left : ℕ) (picking : Picking) (m : Machine) (c : Config) → AreKept (λ level n. IsNumbered level) → AreNumbered facts → TakeNumbers (program_in facts) c
+    (facts : Facts) (left : ℕ) (picking : Picking) (m : Machine) (c : Config) → AreAllKept → AreNumbered facts → RunKeepsToRules (program_in facts) c
     → Represents facts m c → Agree (image_of facts.tree) (program_in facts) left picking m c
 goes_on_agreeing facts left picking m c kept numbered numbers is =
     kept_agrees (image_of facts.tree) (program_in facts) (Relates facts c) (agrees_here facts c)
@@ -257,8 +258,8 @@ goes_on_agreeing facts left picking m c kept numbered numbers is =
 -- ## Whole runs
 
 module _
-    (facts : Facts) (input : List ℕ) (seed limit : ℕ) (picking : Picking) (m : Machine) (kept : AreKept (λ level n. IsNumbered level)) (numbered : AreNumbered facts)
-    (numbers : TakeNumbers (program_in facts) (start (program_in facts) input seed)) (is : Represents facts m (start (program_in facts) input seed))
+    (facts : Facts) (input : List ℕ) (seed limit : ℕ) (picking : Picking) (m : Machine) (kept : AreAllKept) (numbered : AreNumbered facts)
+    (numbers : RunKeepsToRules (program_in facts) (start (program_in facts) input seed)) (is : Represents facts m (start (program_in facts) input seed))
   where
     abbrev first : Config
     first = start (program_in facts) input seed
@@ -271,7 +272,7 @@ module _
 
 pub session_alike :
     (facts : Facts) (input : List ℕ) (seed limit : ℕ) (picking : Picking) (m new : Machine) (ending : Ending) (before after : Option (List ℕ))
-    → AreKept (λ level n. IsNumbered level) → AreNumbered facts → TakeNumbers (program_in facts) (start (program_in facts) input seed)
+    → AreAllKept → AreNumbered facts → RunKeepsToRules (program_in facts) (start (program_in facts) input seed)
     → Represents facts m (start (program_in facts) input seed)
     → IsCourse (image_of facts.tree) limit (run_from (image_of facts.tree) limit limit picking m) (first_stage picking m) new ending before after
     → IsSourceCourse (runs.run facts.tree input seed picking limit) (start (program_in facts) input seed) new ending before after

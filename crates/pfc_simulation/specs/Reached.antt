@@ -10,6 +10,7 @@ use Rattle.pfc_semantics.specs.Runs.{ending_at}
 use Rattle.pfc_semantics.specs.Steps.{next_of}
 use Rattle.pfc_semantics.specs.Time.{settled_config}
 use Rattle.pfc_representation.specs.Acting.{TakesNumber}
+use Rattle.pfc_run_rules.specs.Rules.{KeepsToRules}
 use Rattle.pfc_run_agreement.specs.Agreement.{behind_action}
 
 -- A run from the first configuration comes to this one, whoever picks in each action.
@@ -18,8 +19,9 @@ pub data IsReached (g : Program) (first : Config) : Config → Type 0 where
   one_further : (c : Config) (picking : Picking) (p : ℕ) → IsReached g first c → ending_at (settled_config c) ≡ None
       → picked picking (settled_config c).table.rows ≡ Process p → IsReached g first (behind_action g picking c p)
 
--- Wherever a run from there comes, what the next action of a process that is ready takes as a count or as a rank has 32 bits. It is a fact about the source
--- text alone.
-abbrev pub TakeNumbers : Program → Config → Type 0
-TakeNumbers g first =
-    (c : Config) (p : ℕ) → IsReached g first c → at (settled_config c).table.rows p ≡ Is_ready → TakesNumber (next_of g (settled_config c) p)
+-- Wherever a run from there comes, it keeps to the rules, and what the next action of a process that is ready takes as a count or as a rank has 32 bits. It is
+-- a fact about the source text alone.
+abbrev pub RunKeepsToRules : Program → Config → Type 0
+RunKeepsToRules g first =
+    (c : Config) (p : ℕ) → IsReached g first c → at (settled_config c).table.rows p ≡ Is_ready
+    → TakesNumber (next_of g (settled_config c) p) × KeepsToRules g (settled_config c) p

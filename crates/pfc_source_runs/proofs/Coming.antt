@@ -12,16 +12,15 @@ use Rattle.pfc_machines.specs.declared.machine.Machine.{Machine}
 use Rattle.pfc_machine_acts.specs.Settling.{machine_settled}
 use Rattle.pfc_representation.specs.Levels.{Facts, program_in}
 use Rattle.pfc_representation.specs.Machines.{Represents, goes_on}
-use Rattle.pfc_representation.specs.Actions.{AreKept}
 use Rattle.pfc_sessions.specs.Runs.{IsPicked, step_of}
 use Rattle.pfc_sessions.specs.Stages as stages
 use Rattle.pfc_sessions.specs.Stages.{Stage, first_stage, behind_action, next_stage, stage_after}
 use Rattle.pfc_sessions.specs.Steps.{Step}
 use Rattle.pfc_run_agreement.specs.Agreement.{ActsAlike}
-use Rattle.pfc_simulation.specs.Reached.{TakeNumbers, at_first}
+use Rattle.pfc_simulation.specs.Reached.{RunKeepsToRules, at_first}
 use Rattle.pfc_simulation.proofs.Simulating.{Relates, acts_alike_so, goes, picks}
 use Rattle.pfc_source_runs.specs.Points.{Point, first_point, point_behind, by_process, next_point, point_after, Passes}
-use Rattle.pfc_arrivals.specs.Arrivals.{AreNumbered, IsNumbered}
+use Rattle.pfc_arrivals.specs.Arrivals.{AreNumbered, AreAllKept}
 
 -- The machine's stage is at the point: it agrees with the configuration, the same picks, and what was printed is the same.
 pub record IsAt (facts : Facts) (c : Config) (s : Stage) (t : Point) : Type 0 where
@@ -29,7 +28,7 @@ pub record IsAt (facts : Facts) (c : Config) (s : Stage) (t : Point) : Type 0 wh
   pub picks : s.picking ≡ t.picking
   pub printed : t.config.output ≡ c.output ++ s.printed
 
-module _ (facts : Facts) (c : Config) (kept : AreKept (λ level n. IsNumbered level)) (numbered : AreNumbered facts) (numbers : TakeNumbers (program_in facts) c) where
+module _ (facts : Facts) (c : Config) (kept : AreAllKept) (numbered : AreNumbered facts) (numbers : RunKeepsToRules (program_in facts) c) where
   abbrev image : PlainImage
   image = image_of facts.tree
 

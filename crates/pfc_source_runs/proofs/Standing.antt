@@ -15,7 +15,6 @@ use Rattle.pfc_machines.specs.declared.machine.Machine.{Machine}
 use Rattle.pfc_representation.specs.Levels.{Facts, program_in}
 use Rattle.pfc_representation.specs.Rooms.{process_count}
 use Rattle.pfc_representation.specs.Machines.{Represents, Agrees}
-use Rattle.pfc_representation.specs.Actions.{AreKept}
 use Rattle.pfc_sessions.specs.Courses as session
 use Rattle.pfc_sessions.specs.Courses.{IsCourse, on_the_way as broken_on_the_way, at_the_end as broken_at_the_end, refused as was_refused, worn_out as was_worn_out}
 use Rattle.pfc_sessions.specs.Runs.{Run, run_from}
@@ -23,7 +22,7 @@ use Rattle.pfc_sessions.specs.Stages as stages
 use Rattle.pfc_sessions.specs.Stages.{Stage, first_stage, stage_after}
 use Rattle.pfc_run_agreement.specs.Agreement.{AreRunsAlike}
 use Rattle.pfc_run_agreement.proofs.Agreeing.{same_runs}
-use Rattle.pfc_simulation.specs.Reached.{TakeNumbers}
+use Rattle.pfc_simulation.specs.Reached.{RunKeepsToRules}
 use Rattle.pfc_simulation.proofs.Simulating.{goes_on_agreeing}
 use Rattle.pfc_source_runs.specs.Points.{Point, first_point, point_after}
 use Rattle.pfc_source_runs.specs.Standing.{IsUntried, StandsFor, behind_action, settled, before_action, IsBrokenOff, IsCut, on_the_way, at_the_end, uncounted, IsWanting, refused, worn_out, NamesOneOf, IsAtEnd, IsStanding, StandsIn, passing, ended}
@@ -32,10 +31,10 @@ use Rattle.pfc_source_runs.proofs.Ending.{Ends, agreeing, uncounted as not_count
 use Rattle.pfc_source_runs.proofs.Turns.{ends_so}
 use Rattle.pfc_source_runs.proofs.Untried.{is_untried}
 use Rattle.pfc_source_runs.proofs.Ways.{way_to}
-use Rattle.pfc_arrivals.specs.Arrivals.{AreNumbered, IsNumbered}
+use Rattle.pfc_arrivals.specs.Arrivals.{AreNumbered, AreAllKept}
 
 module _
-    (facts : Facts) (c : Config) (kept : AreKept (λ level n. IsNumbered level)) (numbered : AreNumbered facts) (numbers : TakeNumbers (program_in facts) c) (limit : ℕ) (picking : Picking)
+    (facts : Facts) (c : Config) (kept : AreAllKept) (numbered : AreNumbered facts) (numbers : RunKeepsToRules (program_in facts) c) (limit : ℕ) (picking : Picking)
     (m : Machine) (is : Represents facts m c) (new : Machine) (before after : Option (List ℕ))
   where
     abbrev image : PlainImage

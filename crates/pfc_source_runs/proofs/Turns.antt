@@ -20,7 +20,6 @@ use Rattle.pfc_machine_acts.specs.Settling.{machine_settled}
 use Rattle.pfc_representation.specs.Levels.{Facts, program_in}
 use Rattle.pfc_representation.specs.Rooms.{process_count}
 use Rattle.pfc_representation.specs.Machines.{Agrees, Represents}
-use Rattle.pfc_representation.specs.Actions.{AreKept}
 use Rattle.pfc_settling_laws.proofs.Settled.{agrees_settled}
 use Rattle.pfc_arrivals.specs.Arrivals.{IsAboutToAct}
 use Rattle.pfc_sessions.specs.Runs.{Run, ending_at, is_worn_out, ended_with, behind_bytes, by_pick, unless_ended, unless_worn_out, unless_fault, behind_step, run_from, IsPicked, step_of}
@@ -29,14 +28,14 @@ use Rattle.pfc_sessions.specs.Steps.{FaultAt, Step}
 use Rattle.pfc_run_agreement.specs.Agreement.{fault_of, picking_behind, choices_of, ActsAlike}
 use Rattle.pfc_run_agreement.specs.Agreement as agreement
 use Rattle.pfc_run_agreement.proofs.Agreeing.{same_ending, settled_fault}
-use Rattle.pfc_simulation.specs.Reached.{TakeNumbers}
+use Rattle.pfc_simulation.specs.Reached.{RunKeepsToRules}
 use Rattle.pfc_simulation.proofs.Simulating.{Relates, agrees_then, agrees_here, acts_alike_so, agrees_behind, represents, about}
 use Rattle.pfc_source_runs.specs.Points.{Point, by_process, point_behind, next_point, point_after, Passes}
 use Rattle.pfc_source_runs.proofs.Coming.{IsAt, picks_so, passes_so, comes_so}
 use Rattle.pfc_source_runs.proofs.Ending.{Ends, agreeing, uncounted, along, plain_ending, plain_deadlock, plain_limit, plain_script, plain_fault, fault_process, faulty_run}
-use Rattle.pfc_arrivals.specs.Arrivals.{AreNumbered, IsNumbered}
+use Rattle.pfc_arrivals.specs.Arrivals.{AreNumbered, AreAllKept}
 
-module _ (facts : Facts) (kept : AreKept (λ level n. IsNumbered level)) (numbered : AreNumbered facts) (limit : ℕ) (first : Point) (numbers : TakeNumbers (program_in facts) first.config) where
+module _ (facts : Facts) (kept : AreAllKept) (numbered : AreNumbered facts) (limit : ℕ) (first : Point) (numbers : RunKeepsToRules (program_in facts) first.config) where
   abbrev image : PlainImage
   image = image_of facts.tree
 

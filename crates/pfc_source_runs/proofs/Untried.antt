@@ -13,19 +13,20 @@ use Rattle.pfc_machines.specs.Actions.{at_rest}
 use Rattle.pfc_machine_acts.specs.Settling.{machine_settled}
 use Rattle.pfc_representation.specs.Levels.{Facts, program_in}
 use Rattle.pfc_representation.specs.Machines.{Represents}
-use Rattle.pfc_representation.specs.Actions.{AreKept, IsKept}
+use Rattle.pfc_representation.specs.Actions.{IsKept}
+use Rattle.pfc_run_rules.specs.Rules.{KeepsToRules}
 use Rattle.pfc_arrivals.specs.Arrivals.{IsAboutToAct, ComesToAction}
 use Rattle.pfc_arrivals.proofs.Arriving.{comes_to_action}
 use Rattle.pfc_sessions.specs.Stages as stages
 use Rattle.pfc_sessions.specs.Stages.{Stage}
 use Rattle.pfc_sessions.specs.Steps.{begins, before_action}
-use Rattle.pfc_simulation.specs.Reached.{TakeNumbers}
+use Rattle.pfc_simulation.specs.Reached.{RunKeepsToRules}
 use Rattle.pfc_simulation.proofs.Simulating.{represents, about}
 use Rattle.pfc_simulation.proofs.Steps.{quiet_leads}
 use Rattle.pfc_source_runs.specs.Points.{Point}
 use Rattle.pfc_source_runs.specs.Standing.{IsUntried}
 use Rattle.pfc_source_runs.proofs.Coming.{IsAt, picks_so}
-use Rattle.pfc_arrivals.specs.Arrivals.{AreNumbered, IsNumbered}
+use Rattle.pfc_arrivals.specs.Arrivals.{AreNumbered, AreAllKept}
 use Rattle.pfc_arrivals.proofs.Picked.{numbered_at}
 use Rattle.pfc_arrivals.proofs.Standing.{has_setting}
 
@@ -35,7 +36,7 @@ first_choice (suc n) = grind arith
 
 -- ## Where quiet instructions lead
 
-module _ (facts : Facts) (kept : AreKept (λ level n. IsNumbered level)) (numbered : AreNumbered facts) (m : Machine) (c : Config) (p : ℕ) (come : ComesToAction facts m c p) where
+module _ (facts : Facts) (kept : AreAllKept) (numbered : AreNumbered facts) (m : Machine) (c : Config) (p : ℕ) (rules : KeepsToRules (program_in facts) c p) (come : ComesToAction facts m c p) where
   abbrev image : PlainImage
   image = image_of facts.tree
 
@@ -48,11 +49,11 @@ module _ (facts : Facts) (kept : AreKept (λ level n. IsNumbered level)) (number
       (record { run = come.run; few = come.few; is = k.is; can = k.can_step; no_move = k.no_move })
 
   stands_before : before_action image p m ≡ come.before
-  stands_before = stands_by (kept facts come.before c p 0 come.level next (numbered_at facts come.level numbered (has_setting facts come.before c p come.level come.acting)) come.acting come.arrived (first_choice (choices (program_in facts) c p next)))
+  stands_before = stands_by (kept facts come.before c p 0 come.level next (numbered_at facts come.level numbered (has_setting facts come.before c p come.level come.acting)) rules come.acting come.arrived (first_choice (choices (program_in facts) c p next)))
 
 -- ## At a stage
 
-module _ (facts : Facts) (c : Config) (kept : AreKept (λ level n. IsNumbered level)) (numbered : AreNumbered facts) (numbers : TakeNumbers (program_in facts) c) (s : Stage) (t : Point)
+module _ (facts : Facts) (c : Config) (kept : AreAllKept) (numbered : AreNumbered facts) (numbers : RunKeepsToRules (program_in facts) c) (s : Stage) (t : Point)
     (so : IsAt facts c s t) (new : Machine) (is : stages.IsUntried (image_of facts.tree) s new) where
   abbrev m : Machine
   m = machine_settled s.machine
@@ -74,7 +75,7 @@ module _ (facts : Facts) (c : Config) (kept : AreKept (λ level n. IsNumbered le
     before = come.before;
     acting = come.acting;
     arrived = come.arrived;
-    machine = is.machine ∙ ap at_rest (stands_before facts kept numbered m d is.process come);
+    machine = is.machine ∙ ap at_rest (stands_before facts kept numbered m d is.process ready.rules come);
   }
 
   pub is_untried : IsUntried facts new t

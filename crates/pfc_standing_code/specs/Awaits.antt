@@ -34,7 +34,7 @@ use Rattle.pfc_standing_code.specs.Shapes.{Shape, a_number, shape_of, shape_cell
 use Rattle.pfc_standing_code.specs.ValueTypes.{IsValueType}
 use Rattle.pfc_standing_code.specs.Settings.{Setting, of_own, InNoScan, AreOver, site_of, IsAt, Stands}
 use Rattle.pfc_standing_code.specs.Effects.{Arm}
-use Rattle.pfc_standing_code.specs.Typed.{IsArray, IsOfSub, TakesCells, LeavesCells, HasShape, AreSummands, AreMultipliers, HasShapeSimple, AreArguments, AreSelectors, AreIndices}
+use Rattle.pfc_standing_code.specs.Typed.{IsArray, ByName, InExpressions, FromOutside, ByRequeue, IsOfSub, TakesCells, LeavesCells, HasShape, AreSummands, AreMultipliers, HasShapeSimple, AreArguments, AreSelectors, AreIndices}
 use Rattle.pfc_standing_code.specs.TypedStatements.{IsTyped, IsChannel, IsCarried, IsMessage, IsReceiver, IsRank, HasProcessForm, IsProcessType}
 use Rattle.pfc_standing_code.specs.Words.{IsWord, IsPart, IsSimpleWord, IsObject, AreHeld}
 use Rattle.pfc_standing_code.specs.Performs.{ArmsAt, StmtThen, direction, BranchAt, SelectAt, CommAt, WayAt, own_block, behind_scan, own_again, IsOwnBar, Tries, IsCheckedFor, Clear, Alone, Performs}
@@ -303,21 +303,21 @@ abbrev mutual
   pub CallsAt : Setting → Block → Context → ℕ → List ℤ → List Arm → List Formal → Call → Type 0
   CallsAt g b x at ops arms formals (to_procedure scope k) =
       let s = site_of g b x in
-      Alone g arms (IsOfSub s scope formals × TakesCells s scope formals × LeavesCells s scope 0
+      Alone g arms (IsOfSub s scope formals ByName × TakesCells s scope formals × LeavesCells s scope 0
       × IsAt g at (CALL (block_number g.program scope) (links_to s (block_at g.program scope).outer)) x.line × Performs g b x.env (at + 1) ops [] k)
   CallsAt g b x at ops arms formals (to_function scope u) =
       let s = site_of g b x in
-      InNoScan g (IsOfSub s scope formals × TakesCells s scope formals × LeavesCells s scope 1
+      InNoScan g (IsOfSub s scope formals InExpressions × TakesCells s scope formals × LeavesCells s scope 1
       × IsAt g at (CALL (block_number g.program scope) (links_to s (block_at g.program scope).outer)) x.line
       × (suc (length ops) ≤ g.room) × TakesValue g b x (at + 1) ops arms a_number u)
   CallsAt g b x at ops arms formals (to_module n scope k) =
       let s = site_of g b x in
-      Alone g arms (IsOfSub s scope formals × TakesCells s scope formals
+      Alone g arms (IsOfSub s scope formals (FromOutside (blocks_of s) n) × TakesCells s scope formals
       × IsAt g at (enter_instr (module_at (blocks_of s) n).resource (module_number (blocks_of s) n) (block_number g.program scope)) x.line
       × Performs g b x.env (at + 1) ops [] k)
   CallsAt g b x at ops arms formals (to_requeue scope) =
       let s = site_of g b x in
-      Alone g arms (AreOver g ops × IsOfSub s scope formals × TakesCells s scope formals
+      Alone g arms (AreOver g ops × IsOfSub s scope formals (ByRequeue b) × TakesCells s scope formals
       × IsAt g at (REQ (resource_of s) (block_number g.program scope)) x.line)
   CallsAt g b x at ops arms formals (to_process v k) =
       let s = site_of g b x in

@@ -7,8 +7,9 @@ use Rattle.pfc_tree.specs.Symbols.{Text}
 use Rattle.pfc_tree.specs.trees.Exprs.{ExprTree, SimpleTree, SummandTrees, TermTree, MultiplierTrees, FactorTree, DesigTree, SelectorTrees, ExprTrees, ActualTree, ActualTrees, plain, related, sum, no_summands, more_summands, product, no_multipliers, more_multipliers, number, literal, negation, paren, applied as used, desig, index, field, no_selectors, more_selectors, no_exprs, more_exprs, actual, actual_width, no_actuals, more_actuals}
 use Rattle.pfc_types.specs.Types.{Forms, condition, form_of}
 use Rattle.pfc_types.specs.Fields.{FieldList, type_named, position_of}
-use Rattle.pfc_types.specs.Scopes.{Level, meaning_of, scope_at}
-use Rattle.pfc_types.specs.Blocks.{sub_at}
+use Rattle.pfc_types.specs.Scopes.{Level, meaning_of, meaning_in, scope_at}
+use Rattle.pfc_types.specs.Blocks.{Blocks, sub_at, module_at}
+use Rattle.pfc_types.specs.rules.Routines.{is_function_sort}
 use Rattle.pfc_types.specs.rules.Expressions.{find, guard_allows, selected, field_type}
 use Rattle.pfc_types.specs.declared.types.TypeId.{TypeId}
 use Rattle.pfc_types.specs.declared.types.TypeForm.TheVariants.{Array, Record}
@@ -16,12 +17,14 @@ use Rattle.pfc_types.specs.declared.scope.Meaning.{Meaning}
 use Rattle.pfc_types.specs.declared.scope.Meaning.TheVariants.{Constant, Variable, Sub, Predeclared}
 use Rattle.pfc_types.specs.declared.heads.Formal.{Formal}
 use Rattle.pfc_types.specs.declared.heads.SubHead.{SubHead}
+use Rattle.pfc_types.specs.declared.heads.SubSort.{SubSort}
+use Rattle.pfc_types.specs.declared.heads.SubSort.TheVariants.{Procedure, Guarded}
 use Rattle.pfc_semantics.specs.Layouts.{is_laid, laid_names, sub_with}
 use Rattle.pfc_semantics.specs.Displays.{Spot, TypedSpot}
 use Rattle.pfc_semantics.specs.Predeclared.{Function, eof, eoln, empty, clock, no_function, function_of}
-use Rattle.pfc_semantics.specs.Programs.{block_number}
+use Rattle.pfc_semantics.specs.Programs.{Block, block_number}
 use Rattle.pfc_semantics.specs.Expressions.{spot_of}
-use Rattle.pfc_translation.specs.Sites.{Site, at_line, forms_of, blocks_of, is_mains, layout_with, place_of}
+use Rattle.pfc_translation.specs.Sites.{Site, at_line, forms_of, blocks_of, is_mains, is_accept, layout_with, place_of}
 use Rattle.pfc_translation.specs.Addresses.{element_in, type_behind}
 use Rattle.pfc_translation.specs.Calls.{formals_cells}
 use Rattle.pfc_translation.specs.Operands.{arguments, results}
@@ -38,6 +41,10 @@ is_seen s i = is_mains (blocks_of s) i || list_any (λ (level : Level). level.sc
 -- the line of a place does not matter to its variables
 abbrev pub unlined : Site → Site
 unlined s = at_line s 0
+
+-- the scope is one in view in the body of the block or that of an accept in it, or its variables are main's
+abbrev pub is_in_block : Site → ℕ → Bool
+is_in_block s i = is_mains (blocks_of s) i || (list_any (λ (level : Level). level.scope == i) s.block.env.view || is_accept s.block i)
 
 abbrev pub variables_by : Site → ℕ → Option SubHead → ℕ
 variables_by s i (Some head) = length (layout_with s i)
@@ -102,16 +109,39 @@ TakesCells s scope formals = arguments s.program (block_number s.program scope) 
 abbrev pub LeavesCells : Site → ℕ → ℕ → Type 0
 LeavesCells s scope left = results s.program (block_number s.program scope) ≡ left
 
--- a sub of the program has this scope and these parameters
-pub record IsOfSub (s : Site) (scope : ℕ) (formals : List Formal) : Type 0 where
+-- What is asked of a sub, by the way in which it is called: of the scope in which it is declared, and of its sort. A guarded procedure is called from outside
+-- its resource, and inside it is named by `requeue` alone, in the body of such a procedure and in view there.
+abbrev pub ByName : ℕ → SubSort → Type 0
+ByName i sort = sort ≡ Procedure
+
+abbrev pub InExpressions : ℕ → SubSort → Type 0
+InExpressions i sort = is_function_sort sort ≡ true
+
+abbrev pub FromOutside : Blocks → ℕ → ℕ → SubSort → Type 0
+FromOutside blocks n i sort = (n < length blocks.modules) × (i ≡ (module_at blocks n).scope) × (is_function_sort sort ≡ false)
+
+-- the scope is in view in the body of the block, or that of an accept in it
+abbrev pub is_near : Block → ℕ → Bool
+is_near b i = list_any (λ (level : Level). level.scope == i) b.env.view || is_accept b i
+
+abbrev pub ByRequeue : Block → ℕ → SubSort → Type 0
+ByRequeue b i sort = (sort ≡ Guarded) × (b.env.around.guarded ≡ true) × (is_near b i ≡ true)
+
+-- A sub of the program has this scope and these parameters. It is declared in a scope in view in the block or in one of main's, and is as is asked.
+pub record IsOfSub (s : Site) (scope : ℕ) (formals : List Formal) (asked : ℕ → SubSort → Type 0) : Type 0 where
   pub number : ℕ
   pub among : number < length (blocks_of s).subs
   pub own_scope : scope ≡ (sub_at (blocks_of s) number).scope
   pub own_formals : formals ≡ (sub_at (blocks_of s) number).formals
+  pub within : ℕ
+  pub name : Text
+  pub declared : meaning_in (scope_at (blocks_of s).scopes within) name ≡ Some (Sub number)
+  pub seen : is_in_block s within ≡ true
+  pub as_asked : asked within (sub_at (blocks_of s) number).sort
 
--- a sub that is called where it stands in view, and leaves so many operands
-pub record IsSub (s : Site) (head : SubHead) (left : ℕ) : Type 0 where
-  pub headed : IsOfSub s head.scope head.formals
+-- a sub that is called, and leaves so many operands
+pub record IsSub (s : Site) (head : SubHead) (left : ℕ) (asked : ℕ → SubSort → Type 0) : Type 0 where
+  pub headed : IsOfSub s head.scope head.formals asked
   pub taken : TakesCells s head.scope head.formals
   pub leaves : LeavesCells s head.scope left
 
@@ -141,7 +171,7 @@ IsUse s (Some (Constant t n)) h declared leads ss args function = h ≡ a_number
 IsUse s (Some (Variable t reference)) h declared leads ss args function =
     (u : TypeId) × declared × leads (Some u) × (selected s.env (Some t) ss ≡ Some u) × (h ≡ shape_of u)
 IsUse s (Some (Sub n)) h declared leads ss args function =
-    (h ≡ a_number) × IsSub s (sub_at (blocks_of s) n) 1 × args (sub_at (blocks_of s) n).formals
+    (h ≡ a_number) × IsSub s (sub_at (blocks_of s) n) 1 InExpressions × args (sub_at (blocks_of s) n).formals
 IsUse s (Some (Predeclared k)) h declared leads ss args function = function (function_of k)
 IsUse s m h declared leads ss args function = ⊥
 

@@ -17,6 +17,7 @@ use Rattle.pfc_types.specs.rules.Statements.{scopes_in, arm_scopes, comm_scopes,
 use Rattle.pfc_types.specs.declared.types.TypeId.{TypeId}
 use Rattle.pfc_types.specs.declared.types.TypeForm.TheVariants.{Channel}
 use Rattle.pfc_types.specs.declared.heads.Formal.{Formal}
+use Rattle.pfc_types.specs.declared.heads.SubSort.{SubSort}
 use Rattle.pfc_types.specs.declared.scope.Meaning.{Meaning}
 use Rattle.pfc_types.specs.declared.scope.Meaning.TheVariants.{Variable, Sub, Module, Process, Entry, Predeclared}
 use Rattle.pfc_semantics.specs.Displays.{Spot, TypedSpot}
@@ -29,7 +30,7 @@ use Rattle.pfc_translation.specs.Sites.{Site, at_line, in_accept, context_of, fo
 use Rattle.pfc_translation.specs.Selects.{message_cells, receiver_cells}
 use Rattle.pfc_standing_code.specs.Shapes.{a_number, shape_of, shape_cells}
 use Rattle.pfc_standing_code.specs.ValueTypes.{IsValueType}
-use Rattle.pfc_standing_code.specs.Typed.{StandsAt, IsDeclared, TakesCells, IsSub, HasShape, IsGivenFirst, IsLentFirst, AreArguments, IsPartOf, IsDesig}
+use Rattle.pfc_standing_code.specs.Typed.{StandsAt, IsDeclared, TakesCells, ByName, FromOutside, ByRequeue, IsSub, HasShape, IsGivenFirst, IsLentFirst, AreArguments, IsPartOf, IsDesig}
 
 -- a variable of a simple type that is named alone
 abbrev pub IsSimpleVariable : Site → Spot → Type 0
@@ -174,21 +175,22 @@ abbrev pub IsCalledProcess : Site → ℕ → TypedSpot → Option (Text × Plac
 IsCalledProcess s n v None args = IsActivation s n v no_selectors args
 IsCalledProcess s n v (Some x) args = IsEntry s n v no_selectors (name_in_process (blocks_of s) n x.0) args
 
-abbrev pub IsSubCall : Site → ℕ → ActualTrees → Type 0
-IsSubCall s n args = let head = sub_at (blocks_of s) n in IsSub s head 0 × AreArguments s head.formals args
+abbrev pub IsSubCall : Site → (ℕ → SubSort → Type 0) → ℕ → ActualTrees → Type 0
+IsSubCall s asked n args = let head = sub_at (blocks_of s) n in IsSub s head 0 asked × AreArguments s head.formals args
 
-abbrev pub IsExported : Site → Option Meaning → ActualTrees → Type 0
-IsExported s (Some (Sub p)) args = IsSubCall s p args
-IsExported s m args = ⊥
+-- a name among those of the n-th module is that of a procedure
+abbrev pub IsExported : Site → ℕ → Option Meaning → ActualTrees → Type 0
+IsExported s n (Some (Sub p)) args = IsSubCall s (FromOutside (blocks_of s) n) p args
+IsExported s n m args = ⊥
 
 abbrev pub IsModuleCall : Site → ℕ → Option (Text × Place) → ActualTrees → Type 0
 IsModuleCall s n None args = ⊥
-IsModuleCall s n (Some x) args = IsExported s (meaning_in (scope_at (blocks_of s).scopes (module_at (blocks_of s) n).scope) x.0) args
+IsModuleCall s n (Some x) args = IsExported s n (meaning_in (scope_at (blocks_of s).scopes (module_at (blocks_of s) n).scope) x.0) args
 
 -- a name that is called as a statement; a variable's part has the type of its declaration
 abbrev pub IsCalled : Site → Option Meaning → TypedSpot → SelectorTrees → ActualTrees → Type 0
 IsCalled s (Some (Predeclared n)) v ss args = IsProcedure s (procedure_of n) args
-IsCalled s (Some (Sub n)) v ss args = IsSubCall s n args
+IsCalled s (Some (Sub n)) v ss args = IsSubCall s ByName n args
 IsCalled s (Some (Module n)) v ss args = IsModuleCall s n (last_field ss) args
 IsCalled s (Some (Process n)) v ss args = IsCalledProcess s n v (last_field ss) args
 IsCalled s (Some (Variable t reference)) v ss args = (v.t ≡ Some t) × IsCalledVariable s v ss (last_field ss) args
@@ -198,7 +200,7 @@ abbrev pub IsCall : Site → DesigTree → ActualTrees → Type 0
 IsCall s (desig x ss p) args = IsCalled s (meaning_of (find s.env x)) (spot_of s.env (find s.env x)) ss args
 
 abbrev pub IsRequeue : Site → Option Meaning → ActualTrees → Type 0
-IsRequeue s (Some (Sub n)) args = IsSubCall s n args
+IsRequeue s (Some (Sub n)) args = IsSubCall s (ByRequeue s.block) n args
 IsRequeue s m args = ⊥
 
 -- ## Statements

@@ -26,9 +26,9 @@ use Rattle.pfc_semantics.specs.Programs.{Block, Program}
 use Rattle.pfc_semantics.specs.Expressions.{spot_of}
 use Rattle.pfc_translation.specs.Sites.{Site, forms_of}
 use Rattle.pfc_standing_code.specs.Shapes.{Shape, a_number, shape_of}
-use Rattle.pfc_standing_code.specs.Typed.{IsDeclared, LeavesCells, IsSub, Either, IsFunction, IsUse, IsGiven, IsGivenFirst, IsLent, IsLentFirst, AreArguments, AreSelectors}
+use Rattle.pfc_standing_code.specs.Typed.{IsDeclared, LeavesCells, InExpressions, IsOfSub, IsSub, Either, IsFunction, IsUse, IsGiven, IsGivenFirst, IsLent, IsLentFirst, AreArguments, AreSelectors}
 use Rattle.pfc_name_laws.specs.Reached.{GivesSimple}
-use Rattle.pfc_typed_phrases.specs.Names.{left_behind, IsWhole, AreKnown}
+use Rattle.pfc_typed_phrases.specs.Names.{left_behind, IsNamedSub, IsWhole, AreKnown}
 use Rattle.pfc_typed_phrases.specs.Phrases.{IsWanted, AreWanted, IsAsked, AreAsked}
 use Rattle.pfc_typed_phrases.proofs.Rules.{holds, never, where_true, simple_shape, both}
 use Rattle.pfc_standing_code.specs.ValueTypes.{IsValueType}
@@ -215,22 +215,43 @@ routine_called s args p r f of_condition is fit count actuals stands =
     (boolean, called_type _ (Some boolean) boolean (both _ _ a.1 (site_holds s in_monitor_sub (first_type s.env args) p stands)) refl, (refl, first_lent s args [] a.0))
 routine_called s args p r f (no_pair other) is fit count actuals stands = never (sym other ∙ is)
 
+-- a sub in view is as is asked of it
+pub of_named : (s : Site) (head : SubHead) (asked : ℕ → SubSort → Type 0) (named : IsNamedSub s head) → asked named.within head.sort
+    → IsOfSub s head.scope head.formals asked
+of_named s head asked named h =
+    record {
+      number = named.number;
+      among = named.among;
+      own_scope = ap (λ (x : SubHead). x.scope) named.is;
+      own_formals = ap (λ (x : SubHead). x.formals) named.is;
+      within = named.within;
+      name = named.name;
+      declared = named.declared;
+      seen = named.seen;
+      as_asked = subst (λ (x : SubHead). asked named.within x.sort) named.is h;
+    }
+
 sub_called :
     (s : Site) (args : ActualTrees) (p : Place) (head : SubHead) → IsWhole s head → is_function_sort head.sort ≡ true → Fit s args
     → clean (count_rule (called_sort head.sort head.formals) args p) ≡ true
     → clean (broken_actuals s.env None (called_sort head.sort head.formals).known (called_sort head.sort head.formals).wants args) ≡ true
-    → Called s (called_sort head.sort head.formals) (sort_value head.sort) args (λ h. (h ≡ a_number) × IsSub s head 1 × AreArguments s head.formals args)
+    → Called s (called_sort head.sort head.formals) (sort_value head.sort) args
+    (λ h. (h ≡ a_number) × IsSub s head 1 InExpressions × AreArguments s head.formals args)
 sub_called s args p head whole is fit count actuals = by head.sort is whole.block.gives whole.block.leaves count actuals
   where
+    called : LeavesCells s head.scope 1 → IsSub s head 1 InExpressions
+    called leaves = record { headed = of_named s head InExpressions whole.block.named is; taken = whole.block.taken; leaves = leaves }
+
     by : (sort : SubSort) → is_function_sort sort ≡ true → GivesSimple sort → LeavesCells s head.scope (left_behind sort)
         → clean (count_rule (called_sort sort head.formals) args p) ≡ true
         → clean (broken_actuals s.env None (called_sort sort head.formals).known (called_sort sort head.formals).wants args) ≡ true
-        → Called s (called_sort sort head.formals) (sort_value sort) args (λ h. (h ≡ a_number) × IsSub s head 1 × AreArguments s head.formals args)
+        → Called s (called_sort sort head.formals) (sort_value sort) args
+        (λ h. (h ≡ a_number) × IsSub s head 1 InExpressions × AreArguments s head.formals args)
     by Procedure is value leaves count actuals = never is
     by Guarded is value leaves count actuals = never is
     by (Function t) is value leaves count actuals =
         let a = fit (wants_for head.formals) (asked_formals head.formals whole.formals) (holds _ p 316 count) actuals in
-        (value.0, called_type _ t value.0 (both _ _ a.1 refl) value.1, (simple_shape value.0 value.2, record { headed = whole.block.headed; taken = whole.block.taken; leaves = leaves }, wanted_arguments s head.formals args a.0))
+        (value.0, called_type _ t value.0 (both _ _ a.1 refl) value.1, (simple_shape value.0 value.2, called leaves, wanted_arguments s head.formals args a.0))
 
 -- ## A name
 

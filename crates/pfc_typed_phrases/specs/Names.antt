@@ -1,8 +1,8 @@
 -- What the names in view at a site stand for, in a program in which no static rule is broken.
-use Rattle.std.specs.Prelude.{ℕ, ◌≡◌, ◌≢◌, ℤ, Bool, true, Some}
+use Rattle.std.specs.Prelude.{ℕ, ◌<◌, ◌≡◌, ◌≢◌, ℤ, Bool, true, length, Some}
 use Rattle.pfc_tree.specs.Symbols.{Text}
 use Rattle.pfc_types.specs.Types.{form_of, is_simple, has_bounds}
-use Rattle.pfc_types.specs.Scopes.{meaning_of}
+use Rattle.pfc_types.specs.Scopes.{meaning_of, meaning_in, scope_at}
 use Rattle.pfc_types.specs.Blocks.{sub_at}
 use Rattle.pfc_types.specs.rules.Expressions.{find}
 use Rattle.pfc_types.specs.rules.FaultyNames.{all_typed}
@@ -15,7 +15,7 @@ use Rattle.pfc_types.specs.declared.heads.SubSort.TheVariants.{Function}
 use Rattle.pfc_name_laws.specs.Reached.{GivesSimple}
 use Rattle.pfc_semantics.specs.Expressions.{spot_of}
 use Rattle.pfc_translation.specs.Sites.{Site, forms_of, blocks_of}
-use Rattle.pfc_standing_code.specs.Typed.{StandsAt, IsDeclared, IsOfSub, TakesCells, LeavesCells}
+use Rattle.pfc_standing_code.specs.Typed.{StandsAt, IsDeclared, is_in_block, TakesCells, LeavesCells}
 use Rattle.pfc_type_laws.specs.Tables.{IsOfVariables, IsBuiltUp}
 
 -- how many operands a call leaves
@@ -23,9 +23,19 @@ abbrev pub left_behind : SubSort → ℕ
 left_behind (Function t) = 1
 left_behind sort = 0
 
+-- The heading is that of a sub of the program, whose name stands in a scope that is in view in the block, or in one of main's.
+pub record IsNamedSub (s : Site) (head : SubHead) : Type 0 where
+  pub number : ℕ
+  pub among : number < length (blocks_of s).subs
+  pub is : head ≡ sub_at (blocks_of s) number
+  pub within : ℕ
+  pub name : Text
+  pub declared : meaning_in (scope_at (blocks_of s).scopes within) name ≡ Some (Sub number)
+  pub seen : is_in_block s within ≡ true
+
 -- The block of a sub of the program takes the cells of its parameters, and leaves a function's value, which is of a simple type.
 pub record HasBlock (s : Site) (head : SubHead) : Type 0 where
-  pub headed : IsOfSub s head.scope head.formals
+  pub named : IsNamedSub s head
   pub gives : GivesSimple head.sort
   pub taken : TakesCells s head.scope head.formals
   pub leaves : LeavesCells s head.scope (left_behind head.sort)

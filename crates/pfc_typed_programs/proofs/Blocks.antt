@@ -51,7 +51,7 @@ use Rattle.pfc_typed_programs.proofs.Trees.{IsMade, scopes_of, blocks_made, part
 pub each_of : {X : Type 0} (P : X → Type 0) (xs : List X) (k : ℕ) (x : X) → All P xs → slice_get xs k ≡ Some x → P x
 each_of P xs k x h e = subst P (get_or_from_slice_get xs k x x e) (h k x (slice_get_within xs k x e))
 
-among_mapped : {X : Type 0} (f : X → ℕ) (xs : List X) (n : ℕ) (d : X) → n < length xs → among (f (get_or xs n d)) (map f xs) ≡ true
+pub among_mapped : {X : Type 0} (f : X → ℕ) (xs : List X) (n : ℕ) (d : X) → n < length xs → among (f (get_or xs n d)) (map f xs) ≡ true
 among_mapped f [] n d below = absurd (omega (arith, below))
 among_mapped f (x ∷ xs) zero d below = ap (λ (r : Bool). r || among (f x) (map f xs)) (same_number (f x))
 among_mapped f (x ∷ xs) (suc n) d below = later (f x == f (get_or xs n d)) (among_mapped f xs n d (omega (arith, below)))
@@ -107,7 +107,7 @@ left_same head = by head.sort
     by (Function t) = refl
 
 -- each process has a scope of its own
-process_own :
+pub process_own :
     (heads : List ProcessHead) (n : ℕ)
     → ((m k : ℕ) → m < k → k < length heads → (get_or heads m no_process).scope < (get_or heads k no_process).scope) → n < length heads
     → process_with heads (get_or heads n no_process).scope ≡ Some (get_or heads n no_process)

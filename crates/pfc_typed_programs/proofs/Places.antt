@@ -1,7 +1,7 @@
 -- What is in view at each place of a body is known.
-use Rattle.std.proofs.Common.{◌≡◌, ℕ, ◌+◌, ◌<◌, ◌≤◌, ◌==◌, ◌||◌, ◌⊎◌, inl, inr, Bool, true, false, nat_lt, List, [], ◌∷◌, length, get_or, slice_get, if◌then◌else◌, Option, Some, None, refl, ap, sym, ◌∙◌, subst, arith}
+use Rattle.std.proofs.Common.{◌≡◌, ℕ, ◌+◌, ◌<◌, ◌≤◌, ◌==◌, ◌||◌, ◌⊎◌, inl, inr, Bool, true, false, nat_lt, List, [], ◌∷◌, length, get_or, slice_get, if◌then◌else◌, Option, Some, None, option_map, is_some, refl, ap, sym, ◌∙◌, subst, arith}
 use Rattle.std.specs.List.{list_any}
-use Rattle.std.specs.Option.{IfSome}
+use Rattle.std.specs.Option.{IfSome, option_or}
 use Rattle.std.proofs.lemmas.Bool.Decides.{nat_tests}
 use Rattle.std.proofs.lemmas.Option.{slice_get_within}
 use Rattle.pfc_tree.specs.Symbols.{Text}
@@ -9,26 +9,27 @@ use Rattle.pfc_tree.specs.trees.Parts.{ProgramTree}
 use Rattle.pfc_tree.specs.forget.Parts.{forget_program}
 use Rattle.pfc_tree.specs.lawful.Parts.{IsLawful}
 use Rattle.pfc_types.specs.Types.{cells_in}
-use Rattle.pfc_types.specs.Scopes.{Level, here, scope_at, meaning_in, meaning_of, found_in}
-use Rattle.pfc_types.specs.Blocks.{Blocks, State, sub_at, process_at, entry_at}
+use Rattle.pfc_types.specs.Scopes.{Names, Level, here, scope_at, meaning_in, position_in, within, predeclared_names, meaning_of, found_in}
+use Rattle.pfc_types.specs.Blocks.{Blocks, State, no_module, sub_at, module_at, process_at, entry_at}
 use Rattle.pfc_types.specs.declared.types.TypeId.{TypeId}
 use Rattle.pfc_types.specs.declared.heads.Formal.{Formal}
 use Rattle.pfc_types.specs.declared.heads.SubHead.{SubHead}
+use Rattle.pfc_types.specs.declared.heads.ModuleHead.{ModuleHead}
 use Rattle.pfc_types.specs.declared.heads.SubSort.{SubSort}
 use Rattle.pfc_types.specs.declared.heads.SubSort.TheVariants.{Procedure, Guarded, Function}
 use Rattle.pfc_types.specs.declared.scope.Meaning.{Meaning}
-use Rattle.pfc_types.specs.declared.scope.Meaning.TheVariants.{Variable, Sub, Process}
+use Rattle.pfc_types.specs.declared.scope.Meaning.TheVariants.{Variable, Sub, Module, Process}
 use Rattle.pfc_types.specs.declared.view.Found.{Found}
 use Rattle.pfc_types.specs.declared.view.Around.{Around}
 use Rattle.pfc_types.specs.rules.FaultyNames.{all_typed}
-use Rattle.pfc_types.specs.rules.Routines.{sort_value}
+use Rattle.pfc_types.specs.rules.Routines.{sort_value, is_function_sort}
 use Rattle.pfc_types.specs.rules.Statements.{is_around}
 use Rattle.pfc_types.specs.rules.Whole.{finished, broken}
 use Rattle.pfc_semantics.specs.Layouts.{Layout, is_laid, sub_with, variable_place, sub_layout}
 use Rattle.pfc_semantics.specs.Displays.{Spot, TypedSpot}
 use Rattle.pfc_semantics.specs.Expressions.{spot_of, found_spot, named_spot, result_spot}
 use Rattle.pfc_semantics.specs.Programs.{Block, Program, Guard, block_at, program_of}
-use Rattle.pfc_translation.specs.Sites.{Site, at_line, in_accept, is_mains, is_accept, before_accept, layout_with, place_of}
+use Rattle.pfc_translation.specs.Sites.{Site, at_line, in_accept, module_of, is_mains, is_accept, before_accept, layout_with, place_of}
 use Rattle.pfc_translation.specs.Images.{site_in}
 use Rattle.pfc_name_laws.specs.Reached.{is_function}
 use Rattle.pfc_name_laws.proofs.Numbers.{get_or-beyond, meaning_numbered, none_noted}
@@ -37,15 +38,15 @@ use Rattle.pfc_image_numbers.proofs.Known.{Stands, stands as named_stands, found
 use Rattle.pfc_image_cells.proofs.Subs.{program_named}
 use Rattle.pfc_image_cells.proofs.Layouts.{IsAt, get_there, found_place}
 use Rattle.pfc_image_cells.proofs.Formals.{result_stands}
-use Rattle.pfc_image_cells.proofs.Trees.{equal_number, Fine, Placed, mains_hold, own_sub}
-use Rattle.pfc_standing_code.specs.Typed.{unlined, variables_by, variables_of, StandsAt, IsDeclared}
-use Rattle.pfc_typed_phrases.specs.Names.{left_behind, HasBlock, IsLaid, HavePlaces, AreKnown}
+use Rattle.pfc_image_cells.proofs.Trees.{equal_number, mains_are, Fine, Placed, mains_hold, own_sub}
+use Rattle.pfc_standing_code.specs.Typed.{unlined, is_near, variables_by, variables_of, StandsAt, IsDeclared}
+use Rattle.pfc_typed_phrases.specs.Names.{left_behind, IsNamedSub, HasBlock, IsLaid, HavePlaces, AreKnown}
 use Rattle.pfc_typed_phrases.proofs.Seen.{or_last, own_variable}
 use Rattle.pfc_typed_phrases.proofs.Known.{names_known}
 use Rattle.pfc_typed_statements.specs.Reached.{AreReached, AreCallable, IsStarted, IsSingle, IsOpen, HaveResults, HaveStarts}
 use Rattle.pfc_typed_statements.proofs.Reached.{reached_known, callable_known}
 use Rattle.pfc_typed_structures.specs.Inside.{in_cobegin, IsInside, itself, lined, accepted, begun, AreMet}
-use Rattle.pfc_typed_programs.proofs.Blocks.{headed, known, sub_apart, sub_laid, sub_takes, sub_leaves, process_takes}
+use Rattle.pfc_typed_programs.proofs.Blocks.{among_mapped, headed, known, sub_apart, sub_laid, sub_takes, sub_leaves, process_takes}
 
 -- ## Views
 
@@ -65,6 +66,78 @@ any_sees (l ∷ v) i e = by (l.scope == i) e (λ q. any_sees v i q)
         → (r || list_any (λ (level : Level). level.scope == i) v) ≡ true
     by true q rest = refl
     by false q rest = rest q
+
+no_function : (sort : SubSort) → is_function sort ≡ false → is_function_sort sort ≡ false
+no_function Procedure e = refl
+no_function Guarded e = refl
+no_function (Function t) e = absurd (cc)
+
+or_first : (a b : Bool) → a ≡ true → (a || b) ≡ true
+or_first true b e = refl
+or_first false b e = absurd (cc)
+
+-- what a name that was found in a scope stands for there
+found_meaning : (scopes : List Names) (v : List Level) (x : Text) (f : Found) (i : ℕ) → found_in scopes v x ≡ Some f → f.scope ≡ Some i
+    → meaning_in (scope_at scopes i) x ≡ Some f.meaning
+found_meaning scopes [] x f i e at = by (meaning_in predeclared_names x) e
+  where
+    scope_in : Option Found → Option ℕ
+    scope_in None = None
+    scope_in (Some g) = g.scope
+
+    by : (m : Option Meaning) → option_map (λ m. record { scope = None; place = 0; meaning = m }) m ≡ Some f
+        → meaning_in (scope_at scopes i) x ≡ Some f.meaning
+    by None q = absurd (cc)
+    by (Some m) q = let none : None ≡ f.scope = ap (λ (o : Option Found). scope_in o) q in let both = none ∙ at in absurd (cc)
+found_meaning scopes (l ∷ v) x f i e at =
+    by (position_in (scope_at scopes l.scope) x) (meaning_in (scope_at scopes l.scope) x) refl e (λ q. found_meaning scopes v x f i q at)
+  where
+    found_or : Option Found → Found
+    found_or None = f
+    found_or (Some g) = g
+
+    number_in : Option ℕ → ℕ
+    number_in None = 0
+    number_in (Some n) = n
+
+    here_is : (k : ℕ) (m : Meaning) → meaning_in (scope_at scopes l.scope) x ≡ Some m
+        → Some (record { scope = Some l.scope; place = k; meaning = m }) ≡ Some f → meaning_in (scope_at scopes i) x ≡ Some f.meaning
+    here_is k m q e =
+        let same : record { scope = Some l.scope; place = k; meaning = m } ≡ f = ap (λ (o : Option Found). found_or o) e in
+        let number : l.scope ≡ i = ap (λ (o : Option ℕ). number_in o) (ap (λ (g : Found). g.scope) same ∙ at) in
+        subst (λ (j : ℕ). meaning_in (scope_at scopes j) x ≡ Some f.meaning) number (q ∙ ap (λ (g : Found). Some g.meaning) same)
+
+    by : (k : Option ℕ) (m : Option Meaning) → meaning_in (scope_at scopes l.scope) x ≡ m → option_or (within l k m) (found_in scopes v x) ≡ Some f
+        → (found_in scopes v x ≡ Some f → meaning_in (scope_at scopes i) x ≡ Some f.meaning) → meaning_in (scope_at scopes i) x ≡ Some f.meaning
+    by None None q e rest = rest e
+    by None (Some m) q e rest = rest e
+    by (Some k) None q e rest = rest e
+    by (Some k) (Some m) q e rest = inside (nat_lt k l.count) e
+      where
+        inside : (r : Bool)
+            → option_or (if r then Some (record { scope = Some l.scope; place = k; meaning = m }) else None) (found_in scopes v x) ≡ Some f
+            → meaning_in (scope_at scopes i) x ≡ Some f.meaning
+        inside true e = here_is k m q e
+        inside false e = rest e
+
+-- The scope of a module is one of main's. Where there is none with this number the scope is the program's.
+module_mains : (b : Blocks) (k : ℕ) → is_mains b (module_at b k).scope ≡ true
+module_mains b k = by (nat_lt k (length b.modules)) refl
+  where
+    i : ℕ
+    i = (module_at b k).scope
+
+    of_module : k < length b.modules → (r : Bool) → (i == 0) ≡ r → is_mains b i ≡ true
+    of_module below true e = or_first (i == 0) (is_some (module_of b i)) e
+    of_module below false e =
+        let some : 0 < i = grind (arith, nat_tests) in
+        mains_are b i some ∙ among_mapped (λ (m : ModuleHead). m.scope) b.modules k no_module below
+
+    by : (r : Bool) → nat_lt k (length b.modules) ≡ r → is_mains b i ≡ true
+    by true e = let below : k < length b.modules = grind (arith, nat_tests) in of_module below (i == 0) refl
+    by false e =
+        let beyond : length b.modules ≤ k = grind (arith, nat_tests) in
+        subst (λ (m : ModuleHead). is_mains b m.scope ≡ true) (sym (get_or-beyond b.modules k no_module beyond)) refl
 
 plain_leaves : (sort : SubSort) → is_function sort ≡ false → left_behind sort ≡ 0
 plain_leaves Procedure e = refl
@@ -176,17 +249,64 @@ module _ (t : ProgramTree) (lawful : IsLawful (forget_program t)) (clean : broke
             let is : f.meaning ≡ Sub n = cc in
             of_scope f.scope (subst (λ (m : Meaning). Stands bs f.scope m) is (named_stands (finished t) (known t lawful clean) v x f h))
 
-    has_block : (v : List Level) (a : Around) (l n : ℕ) → n < length bs.subs → HasBlock (at (finished t) v a l) (sub_at bs n)
-    has_block v a l n below =
+    module_found : (v : List Level) (x : Text) (n : ℕ) → meaning_of (found_in bs.scopes v x) ≡ Some (Module n) → n < length bs.modules
+    module_found v x n e = by (found_in bs.scopes v x) refl e
+      where
+        of_scope : (o : Option ℕ) → Stands bs o (Module n) → n < length bs.modules
+        of_scope None h = absurd h
+        of_scope (Some i) h = h
+
+        by : (o : Option Found) → found_in bs.scopes v x ≡ o → meaning_of o ≡ Some (Module n) → n < length bs.modules
+        by None h e = absurd (cc)
+        by (Some f) h e =
+            let is : f.meaning ≡ Module n = cc in
+            of_scope f.scope (subst (λ (m : Meaning). Stands bs f.scope m) is (named_stands (finished t) (known t lawful clean) v x f h))
+
+    -- it stands among the names of a scope in view
+    sub_near : (v : List Level) (a : Around) (l : ℕ) → Views v → (x : Text) (n : ℕ) → meaning_of (found_in bs.scopes v x) ≡ Some (Sub n)
+        → (named : IsNamedSub (at (finished t) v a l) (sub_at bs n)) × (is_near b named.within ≡ true)
+    sub_near v a l view x n e = by (found_in bs.scopes v x) refl e
+      where
+        near : (i : ℕ) → (sees b.env.view i ≡ true) ⊎ (is_accept b i ≡ true) → is_near b i ≡ true
+        near i (inl there) = or_first (list_any (λ (level : Level). level.scope == i) b.env.view) (is_accept b i) (any_sees b.env.view i there)
+        near i (inr own) = or_last (list_any (λ (level : Level). level.scope == i) b.env.view) (is_accept b i) own
+
+        in_scope : (o : Option ℕ) (f : Found) → f.scope ≡ o → found_in bs.scopes v x ≡ Some f → Stands bs o (Sub n) → f.meaning ≡ Sub n
+            → (named : IsNamedSub (at (finished t) v a l) (sub_at bs n)) × (is_near b named.within ≡ true)
+        in_scope None f q h there is = absurd there
+        in_scope (Some i) f q h below is =
+            let nearby = near i (view i (found_sees bs.scopes v x f i h q)) in (
+              record {
+                number = n;
+                among = below;
+                is = refl;
+                within = i;
+                name = x;
+                declared = found_meaning bs.scopes v x f i h q ∙ ap Some is;
+                seen = or_last (is_mains bs i) (is_near b i) nearby;
+              },
+              nearby,
+            )
+
+        by : (o : Option Found) → found_in bs.scopes v x ≡ o → meaning_of o ≡ Some (Sub n)
+            → (named : IsNamedSub (at (finished t) v a l) (sub_at bs n)) × (is_near b named.within ≡ true)
+        by None h e = absurd (cc)
+        by (Some f) h e =
+            let is : f.meaning ≡ Sub n = cc in
+            in_scope f.scope f refl h (subst (λ (m : Meaning). Stands bs f.scope m) is (named_stands (finished t) (known t lawful clean) v x f h)) is
+
+    has_block : (v : List Level) (a : Around) (l n : ℕ) → n < length bs.subs → IsNamedSub (at (finished t) v a l) (sub_at bs n)
+        → HasBlock (at (finished t) v a l) (sub_at bs n)
+    has_block v a l n below named =
         record {
-          headed = record { number = n; among = below; own_scope = refl; own_formals = refl };
+          named = named;
           gives = ((headed t lawful clean).subs n below).gives whole;
           taken = sub_takes t lawful clean n below;
           leaves = sub_leaves t lawful clean n below;
         }
 
     pub places : (v : List Level) (a : Around) (l : ℕ) → Views v → HavePlaces (at (finished t) v a l)
-    places v a l view = record { variables = variables v a l view; subs = λ x n e. has_block v a l n (sub_found v x n e) }
+    places v a l view = record { variables = variables v a l view; subs = λ x n e. has_block v a l n (sub_found v x n e) (sub_near v a l view x n e).0 }
 
     -- ## Results
 
@@ -265,8 +385,8 @@ module _ (t : ProgramTree) (lawful : IsLawful (forget_program t)) (clean : broke
             let is : f.meaning ≡ Sub n = cc in
             of_scope f f.scope (subst (λ (m : Meaning). Stands bs f.scope m) is (named_stands (finished t) (known t lawful clean) v x f h)) is
 
-    pub results : (v : List Level) (a : Around) (l : ℕ) → Views v → HaveResults (at (finished t) v a l)
-    results v a l view = record { filled = filled; results = result_laid v a l view }
+    pub results : (v : List Level) (a : Around) (l : ℕ) → Views v → (a.guarded ≡ true → b.env.around.guarded ≡ true) → HaveResults (at (finished t) v a l)
+    results v a l view guarded = record { filled = filled; results = result_laid v a l view; guarded = guarded; near = sub_near v a l view }
 
     -- ## Processes, entries and exported subs
 
@@ -320,14 +440,30 @@ module _ (t : ProgramTree) (lawful : IsLawful (forget_program t)) (clean : broke
         by false q =
             let beyond : length bs.entries ≤ e = grind (arith, nat_tests) in ap (λ (x : List Formal). all_typed x) (get_or-beyond bs.entries e [] beyond)
 
-    exported : (v : List Level) (a : Around) (l i n : ℕ) (x : Text) → meaning_in (scope_at bs.scopes i) x ≡ Some (Sub n) → (sub_at bs n).exported ≡ true
-        → IsOpen (at (finished t) v a l) n
-    exported v a l i n x e marked =
+    exported : (v : List Level) (a : Around) (l k n : ℕ) (x : Text) → meaning_in (scope_at bs.scopes (module_at bs k).scope) x ≡ Some (Sub n)
+        → (sub_at bs n).exported ≡ true → IsOpen (at (finished t) v a l) k n
+    unfolding has_block
+    exported v a l k n x e marked =
+        let i = (module_at bs k).scope in
         let below : n < length bs.subs =
         subst (λ (m : Option Meaning). IfSome m (Stands bs (Some i))) e (meaning_numbered (finished t) (known t lawful clean) i x) in
         let is = (headed t lawful clean).subs n below in
         record {
-          whole = record { formals = is.heading.typed whole; block = has_block v a l n below };
+          whole = record {
+            formals = is.heading.typed whole;
+            block = has_block v a l n below (record {
+              number = n;
+              among = below;
+              is = refl;
+              within = i;
+              name = x;
+              declared = e;
+              seen = or_first (is_mains bs i) (list_any (λ (level : Level). level.scope == i) b.env.view || is_accept b i)
+                  (module_mains bs k);
+            });
+          };
+          within = refl;
+          plain = no_function (sub_at bs n).sort (is.exported marked);
           nothing = plain_leaves (sub_at bs n).sort (is.exported marked);
         }
 
@@ -337,6 +473,7 @@ module _ (t : ProgramTree) (lawful : IsLawful (forget_program t)) (clean : broke
           singles = single v a l view;
           processes = λ u n e. started v a l n (a_process_type (finished t) (known t lawful clean) u n e);
           entries = λ n k x e. entry_typed n k;
+          modules = module_found v;
           exported = exported v a l;
         }
 
@@ -346,9 +483,10 @@ module _ (t : ProgramTree) (lawful : IsLawful (forget_program t)) (clean : broke
     known_at s v a l e view =
         subst (λ (z : State). AreKnown (at z v a l)) (sym e) (names_known t (at (finished t) v a l) clean refl refl (places v a l view))
 
-    reached_at : (s : State) (v : List Level) (a : Around) (l : ℕ) → s ≡ finished t → Views v → AreReached (at s v a l)
-    reached_at s v a l e view =
-        subst (λ (z : State). AreReached (at z v a l)) (sym e) (reached_known t (at (finished t) v a l) refl (results v a l view))
+    reached_at : (s : State) (v : List Level) (a : Around) (l : ℕ) → s ≡ finished t → Views v → (a.guarded ≡ true → b.env.around.guarded ≡ true)
+        → AreReached (at s v a l)
+    reached_at s v a l e view guarded =
+        subst (λ (z : State). AreReached (at z v a l)) (sym e) (reached_known t (at (finished t) v a l) refl (results v a l view guarded))
 
     callable_at : (s : State) (v : List Level) (a : Around) (l : ℕ) → s ≡ finished t → Views v → AreCallable (at s v a l)
     callable_at s v a l e view =
@@ -362,6 +500,7 @@ module _ (t : ProgramTree) (lawful : IsLawful (forget_program t)) (clean : broke
       line : ℕ
       is : u ≡ at b.env.state view around line
       views : Views view
+      guarded : around.guarded ≡ true → b.env.around.guarded ≡ true
 
     opened : (v : List Level) (n : ℕ) → Views v → is_accept b n ≡ true → Views (here b.env.state.blocks.scopes n v)
     opened v n h e i seen = by (n == i) refl seen
@@ -371,10 +510,10 @@ module _ (t : ProgramTree) (lawful : IsLawful (forget_program t)) (clean : broke
         by false q k = h i k
 
     inside : (u : Site) → IsInside (site_in g b) u → IsPlace u
-    inside u itself = record { view = b.env.view; around = b.env.around; line = b.last_line; is = refl; views = λ i seen. inl seen }
+    inside u itself = record { view = b.env.view; around = b.env.around; line = b.last_line; is = refl; views = λ i seen. inl seen; guarded = λ h. h }
     inside u (lined w n i) =
         let r = inside w i in
-        record { view = r.view; around = r.around; line = n; is = ap (λ (z : Site). at_line z n) r.is; views = r.views }
+        record { view = r.view; around = r.around; line = n; is = ap (λ (z : Site). at_line z n) r.is; views = r.views; guarded = r.guarded }
     inside u (accepted w n e i) =
         let r = inside w i in
         record {
@@ -383,16 +522,17 @@ module _ (t : ProgramTree) (lawful : IsLawful (forget_program t)) (clean : broke
           line = r.line;
           is = ap (λ (z : Site). in_accept z n) r.is;
           views = opened r.view n r.views e;
+          guarded = r.guarded;
         }
     inside u (begun w i) =
         let r = inside w i in
-        record { view = r.view; around = record r.around { cobegin = true }; line = r.line; is = ap in_cobegin r.is; views = r.views }
+        record { view = r.view; around = record r.around { cobegin = true }; line = r.line; is = ap in_cobegin r.is; views = r.views; guarded = r.guarded }
 
     pub met : b.env.state ≡ finished t → AreMet (site_in g b)
     met state =
         record {
           known = λ u i. let r = inside u i in subst AreKnown (sym r.is) (known_at b.env.state r.view r.around r.line state r.views);
-          reached = λ u i. let r = inside u i in subst AreReached (sym r.is) (reached_at b.env.state r.view r.around r.line state r.views);
+          reached = λ u i. let r = inside u i in subst AreReached (sym r.is) (reached_at b.env.state r.view r.around r.line state r.views r.guarded);
           callable = λ u i. let r = inside u i in subst AreCallable (sym r.is) (callable_at b.env.state r.view r.around r.line state r.views);
         }
 

@@ -1,5 +1,5 @@
 -- Calls of subs, exported procedures, processes and entries in which no rule is broken.
-use Rattle.std.proofs.Common.{◌≡◌, ℕ, Bool, true, false, List, Option, Some, None, refl, sym, ap, ◌∙◌, subst}
+use Rattle.std.proofs.Common.{◌≡◌, ◌<◌, ℕ, Bool, true, false, List, length, Option, Some, None, refl, sym, ap, ◌∙◌, subst}
 use Rattle.pfc_base.specs.declared.places.Place.{Place}
 use Rattle.pfc_tree.specs.Symbols.{Text}
 use Rattle.pfc_tree.specs.trees.Exprs.{DesigTree, SelectorTrees, ActualTrees, desig, index, field, no_selectors, more_selectors}
@@ -25,11 +25,11 @@ use Rattle.pfc_semantics.specs.Expressions.{spot_of}
 use Rattle.pfc_semantics.specs.Statements.{name_in_process, process_of_type}
 use Rattle.pfc_translation.specs.Sites.{Site}
 use Rattle.pfc_translation.specs.Addresses.{type_behind}
-use Rattle.pfc_standing_code.specs.Typed.{IsDeclared, IsField as IsPartField, AreArguments, AreSelectors, IsPartOf}
+use Rattle.pfc_standing_code.specs.Typed.{IsDeclared, ByName, FromOutside, IsField as IsPartField, AreArguments, AreSelectors, IsPartOf}
 use Rattle.pfc_standing_code.specs.TypedStatements.{IsProcessType, IsActivation, IsEntry, IsProcess, IsField, IsCalledVariable, IsCalledProcess, IsSubCall, IsExported, IsModuleCall, IsCalled, IsCall}
 use Rattle.pfc_typed_phrases.specs.Names.{left_behind, IsWhole, AreKnown}
 use Rattle.pfc_typed_phrases.proofs.Rules.{holds, never, field_known}
-use Rattle.pfc_typed_phrases.proofs.Names.{site_in, asked_formals as ask_formals, wanted_arguments}
+use Rattle.pfc_typed_phrases.proofs.Names.{site_in, of_named, asked_formals as ask_formals, wanted_arguments}
 use Rattle.pfc_typed_phrases.proofs.Phrases.{selectors_typed}
 use Rattle.pfc_typed_statements.specs.Reached.{IsStarted, AreCallable}
 use Rattle.pfc_typed_statements.proofs.Routines.{asked_wanted, predeclared_typed}
@@ -52,34 +52,43 @@ module _ (g : Program) (block : Block) (view : List Level) (around : Around) (li
 
   -- ## Subs
 
-  sub_call : (n : ℕ) (p : Place) (args : ActualTrees) → IsWhole s (sub_at g.state.blocks n) → left_behind (sub_at g.state.blocks n).sort ≡ 0
-      → clean (asked_formals s.env (sub_at g.state.blocks n).formals p args) ≡ true → IsSubCall s n args
-  sub_call n p args whole nothing h =
-      (record { headed = whole.block.headed; taken = whole.block.taken; leaves = whole.block.leaves ∙ nothing }, arguments_of (sub_at g.state.blocks n).formals p args whole.formals h)
+  sub_call : (asked : ℕ → SubSort → Type 0) (n : ℕ) (p : Place) (args : ActualTrees) (whole : IsWhole s (sub_at g.state.blocks n))
+      → asked whole.block.named.within (sub_at g.state.blocks n).sort → left_behind (sub_at g.state.blocks n).sort ≡ 0
+      → clean (asked_formals s.env (sub_at g.state.blocks n).formals p args) ≡ true → IsSubCall s asked n args
+  sub_call asked n p args whole is nothing h = (
+    record {
+      headed = of_named s (sub_at g.state.blocks n) asked whole.block.named is;
+      taken = whole.block.taken;
+      leaves = whole.block.leaves ∙ nothing;
+    },
+    arguments_of (sub_at g.state.blocks n).formals p args whole.formals h,
+  )
 
   sub_called :
       (n : ℕ) (p : Place) (args : ActualTrees) → IsWhole s (sub_at g.state.blocks n) → (sort : SubSort) → (sub_at g.state.blocks n).sort ≡ sort
-      → clean (call_sub s.env sort (sub_at g.state.blocks n).formals p args) ≡ true → IsSubCall s n args
-  sub_called n p args whole Procedure e h = sub_call n p args whole (ap left_behind e) h
+      → clean (call_sub s.env sort (sub_at g.state.blocks n).formals p args) ≡ true → IsSubCall s ByName n args
+  sub_called n p args whole Procedure e h = sub_call ByName n p args whole e (ap left_behind e) h
   sub_called n p args whole Guarded e h = never (and-right (clean (asked_formals s.env (sub_at g.state.blocks n).formals p args)) false h)
   sub_called n p args whole (Function t) e h = never h
 
-  exported_called : (i : ℕ) (x : Text) (p : Place) (args : ActualTrees) (m : Option Meaning) → meaning_in (scope_at g.state.blocks.scopes i) x ≡ m
-      → clean (call_exported s.env m p args) ≡ true → IsExported s m args
-  exported_called i x p args None e h = never h
-  exported_called i x p args (Some (Constant t n)) e h = never h
-  exported_called i x p args (Some (Named t)) e h = never h
-  exported_called i x p args (Some (Variable t r)) e h = never h
-  exported_called i x p args (Some (Module n)) e h = never h
-  exported_called i x p args (Some (Process n)) e h = never h
-  exported_called i x p args (Some (Entry n)) e h = never h
-  exported_called i x p args (Some (Predeclared n)) e h = never h
-  exported_called i x p args (Some Faulty) e h = absurd (callable.faulty i x e)
-  exported_called i x p args (Some (Sub n)) e h =
+  exported_called :
+      (k : ℕ) (x : Text) (p : Place) (args : ActualTrees) (m : Option Meaning) → k < length g.state.blocks.modules
+      → meaning_in (scope_at g.state.blocks.scopes (module_at g.state.blocks k).scope) x ≡ m → clean (call_exported s.env m p args) ≡ true
+      → IsExported s k m args
+  exported_called k x p args None low e h = never h
+  exported_called k x p args (Some (Constant t n)) low e h = never h
+  exported_called k x p args (Some (Named t)) low e h = never h
+  exported_called k x p args (Some (Variable t r)) low e h = never h
+  exported_called k x p args (Some (Module n)) low e h = never h
+  exported_called k x p args (Some (Process n)) low e h = never h
+  exported_called k x p args (Some (Entry n)) low e h = never h
+  exported_called k x p args (Some (Predeclared n)) low e h = never h
+  exported_called k x p args (Some Faulty) low e h = absurd (callable.faulty (module_at g.state.blocks k).scope x e)
+  exported_called k x p args (Some (Sub n)) low e h =
       let test = clean (unless (sub_at g.state.blocks n).exported p 410) in
       let rest = clean (asked_formals s.env (sub_at g.state.blocks n).formals p args) in
-      let is = callable.exported i n x e (holds (sub_at g.state.blocks n).exported p 410 (and-left test rest h)) in
-      sub_call n p args is.whole is.nothing (and-right test rest h)
+      let is = callable.exported k n x e (holds (sub_at g.state.blocks n).exported p 410 (and-left test rest h)) in
+      sub_call (FromOutside g.state.blocks k) n p args is.whole (low, is.within, is.plain) is.nothing (and-right test rest h)
 
   -- ## Processes and entries
 
@@ -239,12 +248,13 @@ module _ (g : Program) (block : Block) (view : List Level) (around : Around) (li
       (typed, part_activated v no_selectors p args t typed (of_variable x t r e, typed) h)
 
   module_called :
-      (n : ℕ) (ss : SelectorTrees) (p : Place) (args : ActualTrees) (o : Option (Text × Place)) → only_field ss ≡ o → clean (call_in_module s.env n o ss p args) ≡ true
+      (n : ℕ) (ss : SelectorTrees) (p : Place) (args : ActualTrees) (o : Option (Text × Place)) → n < length g.state.blocks.modules → only_field ss ≡ o
+      → clean (call_in_module s.env n o ss p args) ≡ true
       → IsModuleCall s n (last_field ss) args
-  module_called n ss p args None e h = never h
-  module_called n ss p args (Some x) e h =
+  module_called n ss p args None low e h = never h
+  module_called n ss p args (Some x) low e h =
       subst (λ (k : Option (Text × Place)). IsModuleCall s n k args) (sym (only_last ss x e))
-      (exported_called (module_at g.state.blocks n).scope x.0 x.1 args (meaning_in (scope_at g.state.blocks.scopes (module_at g.state.blocks n).scope) x.0) refl h)
+      (exported_called n x.0 x.1 args (meaning_in (scope_at g.state.blocks.scopes (module_at g.state.blocks n).scope) x.0) low refl h)
 
   process_called :
       (y : Text) (n : ℕ) → meaning_of (find s.env y) ≡ Some (Process n) → (ss : SelectorTrees) (p : Place) (args : ActualTrees) (o : Option (Text × Place))
@@ -264,7 +274,7 @@ module _ (g : Program) (block : Block) (view : List Level) (around : Around) (li
   part_called x ss p args (Some (Entry n)) e h = never h
   part_called x ss p args (Some (Predeclared k)) e h = never h
   part_called x ss p args (Some Faulty) e h = absurd (known.faulty x e)
-  part_called x ss p args (Some (Module n)) e h = module_called n ss p args (only_field ss) refl h
+  part_called x ss p args (Some (Module n)) e h = module_called n ss p args (only_field ss) (callable.modules x n e) refl h
   part_called x ss p args (Some (Process n)) e h = process_called x n e ss p args (only_field ss) refl h
   part_called x ss p args (Some (Variable t r)) e h =
       let v = spot_of s.env (find s.env x) in

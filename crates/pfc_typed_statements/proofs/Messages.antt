@@ -27,12 +27,12 @@ use Rattle.pfc_semantics.specs.Expressions.{spot_of}
 use Rattle.pfc_translation.specs.Sites.{Site, type_cells}
 use Rattle.pfc_translation.specs.Selects.{receiver_cells}
 use Rattle.pfc_standing_code.specs.Shapes.{a_number, a_whole, shape_of, shape_cells, IsSound}
-use Rattle.pfc_standing_code.specs.Typed.{IsDeclared, HasShape, IsDesig}
+use Rattle.pfc_standing_code.specs.Typed.{IsDeclared, is_near, ByRequeue, HasShape, IsDesig}
 use Rattle.pfc_standing_code.specs.TypedStatements.{IsAssignment, IsChannel, IsCarried, IsMessage, IsReceiver, IsSend, IsReceive, IsSubCall, IsRequeue}
 use Rattle.pfc_name_laws.specs.Reached.{GivesSimple}
-use Rattle.pfc_typed_phrases.specs.Names.{left_behind, IsWhole, AreKnown}
+use Rattle.pfc_typed_phrases.specs.Names.{left_behind, IsNamedSub, IsWhole, AreKnown}
 use Rattle.pfc_typed_phrases.proofs.Rules.{holds, never, same_type}
-use Rattle.pfc_typed_phrases.proofs.Names.{site_in, asked_formals, wanted_arguments}
+use Rattle.pfc_typed_phrases.proofs.Names.{site_in, of_named, asked_formals, wanted_arguments}
 use Rattle.pfc_typed_phrases.proofs.Phrases.{expr_typed, actuals_typed}
 use Rattle.pfc_typed_phrases.proofs.Anywhere.{desig_part}
 use Rattle.pfc_typed_statements.specs.Reached.{AreReached}
@@ -215,26 +215,36 @@ module _ (g : Program) (block : Block) (view : List Level) (around : Around) (li
   -- ## Requeues
 
   sub_asked :
-      (n : ℕ) (ending : Option ℕ) (p : Place) (args : ActualTrees) → IsWhole s (sub_at g.state.blocks n) → left_behind (sub_at g.state.blocks n).sort ≡ 0
+      (n : ℕ) (ending : Option ℕ) (p : Place) (args : ActualTrees) → IsWhole s (sub_at g.state.blocks n) → (sub_at g.state.blocks n).sort ≡ Guarded
+      → (named : IsNamedSub s (sub_at g.state.blocks n)) → is_near block named.within ≡ true → around.guarded ≡ true
       → clean (count_rule (called_with (wants_for (sub_at g.state.blocks n).formals) anywhere) args p) ≡ true
-      → clean (broken_actuals s.env ending true (wants_for (sub_at g.state.blocks n).formals) args) ≡ true → IsSubCall s n args
-  sub_asked n ending p args whole none count h =
+      → clean (broken_actuals s.env ending true (wants_for (sub_at g.state.blocks n).formals) args) ≡ true → IsSubCall s (ByRequeue block) n args
+  sub_asked n ending p args whole is named near inside count h =
       let head = sub_at g.state.blocks n in (
-        record { headed = whole.block.headed; taken = whole.block.taken; leaves = whole.block.leaves ∙ none },
+        record {
+          headed = of_named s head (ByRequeue block) named (is, reached.guarded inside, near);
+          taken = whole.block.taken;
+          leaves = whole.block.leaves ∙ ap left_behind is;
+        },
         wanted_arguments s head.formals args (actuals_typed g block view around line known ending (wants_for head.formals) args (asked_formals head.formals whole.formals) (holds _ p 316 count) h).0,
       )
 
   pub requeue_typed : (x : Text × Place) (args : ActualTrees) (p : Place) → clean (broken_requeue s.env x args p) ≡ true → IsRequeue s (meaning_of (find s.env x.0)) args
   requeue_typed x args p h = by (meaning_of (find s.env x.0)) refl (and-right (clean (unless around.guarded p 418)) (clean (requeue_rules s.env (innermost view) (meaning_of (find s.env x.0)) x.1 args)) h)
     where
+      inside : around.guarded ≡ true
+      inside = holds around.guarded p 418
+          (and-left (clean (unless around.guarded p 418)) (clean (requeue_rules s.env (innermost view) (meaning_of (find s.env x.0)) x.1 args)) h)
+
       sub : (n : ℕ) → meaning_of (find s.env x.0) ≡ Some (Sub n) → (sort : SubSort) → (sub_at g.state.blocks n).sort ≡ sort
-          → clean (requeue_sub s.env (innermost view) sort (sub_at g.state.blocks n).formals x.1 args) ≡ true → IsSubCall s n args
+          → clean (requeue_sub s.env (innermost view) sort (sub_at g.state.blocks n).formals x.1 args) ≡ true → IsSubCall s (ByRequeue block) n args
       sub n e Procedure is h = never h
       sub n e (Function t) is h = never h
       sub n e Guarded is h =
           let count = clean (count_rule (called_with (wants_for (sub_at g.state.blocks n).formals) anywhere) args x.1) in
           let actuals = clean (broken_actuals s.env (Some (innermost view)) true (wants_for (sub_at g.state.blocks n).formals) args) in
-          sub_asked n (Some (innermost view)) x.1 args (known.subs x.0 n e) (ap left_behind is) (and-left count actuals h) (and-right count actuals h)
+          let near = reached.near x.0 n e in
+          sub_asked n (Some (innermost view)) x.1 args (known.subs x.0 n e) is near.0 near.1 inside (and-left count actuals h) (and-right count actuals h)
 
       by : (m : Option Meaning) → meaning_of (find s.env x.0) ≡ m → clean (requeue_rules s.env (innermost view) m x.1 args) ≡ true → IsRequeue s m args
       by None e h = never h

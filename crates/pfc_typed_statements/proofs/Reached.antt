@@ -23,6 +23,8 @@ reached_known t s program have =
       sound = subst (λ (k : State). IsSound k.forms) (sym program) (built_sound (types_of t) (types_built t));
       filled = have.filled;
       results = have.results;
+      guarded = have.guarded;
+      near = have.near;
     }
 
 none_faulty : (t : ProgramTree) → broken t ≡ [] → (i : ℕ) (x : Text) → meaning_in (scope_at (finished t).blocks.scopes i) x ≢ Some Faulty
@@ -36,6 +38,7 @@ callable_known t s lawful program have =
       singles = have.singles;
       processes = have.processes;
       entries = have.entries;
+      modules = have.modules;
       exported = have.exported;
       faulty = subst (λ (k : State). (i : ℕ) (x : Text) → meaning_in (scope_at k.blocks.scopes i) x ≢ Some Faulty) (sym program) (none_faulty t lawful);
     }

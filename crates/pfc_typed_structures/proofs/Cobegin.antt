@@ -14,6 +14,7 @@ use Rattle.pfc_types.specs.declared.scope.Meaning.{Meaning}
 use Rattle.pfc_types.specs.declared.scope.Meaning.TheVariants.{Constant as AConstant, Named, Variable, Sub, Module, Process, Entry, Predeclared, Faulty}
 use Rattle.pfc_types.specs.declared.heads.Formal.{Formal}
 use Rattle.pfc_types.specs.declared.heads.SubHead.{SubHead}
+use Rattle.pfc_types.specs.declared.heads.SubSort.{SubSort}
 use Rattle.pfc_types.specs.declared.view.Around.{Around}
 use Rattle.pfc_types.specs.rules.Kinds.{variable_type}
 use Rattle.pfc_types.specs.rules.Calls.{last_field, before_last}
@@ -29,7 +30,7 @@ use Rattle.pfc_translation.specs.Sites.{Site, context_of, forms_of, blocks_of, t
 use Rattle.pfc_translation.specs.Addresses.{element_in, type_behind}
 use Rattle.pfc_image_numbers.proofs.Alike.{AreAlike, expr_same, selected_same}
 use Rattle.pfc_standing_code.specs.Shapes.{Shape, a_number, shape_of}
-use Rattle.pfc_standing_code.specs.Typed.{IsDeclared, IsSub, Either, IsFunction, IsUse, HasShape, HasShapeSimple, AreSummands, HasShapeTerm, AreMultipliers, HasShapeFactor, IsGivenFirst, IsLentFirst, IsGiven, IsLent, IsVariable, AreArguments, AreSelectors, AreIndices, IsPartOf, IsDesig}
+use Rattle.pfc_standing_code.specs.Typed.{IsDeclared, ByName, InExpressions, FromOutside, ByRequeue, IsSub, Either, IsFunction, IsUse, HasShape, HasShapeSimple, AreSummands, HasShapeTerm, AreMultipliers, HasShapeFactor, IsGivenFirst, IsLentFirst, IsGiven, IsLent, IsVariable, AreArguments, AreSelectors, AreIndices, IsPartOf, IsDesig}
 use Rattle.pfc_standing_code.specs.TypedStatements.{IsSimpleVariable, IsAssignment, IsMessage, IsReceiver, IsSend, IsReceive, IsItem, AreWritten, IsRead, AreRead, IsNumber, IsRank, IsProcedure, IsProcessType, IsActivation, IsEntryCall, IsEntry, IsProcess, IsField, IsCalledVariable, IsCalledProcess, IsSubCall, IsExported, IsModuleCall, IsCalled, IsCall, IsRequeue, HaveValues, IsGuard, IsSpread, IsComm, IsTyped, AreTyped, AreArmsTyped, IsAcceptTyped, IsMetTyped, AreAltsTyped}
 use Rattle.pfc_typed_structures.specs.Inside.{in_cobegin}
 use Rattle.pfc_standing_code.specs.ValueTypes.{IsValueType}
@@ -78,11 +79,21 @@ module _ (g : Program) (b : Block) (state : State) (c d : Around) (alike : AreAl
     declared : (w : Spot) (o : Option TypeId) → IsDeclared s w o → IsDeclared t w o
     declared w o k = record { seen = k.seen; own = k.own; meaning = k.meaning; laid = k.laid; variable = k.variable; typed = k.typed; whole = k.whole }
 
-    a_sub : (head : SubHead) (left : ℕ) → IsSub s head left → IsSub t head left
-    a_sub head left k =
+    a_sub : (head : SubHead) (left : ℕ) (asked : ℕ → SubSort → Type 0) → IsSub s head left asked → IsSub t head left asked
+    a_sub head left asked k =
         let is = k.headed in
         record {
-          headed = record { number = is.number; among = is.among; own_scope = is.own_scope; own_formals = is.own_formals };
+          headed = record {
+            number = is.number;
+            among = is.among;
+            own_scope = is.own_scope;
+            own_formals = is.own_formals;
+            within = is.within;
+            name = is.name;
+            declared = is.declared;
+            seen = is.seen;
+            as_asked = is.as_asked;
+          };
           taken = k.taken;
           leaves = k.leaves;
         }
@@ -95,7 +106,7 @@ module _ (g : Program) (b : Block) (state : State) (c d : Around) (alike : AreAl
     used_same (Some (Named u)) h D E L K ss A B F G f1 f2 f3 f4 k = k
     used_same (Some (Variable u r)) h D E L K ss A B F G f1 f2 f3 f4 k = (k.0, f1 k.1, f2 (Some k.0) k.2, sym (parts (Some u) ss) ∙ k.3, k.4)
     used_same (Some (Sub n)) h D E L K ss A B F G f1 f2 f3 f4 k =
-        (k.0, a_sub (sub_at (blocks_of s) n) 1 k.1, f3 (sub_at (blocks_of s) n).formals k.2)
+        (k.0, a_sub (sub_at (blocks_of s) n) 1 InExpressions k.1, f3 (sub_at (blocks_of s) n).formals k.2)
     used_same (Some (Module n)) h D E L K ss A B F G f1 f2 f3 f4 k = k
     used_same (Some (Process n)) h D E L K ss A B F G f1 f2 f3 f4 k = k
     used_same (Some (Entry n)) h D E L K ss A B F G f1 f2 f3 f4 k = k
@@ -352,32 +363,32 @@ module _ (g : Program) (b : Block) (state : State) (c d : Around) (alike : AreAl
     called_process n w None args k = activation n w no_selectors args k
     called_process n w (Some x) args k = an_entry n w no_selectors (name_in_process (blocks_of s) n x.0) args k
 
-    sub_call : (n : ℕ) (args : ActualTrees) → IsSubCall s n args → IsSubCall t n args
-    sub_call n args k =
-        (a_sub (sub_at (blocks_of s) n) 0 k.0, arguments (sub_at (blocks_of s) n).formals args k.1)
+    sub_call : (asked : ℕ → SubSort → Type 0) (n : ℕ) (args : ActualTrees) → IsSubCall s asked n args → IsSubCall t asked n args
+    sub_call asked n args k =
+        (a_sub (sub_at (blocks_of s) n) 0 asked k.0, arguments (sub_at (blocks_of s) n).formals args k.1)
 
-    exported : (m : Option Meaning) (args : ActualTrees) → IsExported s m args → IsExported t m args
-    exported None args k = k
-    exported (Some (AConstant u z)) args k = k
-    exported (Some (Named u)) args k = k
-    exported (Some (Variable u r)) args k = k
-    exported (Some (Sub z)) args k = sub_call z args k
-    exported (Some (Module z)) args k = k
-    exported (Some (Process z)) args k = k
-    exported (Some (Entry e)) args k = k
-    exported (Some (Predeclared z)) args k = k
-    exported (Some Faulty) args k = k
+    exported : (n : ℕ) (m : Option Meaning) (args : ActualTrees) → IsExported s n m args → IsExported t n m args
+    exported n None args k = k
+    exported n (Some (AConstant u z)) args k = k
+    exported n (Some (Named u)) args k = k
+    exported n (Some (Variable u r)) args k = k
+    exported n (Some (Sub z)) args k = sub_call (FromOutside (blocks_of s) n) z args k
+    exported n (Some (Module z)) args k = k
+    exported n (Some (Process z)) args k = k
+    exported n (Some (Entry e)) args k = k
+    exported n (Some (Predeclared z)) args k = k
+    exported n (Some Faulty) args k = k
 
     module_call : (n : ℕ) (o : Option (Text × Place)) (args : ActualTrees) → IsModuleCall s n o args → IsModuleCall t n o args
     module_call n None args k = k
-    module_call n (Some x) args k = exported _ args k
+    module_call n (Some x) args k = exported n _ args k
 
     called : (m : Option Meaning) (w : TypedSpot) (ss : SelectorTrees) (args : ActualTrees) → IsCalled s m w ss args → IsCalled t m w ss args
     called None w ss args k = k
     called (Some (AConstant u z)) w ss args k = k
     called (Some (Named u)) w ss args k = k
     called (Some (Variable u r)) w ss args k = (k.0, called_variable w ss (last_field ss) args k.1)
-    called (Some (Sub z)) w ss args k = sub_call z args k
+    called (Some (Sub z)) w ss args k = sub_call ByName z args k
     called (Some (Module z)) w ss args k = module_call z (last_field ss) args k
     called (Some (Process z)) w ss args k = called_process z w (last_field ss) args k
     called (Some (Entry e)) w ss args k = k
@@ -392,7 +403,7 @@ module _ (g : Program) (b : Block) (state : State) (c d : Around) (alike : AreAl
     a_requeue (Some (AConstant u z)) args k = k
     a_requeue (Some (Named u)) args k = k
     a_requeue (Some (Variable u r)) args k = k
-    a_requeue (Some (Sub z)) args k = sub_call z args k
+    a_requeue (Some (Sub z)) args k = sub_call (ByRequeue s.block) z args k
     a_requeue (Some (Module z)) args k = k
     a_requeue (Some (Process z)) args k = k
     a_requeue (Some (Entry e)) args k = k

@@ -9,10 +9,12 @@ use Rattle.pfc_types.specs.declared.heads.SubHead.{SubHead}
 use Rattle.pfc_types.specs.declared.heads.ModuleHead.{ModuleHead}
 use Rattle.pfc_types.specs.declared.heads.ProcessHead.{ProcessHead}
 use Rattle.pfc_types.specs.declared.heads.SubSort.TheVariants.{Procedure, Guarded}
-use Rattle.pfc_types.specs.rules.Whole.{finished}
+use Rattle.pfc_types.specs.rules.Whole.{finished, broken}
 use Rattle.pfc_semantics.specs.Programs.{Block, Program, block_at, program_of}
 use Rattle.pfc_translation.specs.Sites.{module_of}
 use Rattle.pfc_nesting_laws.proofs.Programs.{main_found}
+use Rattle.pfc_guard_laws.specs.Configurations.{SuitsProgram}
+use Rattle.pfc_checked_guards.proofs.Programs.{program_suits}
 use Rattle.pfc_checked_guards.specs.Subs.{SubsStand, ModulesStand}
 use Rattle.pfc_run_guards.specs.Headings.{HeadingsStand}
 use Rattle.pfc_run_guards.proofs.Scopes.{program_scope, bodies_apart, main_unguarded, guards_in_resources}
@@ -100,3 +102,7 @@ module _ (t : ProgramTree) (lawful : IsLawful (forget_program t)) (headings : He
           by true e = headings.processes n (grind (arith, nat_tests))
           by false e =
               ap (λ (h : ProcessHead). (block_at g h.scope).guard) (beyond bs.processes n no_process (grind (arith, nat_tests))) ∙ no_block
+
+-- So the program calls what the rules ask.
+pub checked_program : (t : ProgramTree) → IsLawful (forget_program t) → broken t ≡ [] → HeadingsStand t → SuitsProgram (program_of t)
+checked_program t lawful whole headings = program_suits t (subs_stand t lawful headings) (modules_stand t lawful headings) lawful whole

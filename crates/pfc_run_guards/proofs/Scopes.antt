@@ -75,11 +75,12 @@ none_there (Some n) e = absurd (cc)
 apart : (bs : Blocks) (qs : PartTrees) → bs.modules ≡ modules_from 1 qs → (xs : List Block) → Every (IsClear (modules_from 1 qs)) xs
     → (from to : ℕ) → 0 < from → Every (Numbered from to) xs → AllByRecursion (λ (x : Block). module_of bs x.scope ≡ None) xs
 apart bs qs is [] clear from to some numbered = tt
-apart bs qs is (b ∷ xs) clear from to some numbered =
-    (none_there (module_of bs b.scope)
-     (right_false (b.scope == 0) (is_some (module_of bs b.scope))
-     (not_mains bs (modules_from 1 qs) b.scope is clear.0.own (let low = numbered.0.low in omega (arith, low, some)))),
-     apart bs qs is xs clear.1 from to some numbered.1)
+apart bs qs is (b ∷ xs) clear from to some numbered = (
+  none_there (module_of bs b.scope)
+      (right_false (b.scope == 0) (is_some (module_of bs b.scope))
+      (not_mains bs (modules_from 1 qs) b.scope is clear.0.own (let low = numbered.0.low in omega (arith, low, some)))),
+  apart bs qs is xs clear.1 from to some numbered.1,
+)
 
 pub bodies_apart : (t : ProgramTree) → IsLawful (forget_program t)
     → AllByRecursion (λ (x : Block). module_of (finished t).blocks x.scope ≡ None) (program_of t).blocks

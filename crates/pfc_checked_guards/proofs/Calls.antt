@@ -162,9 +162,10 @@ module _ (g : Program) (env : Env) (a : Around) (subs : SubsStand g env.state.bl
       → IsClean (call_selected (under env a) t ss last p args) → SuitSelectors g env ss × SuitActuals g env args
   selected_called t ss None p args e h =
       (selectors_called g env a subs (Some t) ss h.0, variable_called (selected (under env a) (Some t) ss) p args h.1)
-  selected_called t ss (Some x) p args e h =
-      (behind_last ss x e (selectors_called g env a subs (Some t) (before_last ss) h.0),
-       field_called (selected (under env a) (Some t) (before_last ss)) x p args h.1)
+  selected_called t ss (Some x) p args e h = (
+    behind_last ss x e (selectors_called g env a subs (Some t) (before_last ss) h.0),
+    field_called (selected (under env a) (Some t) (before_last ss)) x p args h.1,
+  )
 
   unselected_called :
       (ss : SelectorTrees) (p : Place) (args : ActualTrees) → IsClean (unselected (under env a) ss p args) → SuitSelectors g env ss × SuitActuals g env args

@@ -8,10 +8,11 @@ ghost use Rattle.pfc_semantics.specs.Programs.{program_of};
 ghost use Rattle.pfc_semantics.specs.Configurations.{Config, start};
 ghost use Rattle.pfc_semantics.specs.Steps.{next_of};
 ghost use Rattle.pfc_semantics.specs.Time.{settled_config};
-ghost use Rattle.pfc_run_rules.specs.Rules.{AreBarredAtTheirOwn};
+ghost use Rattle.pfc_run_rules.specs.Rules.{AreBarredAtTheirOwn, KeepsToRules};
 ghost use Rattle.pfc_guard_laws.specs.Remainders.{GuardsByRules};
 ghost use Rattle.pfc_guard_laws.specs.Configurations.{SuitsProgram, ScansByRules};
 ghost use Rattle.pfc_guard_laws.specs.Runs.{RunsTo, RunsOnce};
+ghost use Rattle.pfc_guard_laws.specs.Keeping.{IsOutsideAtEnds, HoldsAtResumes};
 ghost use Rattle.pfc_run_guards.specs.Headings.{HeadingsStand};
 
 /// In a run of a program in which no static rule is broken each guard at which a process is barred, and that at which one is about to be, is of the resource in
@@ -27,4 +28,7 @@ pub fn checked_runs_try_their_own_guards()
     ensures scans { (t : ProgramTree) (input : List ℕ) (seed : ℕ) (c : Config) (p : ℕ) → IsLawful (forget_program t) → broken t ≡ []
         → RunsOnce (program_of t) (start (program_of t) input seed) c
         → ScansByRules (program_of t) (settled_config c) p (next_of (program_of t) (settled_config c) p) }
+    ensures rules { (t : ProgramTree) (input : List ℕ) (seed : ℕ) (c : Config) (p : ℕ) → IsLawful (forget_program t) → broken t ≡ []
+        → RunsOnce (program_of t) (start (program_of t) input seed) c → IsOutsideAtEnds (program_of t) (settled_config c) p
+        → HoldsAtResumes (program_of t) (settled_config c) p → KeepsToRules (program_of t) (settled_config c) p }
 {}

@@ -10,3 +10,4 @@ pub mod Effects
 pub mod Runs
 pub mod Leaving
 pub mod Keeping
+pub mod Tops

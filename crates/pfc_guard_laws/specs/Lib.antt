@@ -3,3 +3,4 @@ pub mod Remainders
 pub mod Configurations
 pub mod Runs
 pub mod Keeping
+pub mod Tops

@@ -1,13 +1,14 @@
 //! The laws. The functions do nothing: their contracts are the laws.
 ghost use Rattle.std.specs.Prelude.{ℕ, List};
 ghost use Rattle.pfc_semantics.specs.Programs.{Program};
-ghost use Rattle.pfc_semantics.specs.Configurations.{Config, start};
+ghost use Rattle.pfc_semantics.specs.Configurations.{Config, activity_of, start};
 ghost use Rattle.pfc_semantics.specs.Steps.{next_of};
 ghost use Rattle.pfc_semantics.specs.Time.{settled_config};
 ghost use Rattle.pfc_run_rules.specs.Rules.{AreBarredAtTheirOwn, KeepsToRules};
 ghost use Rattle.pfc_guard_laws.specs.Remainders.{GuardsByRules};
 ghost use Rattle.pfc_guard_laws.specs.Configurations.{SuitsProgram, ScansByRules};
-ghost use Rattle.pfc_guard_laws.specs.Runs.{RunsTo, RunsOnce};
+ghost use Rattle.pfc_guard_laws.specs.Runs.{RunsTo, ReturnsOnce, RunsOnce};
+ghost use Rattle.pfc_guard_laws.specs.Tops.{Tops, AreOrdered, IsRooted};
 ghost use Rattle.pfc_guard_laws.specs.Keeping.{IsOutsideAtEnds, HoldsAtResumes};
 
 /// Where a program calls what the rules ask, each guard at which a process is barred, and the guard at which one is about to be, is of the resource in which
@@ -29,4 +30,11 @@ pub fn who_scans_has_left()
 pub fn runs_keep_to_rules()
     ensures { (g : Program) (input : List ℕ) (seed : ℕ) (c : Config) (p : ℕ) → SuitsProgram g → RunsOnce g (start g input seed) c
         → IsOutsideAtEnds g (settled_config c) p → HoldsAtResumes g (settled_config c) p → KeepsToRules g (settled_config c) p }
+{}
+
+/// Who is about to return from what it entered has entered it once, where the activations of the process stand ever later in the text.
+pub fn ordered_activations_enter_once()
+    ensures resources { (tops : Tops) (g : Program) (c : Config) (p : ℕ) → AreOrdered tops (activity_of g c p).activations
+        → IsRooted (activity_of g c p).activations → ReturnsOnce g c p }
+    ensures monitors { (tops : Tops) (g : Program) (c : Config) (p : ℕ) → AreOrdered tops (activity_of g c p).activations → IsOutsideAtEnds g c p }
 {}

@@ -10,7 +10,7 @@ use Rattle.pfc_semantics.specs.Values.{Value, Location, ordinal, points}
 use Rattle.pfc_semantics.specs.Displays.{Spot}
 use Rattle.pfc_semantics.specs.Programs.{Program}
 use Rattle.pfc_semantics.specs.Processes.{declaration_of}
-use Rattle.pfc_semantics.specs.Remainders.{Context, Argument, Open, Selecting, Remainder, to_entry, calls, meets, decides}
+use Rattle.pfc_semantics.specs.Remainders.{Context, Argument, by_reference, Open, Selecting, Remainder, to_entry, calls, meets, decides}
 use Rattle.pfc_semantics.specs.Configurations.{Config, asking, offering, activity_of, number_for, all_passed}
 use Rattle.pfc_semantics.specs.Steps.{next_of}
 
@@ -57,3 +57,8 @@ AllPass g c = (q owner entry ticket : ℕ) (values : List Value) → (activity_o
 abbrev pub Passes : Program → Config → ℕ → Type 0
 Passes g c p = (x : Context) (s : Spot) (entry : ℕ) (k : Remainder) (given : List Argument) → next_of g c p ≡ calls x (to_entry s entry k) given
     → ArePassed g (number_for g c p s) entry (all_passed g c p given)
+
+-- For what such an entry takes by reference a variable is given: so arguments are made, where they are made for its parameters.
+abbrev pub TakesVariables : Program → ℕ → ℕ → List Argument → Type 0
+TakesVariables g q entry given = (k : ℕ) (f : Formal) → slice_get (entry_at g.state.blocks (declaration_of g q) entry) k ≡ Some f → f.reference ≡ true
+    → (v : Spot) × (slice_get given k ≡ Some (by_reference v))

@@ -3,12 +3,12 @@ ghost use Rattle.std.specs.Prelude.{◌≡◌, ◌≢◌, ◌⊎◌, ◌<◌, �
 ghost use Rattle.pfc_semantics.specs.Values.{Value};
 ghost use Rattle.pfc_semantics.specs.Programs.{Program};
 ghost use Rattle.pfc_semantics.specs.Processes.{process_block};
-ghost use Rattle.pfc_semantics.specs.Remainders.{Context, Open, Remainder};
-ghost use Rattle.pfc_semantics.specs.Configurations.{Activation, Config, activity_of, start};
+ghost use Rattle.pfc_semantics.specs.Remainders.{Argument, Context, Open, Remainder};
+ghost use Rattle.pfc_semantics.specs.Configurations.{Activation, Config, activity_of, all_passed, start};
 ghost use Rattle.pfc_semantics.specs.Events.{step};
 ghost use Rattle.pfc_semantics.specs.Time.{settled_config};
 ghost use Rattle.pfc_accept_laws.specs.Displays.{first_display, AllGoBack, RequeuesInside};
-ghost use Rattle.pfc_accept_laws.specs.Shown.{ShowsOpen, IsToOffer, ShowsArguments, IsToAsk, AllPass, Passes};
+ghost use Rattle.pfc_accept_laws.specs.Shown.{ShowsOpen, IsToOffer, ShowsArguments, IsToAsk, ArePassed, AllPass, Passes, TakesVariables};
 
 /// From the start on, while it settles, and behind each step of a process that has living activations, displays go back to those with which processes began. A
 /// process that is in its first activation has that one.
@@ -44,8 +44,11 @@ pub fn hands_show_what_was_asked()
         → ShowsArguments g c q owner entry ticket values ⊎ ((q ≡ p) × IsToAsk g c p owner entry values) }
 {}
 
-/// So what callers that wait for an entry pass by reference is a location, where that is so of each call when it is made.
+/// So what callers that wait for an entry pass by reference is a location, where that is so of each call when it is made. It is so where variables are given for
+/// what the entry takes by reference.
 pub fn callers_pass_locations()
+    ensures given { (g : Program) (c : Config) (p q entry : ℕ) (given : List Argument) → TakesVariables g q entry given
+        → ArePassed g q entry (all_passed g c p given) }
     ensures start { (g : Program) (input : List ℕ) (seed : ℕ) → AllPass g (start g input seed) }
     ensures settles { (g : Program) (c : Config) → AllPass g c → AllPass g (settled_config c) }
     ensures steps { (g : Program) (c : Config) (p choice : ℕ) → AllPass g c → Passes g c p → AllPass g (step g c p choice).config }

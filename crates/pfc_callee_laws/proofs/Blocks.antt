@@ -1,12 +1,10 @@
 -- What a call or a creation asks of a block: of each sub and of each process.
-use Rattle.std.proofs.Common.{◌≡◌, ℕ, zero, suc, ◌+◌, ◌<◌, ◌≤◌, ◌==◌, ◌⊎◌, inl, inr, Bool, true, false, if◌then◌else◌, is_some, List, [], ◌∷◌, ◌++◌, length, length-append, map, take, drop, get_or, Option, Some, None, refl, sym, ap, ◌∙◌, subst, arith}
+use Rattle.std.proofs.Common.{◌≡◌, ℕ, zero, suc, ◌+◌, ◌<◌, ◌⊎◌, inl, inr, Bool, true, false, if◌then◌else◌, is_some, List, [], ◌∷◌, ◌++◌, length, length-append, map, take, drop, get_or, Option, Some, None, refl, sym, ap, ◌∙◌, subst, arith}
 use Rattle.std.specs.List.{All, slice_get}
 use Rattle.std.proofs.lemmas.List.{length-map, append_assoc}
-use Rattle.std.proofs.lemmas.List.Elements.{All-weaker}
 use Rattle.std.proofs.lemmas.Option.{slice_get_within}
 use Rattle.pfc_code.specs.declared.images.Block.{Block as CodeBlock}
 use Rattle.pfc_tree.specs.Symbols.{Text}
-use Rattle.pfc_tree.specs.trees.Stmts.{BodyTree, body}
 use Rattle.pfc_tree.specs.trees.Parts.{ProgramTree}
 use Rattle.pfc_tree.specs.forget.Parts.{forget_program}
 use Rattle.pfc_tree.specs.lawful.Parts.{IsLawful}
@@ -21,25 +19,21 @@ use Rattle.pfc_types.specs.declared.heads.SubSort.TheVariants.{Procedure, Guarde
 use Rattle.pfc_types.specs.declared.heads.ProcessHead.{ProcessHead}
 use Rattle.pfc_types.specs.declared.scope.Meaning.{Meaning}
 use Rattle.pfc_types.specs.declared.scope.Meaning.TheVariants.{Variable}
-use Rattle.pfc_types.specs.rules.Expressions.{Env}
 use Rattle.pfc_types.specs.rules.Routines.{is_function_sort}
-use Rattle.pfc_types.specs.rules.FaultyNames.{all_typed}
 use Rattle.pfc_types.specs.rules.Whole.{finished, broken}
 use Rattle.pfc_name_laws.specs.Reached.{formal_meaning, GivesSimple}
 use Rattle.pfc_name_laws.proofs.Numbers.{none_noted}
 use Rattle.pfc_type_laws.proofs.WalkBlocks.{types_built}
-use Rattle.pfc_semantics.specs.Layouts.{Layout, is_laid, laid_names, result_laid, sub_layout, sub_layout_at, layout_by, accepts_laid, process_layout, sub_with}
-use Rattle.pfc_semantics.specs.Programs.{Block, Guard, Program, block_of, block_at, block_number, layout_cells, program_of}
+use Rattle.pfc_semantics.specs.Layouts.{Layout, is_laid, laid_names, result_laid, sub_layout_at, layout_by, accepts_laid, process_layout, sub_with}
+use Rattle.pfc_semantics.specs.Programs.{Block, Guard, Program, block_at, block_number, layout_cells, program_of}
 use Rattle.pfc_translation.specs.Sites.{is_mains, is_accept, is_reference, layout_with}
-use Rattle.pfc_translation.specs.Operands.{formals_of, params_of, process_with, process_formals}
+use Rattle.pfc_translation.specs.Operands.{formals_of, params_of, process_formals}
 use Rattle.pfc_image_cells.proofs.Layouts.{AreLaid, laid_parts}
 use Rattle.pfc_image_cells.proofs.Formals.{formals_laid, result_stands}
-use Rattle.pfc_image_cells.proofs.Trees.{Placed, IsLaidOut, IsInitial, blocks_placed, initial_placed, own_sub}
+use Rattle.pfc_image_cells.proofs.Trees.{Placed, IsLaidOut, blocks_placed, own_sub}
 use Rattle.pfc_standing_code.specs.Typed.{variables_by}
-use Rattle.pfc_standing_code.specs.Words.{AreKnown}
 use Rattle.pfc_views.specs.Views.{block_site}
 use Rattle.pfc_call_laws.specs.Blocks.{Takes, own_variables}
-use Rattle.pfc_call_laws.specs.Calls.{HasNoObjects}
 use Rattle.pfc_typed_programs.specs.Bodies.{of_block}
 use Rattle.pfc_typed_programs.proofs.Blocks.{each_of, headed, known, HasScope, sub_has_block, sub_apart, sub_laid, sub_called, process_has_block, process_apart, process_no_sub, process_called, process_own}
 use Rattle.pfc_typed_programs.proofs.Bodies.{body_state}
@@ -49,8 +43,8 @@ use Rattle.pfc_callee_laws.proofs.Fine.{IsOwn}
 use Rattle.pfc_callee_laws.proofs.Known.{are_known, own_is_known}
 use Rattle.pfc_callee_laws.proofs.Mains.{of_mains}
 use Rattle.pfc_callee_laws.proofs.Values.{simple_part_plain}
-use Rattle.pfc_callee_laws.proofs.Images.{IsInImage, block_in_image}
-use Rattle.pfc_callee_laws.proofs.Laid.{IsLaidBy, all_take, all_drop, laid_true, laid_at, in_two, behind_two, accepts_true, are_laid_as}
+use Rattle.pfc_callee_laws.proofs.Images.{block_in_image}
+use Rattle.pfc_callee_laws.proofs.Laid.{all_take, all_drop, laid_true, laid_at, in_two, behind_two, accepts_true, are_laid_as}
 use Rattle.pfc_callee_laws.proofs.Program.{HoldsNone, IsPlainName, own_plain, names_plain, of_sub, of_process, its_numbers, its_layout, accept_plain}
 
 one_block : (x y : Block) → Some x ≡ Some y → x ≡ y

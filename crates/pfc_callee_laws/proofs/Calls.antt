@@ -1,5 +1,5 @@
 -- A sub that is called: whatever the way, it is nested in the block from which it is called.
-use Rattle.std.proofs.Common.{◌≡◌, ℕ, zero, suc, ◌<◌, ◌==◌, ◌||◌, ◌⊎◌, inl, inr, if◌then◌else◌, Bool, true, false, is_some, List, [], ◌∷◌, length, Some, refl, sym, ap, ◌∙◌, subst}
+use Rattle.std.proofs.Common.{◌≡◌, ℕ, suc, ◌==◌, ◌||◌, inl, inr, if◌then◌else◌, Bool, true, false, is_some, List, [], ◌∷◌, length, Some, refl, sym, ap, ◌∙◌, subst}
 use Rattle.std.specs.Prelude.{position, unwrap_or}
 use Rattle.std.specs.List.{slice_get, list_any}
 use Rattle.pfc_tree.specs.trees.Parts.{ProgramTree}
@@ -19,7 +19,7 @@ use Rattle.pfc_call_laws.specs.Around.{IsNested}
 use Rattle.pfc_call_laws.proofs.Places.{or_cases, or_left, or_right}
 use Rattle.pfc_typed_programs.specs.Bodies.{IsBody, of_block, of_module, of_main}
 use Rattle.pfc_nesting_laws.proofs.Programs.{nested_in, nested_in_mains}
-use Rattle.pfc_callee_laws.specs.Callees.{is_guarded_sort, IsActivated, IsSubBlock, IsCalledFrom, IsMainsBody}
+use Rattle.pfc_callee_laws.specs.Callees.{is_guarded_sort, IsCalledFrom, IsMainsBody}
 use Rattle.pfc_callee_laws.proofs.Known.{any_sees}
 use Rattle.pfc_callee_laws.proofs.Mains.{of_mains}
 use Rattle.pfc_callee_laws.proofs.Program.{declared_in, of_sub, outside_accepts}

@@ -20,14 +20,14 @@ use Rattle.pfc_types.specs.declared.scope.Meaning.{Meaning}
 use Rattle.pfc_types.specs.declared.scope.Meaning.TheVariants.{Named, Process, Faulty}
 use Rattle.pfc_types.specs.rules.Kinds.{where_so, type_name_rules, named_type, type_meaning, variable_meaning}
 use Rattle.pfc_types.specs.rules.Constants.{Ordinal, constant_value, broken_constant, made, type_place}
-use Rattle.pfc_types.specs.rules.Declarations.{constant_meaning, const_state, consts_state, type_state, types_state, Owner, elsewhere, holds_shared, holds_condition, shared_fits, condition_fits, owner_rules, owned_type, passes_most, populated, brought, var_name_state, var_names_state, var_state, vars_state, passed_fits, parameter_fits, parameter_type, group_type, broken_group, Heading, formal_heading, formals_heading, group_viewed, group_heading, groups_heading, accept_groups, heading, accept_heading, EntryHeading, entry_formal, entry_formals, entry_group, entry_groups, entry_meaning, entry_state, entries_state, process_named}
+use Rattle.pfc_types.specs.rules.Declarations.{constant_meaning, const_state, consts_state, type_state, types_state, Owner, elsewhere, shared_fits, condition_fits, owner_rules, owned_type, passes_most, populated, brought, var_name_state, var_names_state, var_state, vars_state, passed_fits, parameter_fits, parameter_type, group_type, broken_group, Heading, formal_heading, formals_heading, group_viewed, group_heading, groups_heading, accept_groups, heading, accept_heading, EntryHeading, entry_formal, entry_formals, entry_group, entry_groups, entry_meaning, entry_state, entries_state, process_named}
 use Rattle.pfc_types.proofs.Prefixes.{begins_push}
 use Rattle.pfc_types.proofs.Walking.{note_kept}
 use Rattle.pfc_types.proofs.WalkDeclarations.{made_kept, consts_walked, types_walked, vars_walked, entries_walked}
 use Rattle.pfc_semantics.specs.Programs.{Block}
 use Rattle.pfc_type_laws.proofs.WalkTypes.{note_forms}
 use Rattle.pfc_main_names.proofs.Placed.{HasPlace, made_placed}
-use Rattle.pfc_main_names.proofs.Owned.{declare_forms, declare_count, populated_forms, populated_count, names_forms}
+use Rattle.pfc_main_names.proofs.Owned.{declare_forms, declare_count, populated_count, names_forms}
 use Rattle.pfc_callee_laws.proofs.Heads.{Keeps, note_keeps, made_keeps}
 use Rattle.pfc_callee_laws.proofs.Fine.{IsOwn, IsFine, AreOwn, AreBelow, all_below, Fine, forms_fine, moved, note_fine, open_fine, declare_fine, around}
 

@@ -1,14 +1,14 @@
 -- What the names of a program stand for, and its headings, as far as declarations have come.
-use Rattle.std.proofs.Common.{◌≡◌, ◌≢◌, ℕ, zero, suc, ◌+◌, ◌<◌, ◌≤◌, ◌==◌, ◌||◌, ◌⊎◌, inl, inr, Bool, true, false, if◌then◌else◌, nat_lt, is_some, List, [], ◌∷◌, ◌++◌, length, length-append, length-set, drop, get_or, get_or-set_same, get_or-set_other, set, Option, Some, None, refl, sym, ap, ◌∙◌, subst, arith}
+use Rattle.std.proofs.Common.{◌≡◌, ◌≢◌, ℕ, zero, suc, ◌<◌, ◌≤◌, ◌==◌, ◌||◌, ◌⊎◌, inl, inr, Bool, true, false, if◌then◌else◌, nat_lt, is_some, List, [], ◌∷◌, ◌++◌, length, length-append, length-set, drop, get_or, get_or-set_same, get_or-set_other, set, refl, sym, ap, ◌∙◌, subst, arith}
 use Rattle.std.specs.List.{All}
 use Rattle.std.proofs.Math.ListN.{get_or-append}
 use Rattle.std.proofs.Math.Seq.{get_or-append_seam}
 use Rattle.std.proofs.lemmas.Bool.Decides.{nat_tests}
-use Rattle.std.proofs.lemmas.List.Elements.{All-nil, All-cons, All-head, All-tail, All-append, All-weaker}
+use Rattle.std.proofs.lemmas.List.Elements.{All-nil, All-cons, All-append, All-weaker}
 use Rattle.pfc_base.specs.declared.places.Place.{Place}
 use Rattle.pfc_tree.specs.Symbols.{Text}
 use Rattle.pfc_types.specs.Faults.{Faults, none, one, ◌⨾◌, unless}
-use Rattle.pfc_types.specs.Types.{Forms, held_of, is_object}
+use Rattle.pfc_types.specs.Types.{Forms, is_object}
 use Rattle.pfc_types.specs.Growing.{Begins}
 use Rattle.pfc_types.specs.Scopes.{Names, Level, scope_at, meaning_in}
 use Rattle.pfc_types.specs.Blocks.{State, no_sub, no_process, sub_at, process_at, note, declare, add_name, export_sub, open_scope}

@@ -1,5 +1,5 @@
 -- The block that the image has for one of the program's.
-use Rattle.std.proofs.Common.{◌≡◌, ℕ, ◌+◌, ◌<◌, false, List, [], ◌∷◌, length, map, get_or, slice_get, Some, None, refl, sym, ap, ◌∙◌, arith}
+use Rattle.std.proofs.Common.{◌≡◌, ℕ, false, List, [], ◌∷◌, length, map, get_or, slice_get, Some, None, refl, ap, arith}
 use Rattle.std.proofs.lemmas.Option.{slice_get_within, slice_get-get_or}
 use Rattle.pfc_code.specs.declared.images.Block.{Block as CodeBlock}
 use Rattle.pfc_code.specs.declared.instructions.Instr.{Instr}
@@ -11,7 +11,7 @@ use Rattle.pfc_translation.specs.Operands.{params_of}
 use Rattle.pfc_translation.specs.Images.{instructions, image_of}
 use Rattle.pfc_image_laws.proofs.Layouts.{image_lines, image_count}
 use Rattle.pfc_standing_code.specs.Settings.{Setting, of_own}
-use Rattle.pfc_standing_images.specs.Images.{IsOfImage, BlockStands}
+use Rattle.pfc_standing_images.specs.Images.{IsOfImage}
 use Rattle.pfc_standing_images.proofs.Wholes.{block_stands}
 
 with_lines : List Instr → List ℕ → Lined

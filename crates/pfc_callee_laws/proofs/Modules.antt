@@ -1,15 +1,14 @@
 -- Each module is found by its scope; and what is called from outside stands in its module.
-use Rattle.std.proofs.Common.{◌≡◌, ℕ, zero, suc, ◌+◌, ◌<◌, ◌≤◌, ◌==◌, nat_lt, not, cond, ◌||◌, is_some, Bool, true, false, List, [], ◌∷◌, length, get_or, slice_get, Option, Some, None, refl, sym, ap, ◌∙◌, subst, arith}
-use Rattle.std.specs.Prelude.{position}
+use Rattle.std.proofs.Common.{◌≡◌, ℕ, zero, suc, ◌+◌, ◌<◌, ◌≤◌, ◌==◌, nat_lt, not, cond, ◌||◌, is_some, Bool, true, false, List, [], ◌∷◌, length, slice_get, Option, Some, None, refl, sym, ap, ◌∙◌, subst, arith}
 use Rattle.std.specs.List.{position_or_len}
 use Rattle.std.proofs.lemmas.Bool.Decides.{nat_tests}
 use Rattle.std.proofs.lemmas.Option.{slice_get-get_or}
-use Rattle.pfc_tree.specs.trees.Parts.{PartTrees, ModuleTree, ProgramTree, consts, types, vars, sub_part, monitor, resource, process_part, no_parts, more_parts}
+use Rattle.pfc_tree.specs.trees.Parts.{PartTrees, ProgramTree, consts, types, vars, sub_part, monitor, resource, process_part, no_parts, more_parts}
 use Rattle.pfc_tree.specs.forget.Parts.{forget_program}
 use Rattle.pfc_tree.specs.lawful.Parts.{IsLawful}
 use Rattle.pfc_types.specs.Blocks.{Blocks, module_at, no_module}
 use Rattle.pfc_types.specs.declared.heads.ModuleHead.{ModuleHead}
-use Rattle.pfc_types.specs.rules.Bodies.{part_scopes, module_scopes}
+use Rattle.pfc_types.specs.rules.Bodies.{part_scopes}
 use Rattle.pfc_types.specs.rules.Whole.{finished, broken}
 use Rattle.pfc_types.specs.declared.heads.Formal.{Formal}
 use Rattle.pfc_types.specs.declared.heads.SubSort.{SubSort}

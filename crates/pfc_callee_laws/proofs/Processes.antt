@@ -1,5 +1,5 @@
 -- What is told of the processes of a program: of their scopes, of their numbers and of their entries.
-use Rattle.std.proofs.Common.{◌≡◌, ◌≢◌, ℕ, ◌+◌, ◌-◌, ◌<◌, ◌≤◌, nat_lt, Bool, true, false, List, [], ◌∷◌, length, get_or, slice_get, Option, Some, None, refl, sym, ap, ◌∙◌, subst, arith}
+use Rattle.std.proofs.Common.{◌≡◌, ℕ, ◌+◌, ◌-◌, ◌<◌, ◌≤◌, nat_lt, Bool, true, false, List, [], length, get_or, slice_get, Some, refl, sym, ap, ◌∙◌, subst, arith}
 use Rattle.std.proofs.lemmas.Bool.Decides.{nat_tests}
 use Rattle.std.proofs.lemmas.Option.{slice_get-get_or}
 use Rattle.pfc_tree.specs.Symbols.{Text}
@@ -8,7 +8,6 @@ use Rattle.pfc_tree.specs.forget.Parts.{forget_program}
 use Rattle.pfc_tree.specs.lawful.Parts.{IsLawful}
 use Rattle.pfc_types.specs.Blocks.{Blocks, process_at, entry_at}
 use Rattle.pfc_types.specs.declared.heads.Formal.{Formal}
-use Rattle.pfc_types.specs.declared.heads.ProcessHead.{ProcessHead}
 use Rattle.pfc_types.specs.declared.scope.Meaning.{Meaning}
 use Rattle.pfc_types.specs.declared.scope.Meaning.TheVariants.{Constant, Named, Variable, Sub, Module, Process, Entry, Predeclared, Faulty}
 use Rattle.pfc_types.specs.rules.Declarations.{name_cells}
@@ -17,7 +16,7 @@ use Rattle.pfc_types.specs.rules.Whole.{finished, broken}
 use Rattle.pfc_name_laws.proofs.Numbers.{get_or-beyond, none_noted}
 use Rattle.pfc_type_laws.proofs.Filled.{types_filled}
 use Rattle.pfc_semantics.specs.Layouts.{is_laid}
-use Rattle.pfc_semantics.specs.Programs.{Block, Program, block_at, block_number, program_of}
+use Rattle.pfc_semantics.specs.Programs.{Program, block_at, block_number, program_of}
 use Rattle.pfc_semantics.specs.Processes.{declaration_of}
 use Rattle.pfc_translation.specs.Sites.{is_mains}
 use Rattle.pfc_translation.specs.Images.{image_of}
@@ -25,7 +24,7 @@ use Rattle.pfc_image_cells.proofs.Trees.{Placed, blocks_placed}
 use Rattle.pfc_main_names.proofs.Mains.{are_of_main}
 use Rattle.pfc_typed_programs.proofs.Blocks.{each_of, headed, known, process_no_sub}
 use Rattle.pfc_represented_start.proofs.Processes.{labels, declared, count_is, labelled_there}
-use Rattle.pfc_callee_laws.specs.Callees.{IsProcessBlock, IsApart}
+use Rattle.pfc_callee_laws.specs.Callees.{IsApart}
 use Rattle.pfc_callee_laws.proofs.Mains.{of_mains}
 use Rattle.pfc_callee_laws.proofs.Blocks.{process_block}
 

@@ -1,51 +1,43 @@
 -- The blocks of a lawful program in which no static rule is broken.
-use Rattle.std.proofs.Common.{◌≡◌, ℕ, zero, suc, ◌+◌, ◌-◌, ◌<◌, ◌≤◌, ◌&&◌, ◌||◌, ◌⊎◌, inl, inr, Bool, true, false, nat_lt, if◌then◌else◌, is_some, List, [], ◌∷◌, ◌++◌, length, length-append, map, take, drop, get_or, Option, Some, None, refl, sym, ap, ◌∙◌, subst, arith}
+use Rattle.std.proofs.Common.{◌≡◌, ℕ, zero, suc, ◌+◌, ◌<◌, ◌≤◌, ◌&&◌, Bool, true, false, nat_lt, List, [], ◌∷◌, length, take, drop, get_or, Option, Some, refl, sym, ap, ◌∙◌, subst, arith}
 use Rattle.std.specs.Prelude.{nat_le, bytes_eq}
 use Rattle.std.specs.List.{All, slice_get}
 use Rattle.std.specs.Option.{IfSome}
 use Rattle.std.proofs.lemmas.Bool.Decides.{nat_tests}
-use Rattle.std.proofs.lemmas.List.{length-map, get_or-drop, append_assoc}
-use Rattle.std.proofs.lemmas.List.Elements.{All-weaker}
 use Rattle.std.proofs.lemmas.Map.Entries.{All-lookup}
-use Rattle.std.proofs.lemmas.Option.{slice_get_within}
 use Rattle.pfc_tree.specs.Symbols.{Text}
 use Rattle.pfc_tree.specs.trees.Parts.{ProgramTree}
 use Rattle.pfc_tree.specs.forget.Parts.{forget_program}
 use Rattle.pfc_tree.specs.lawful.Parts.{IsLawful}
-use Rattle.pfc_types.specs.Types.{Forms, is_object}
+use Rattle.pfc_types.specs.Types.{Forms}
 use Rattle.pfc_types.specs.Scopes.{Names, scope_at, meaning_in}
-use Rattle.pfc_types.specs.Blocks.{Blocks, State, sub_at, process_at}
+use Rattle.pfc_types.specs.Blocks.{Blocks, sub_at, process_at}
 use Rattle.pfc_types.specs.declared.types.TypeId.{TypeId}
-use Rattle.pfc_types.specs.declared.heads.SubHead.{SubHead}
-use Rattle.pfc_types.specs.declared.heads.ProcessHead.{ProcessHead}
 use Rattle.pfc_types.specs.declared.scope.Meaning.{Meaning}
 use Rattle.pfc_types.specs.declared.scope.Meaning.TheVariants.{Constant, Named, Variable, Sub, Module, Process, Entry, Predeclared, Faulty}
 use Rattle.pfc_types.specs.rules.Bodies.{parts_scopes}
-use Rattle.pfc_types.specs.rules.Whole.{finished, broken}
+use Rattle.pfc_types.specs.rules.Whole.{finished}
 use Rattle.pfc_name_laws.proofs.Parts.{finished_reached}
-use Rattle.pfc_name_laws.proofs.Numbers.{none_noted}
-use Rattle.pfc_semantics.specs.Layouts.{Layout, is_laid, laid_names, result_laid, sub_layout, sub_layout_at, sub_with, process_layout}
-use Rattle.pfc_semantics.specs.Programs.{Block, Program, block_at, layout_cells, program_of}
+use Rattle.pfc_semantics.specs.Layouts.{is_laid}
+use Rattle.pfc_semantics.specs.Programs.{Block, Program, block_at, program_of}
 use Rattle.pfc_translation.specs.Sites.{is_mains, is_accept, is_reference}
 use Rattle.pfc_image_laws.specs.Modules.{modules_from}
 use Rattle.pfc_image_laws.proofs.Modules.{program_modules}
-use Rattle.pfc_image_cells.proofs.Trees.{among, mods, mods_behind, program_mods, equal_number}
+use Rattle.pfc_image_cells.proofs.Trees.{among, mods, mods_behind, program_mods}
 use Rattle.pfc_cells.specs.Homes.{laid_type}
 use Rattle.pfc_cells.specs.Shapes.{IsPath}
 use Rattle.pfc_standing_code.specs.Shapes.{is_object_type}
-use Rattle.pfc_type_laws.specs.Tables.{IsOfVariables}
 use Rattle.pfc_type_laws.proofs.WalkTypes.{IsPlaced}
 use Rattle.pfc_type_laws.proofs.WalkBlocks.{finished_holds, types_built}
 use Rattle.pfc_nesting_laws.proofs.Numbered.{Every, every_at, Numbered, parts_numbered}
 use Rattle.pfc_nesting_laws.proofs.Apart.{IsClear, parts_clear, not_mains}
 use Rattle.pfc_nesting_laws.proofs.Programs.{by_scope}
-use Rattle.pfc_callee_laws.specs.Callees.{is_guarded_sort}
 use Rattle.pfc_callee_laws.proofs.Fine.{IsOwn, IsFine, IsFineSub, IsFineProcess, Fine}
 use Rattle.pfc_callee_laws.proofs.Parts.{finished_fine}
 use Rattle.pfc_callee_laws.proofs.Agreed.{IsFound, program_agrees}
 use Rattle.pfc_callee_laws.proofs.Outers.{IsOutside, parts_outside}
-use Rattle.pfc_callee_laws.proofs.Laid.{IsLaidBy, parts_laid, all_both, laid_true, in_two, accepts_true}
-use Rattle.pfc_callee_laws.proofs.Once.{AreOnce, names_once}
+use Rattle.pfc_callee_laws.proofs.Laid.{IsLaidBy, parts_laid, all_both}
+use Rattle.pfc_callee_laws.proofs.Once.{names_once}
 use Rattle.pfc_callee_laws.proofs.Values.{no_part_is_object}
 
 every_from : (P : Block → Type 0) (bs : List Block) → ((k : ℕ) (b : Block) → slice_get bs k ≡ Some b → P b) → Every P bs

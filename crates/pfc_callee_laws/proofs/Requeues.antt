@@ -1,8 +1,6 @@
 -- A requeue: it stands in the body of a guarded procedure, and names another of the same resource.
-use Rattle.std.proofs.Common.{◌≡◌, ℕ, suc, ◌<◌, ◌≤◌, ◌==◌, ◌||◌, ◌⊎◌, inl, inr, if◌then◌else◌, Bool, true, false, is_some, List, [], ◌∷◌, length, map, get_or, slice_get, Option, Some, None, refl, sym, ap, ◌∙◌, subst, arith}
-use Rattle.std.specs.Prelude.{position}
+use Rattle.std.proofs.Common.{◌≡◌, ℕ, suc, ◌<◌, ◌==◌, ◌||◌, ◌⊎◌, inl, inr, if◌then◌else◌, Bool, true, false, is_some, List, [], ◌∷◌, length, map, get_or, slice_get, Some, refl, sym, ap, ◌∙◌, subst, arith}
 use Rattle.std.specs.List.{list_any}
-use Rattle.std.proofs.lemmas.Bool.Decides.{nat_tests}
 use Rattle.std.proofs.lemmas.Option.{slice_get-get_or}
 use Rattle.std.proofs.lemmas.List.Quantifiers.{position-Some}
 use Rattle.pfc_tree.specs.trees.Parts.{ProgramTree}
@@ -17,9 +15,8 @@ use Rattle.pfc_types.specs.declared.heads.SubSort.TheVariants.{Procedure, Guarde
 use Rattle.pfc_types.specs.declared.heads.ModuleHead.{ModuleHead}
 use Rattle.pfc_types.specs.rules.Whole.{finished, broken}
 use Rattle.pfc_semantics.specs.Layouts.{sub_with}
-use Rattle.pfc_semantics.specs.Programs.{Block, Guard, Program, block_at, block_number, program_of}
+use Rattle.pfc_semantics.specs.Programs.{Block, Program, block_at, block_number, program_of}
 use Rattle.pfc_translation.specs.Sites.{module_of, is_mains, is_accept}
-use Rattle.pfc_image_laws.specs.Modules.{modules_from}
 use Rattle.pfc_image_laws.proofs.Modules.{program_modules}
 use Rattle.pfc_image_laws.specs.Levels.{sees}
 use Rattle.pfc_image_cells.specs.Subs.{parts_subs}

@@ -1,9 +1,9 @@
 -- No part of a variable whose type holds no object is one.
-use Rattle.std.proofs.Common.{◌≡◌, ℕ, zero, suc, ◌<◌, ◌==◌, ◌||◌, ℤ, Bool, true, false, nat_lt, List, [], ◌∷◌, Option, Some, None, refl, sym, ap, ◌∙◌, subst, arith}
+use Rattle.std.proofs.Common.{◌≡◌, ℕ, zero, suc, ◌<◌, ◌==◌, ◌||◌, ℤ, Bool, true, false, List, [], Option, Some, None, refl, sym, ap, ◌∙◌, subst, arith}
 use Rattle.std.specs.List.{slice_get}
 use Rattle.std.proofs.lemmas.Bool.Decides.{nat_tests}
 use Rattle.pfc_tree.specs.Symbols.{Text}
-use Rattle.pfc_types.specs.Types.{Forms, semaphore, condition, integer, form_of, is_same, is_simple, is_object}
+use Rattle.pfc_types.specs.Types.{Forms, condition, integer, form_of, is_same, is_simple, is_object}
 use Rattle.pfc_types.specs.Fields.{FieldList}
 use Rattle.pfc_types.specs.declared.types.TypeId.{TypeId}
 use Rattle.pfc_types.specs.declared.types.TypeForm.{TypeForm}

@@ -28,7 +28,8 @@ abbrev pub under : Env → Around → Env
 under env a = record env { around = a }
 
 module _ (g : Program) (env : Env) (a : Around) (subs : SubsStand g env.state.blocks) where
-  name_called : (found : Option Found) (alone bare : Bool) (q : Place) → IsClean (use_rules (under env a) found alone bare q) → SuitsName g env (meaning_of found)
+  name_called : (found : Option Found) (alone bare : Bool) (q : Place) → IsClean (use_rules (under env a) found alone bare q)
+      → SuitsName g env (meaning_of found)
   name_called None alone bare q h = tt
   name_called (Some f) alone bare q h = by f.meaning (held (fits_use env.state.blocks alone bare f.meaning) q 310 h.0)
     where

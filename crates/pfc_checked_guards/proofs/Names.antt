@@ -51,7 +51,8 @@ sub_named scopes (level ∷ view) x n e =
     by (Some k) (Some m) h e rest = seen (nat_lt k level.count) e
       where
         seen : (b : Bool)
-            → meaning_of (option_or (if b then Some (record { scope = Some level.scope; place = k; meaning = m }) else None) (found_in scopes view x)) ≡ Some (Sub n)
+            → meaning_of (option_or (if b then Some (record { scope = Some level.scope; place = k; meaning = m }) else None) (found_in scopes view x))
+            ≡ Some (Sub n)
             → IsNamed scopes x n (level ∷ view)
         seen true e = inl (h ∙ e)
         seen false e = inr (rest e)

@@ -251,7 +251,8 @@ module _ (t : ProgramTree) (subs : SubsStand (program_of t) (finished t).blocks)
   Init b = SuitStmts g plain b.env b.next b.stmts
 
   init_suits :
-      (scope : ℕ) (view : List Level) (next : ℕ) (b : Option BodyTree) → IsClean (broken_init s view next b) → AllByRecursion Init (init_block s scope view next b)
+      (scope : ℕ) (view : List Level) (next : ℕ) (b : Option BodyTree) → IsClean (broken_init s view next b)
+      → AllByRecursion Init (init_block s scope view next b)
   init_suits scope view next None clean = tt
   init_suits scope view next (Some (body ss first last)) clean = (free_body plain view around_nothing next ss refl clean, tt)
 
@@ -298,5 +299,6 @@ module _ (t : ProgramTree) (subs : SubsStand (program_of t) (finished t).blocks)
         processes_unguarded = modules.processes;
       }
     where
-      no_guard_in_main : (b : BodyTree) → (block_of 0 0 (env_of_main s) (1 + parts_scopes t.parts) b (main_layout bs (scope_at bs.scopes 0)) 0 None).guard ≡ None
+      no_guard_in_main : (b : BodyTree)
+          → (block_of 0 0 (env_of_main s) (1 + parts_scopes t.parts) b (main_layout bs (scope_at bs.scopes 0)) 0 None).guard ≡ None
       no_guard_in_main (body ss first last) = refl

@@ -122,7 +122,8 @@ module _ (g : Program) (mark : Mark) where
         by guarded m e sort = tt
 
   mutual
-    pub stmt_called : (env : Env) (a : Around) → IsPlace g mark env a → (n : ℕ) (t : StmtTree) → IsClean (broken_stmt (under env a) n t) → SuitsStmt g mark env n t
+    pub stmt_called : (env : Env) (a : Around) → IsPlace g mark env a → (n : ℕ) (t : StmtTree) → IsClean (broken_stmt (under env a) n t)
+        → SuitsStmt g mark env n t
     stmt_called env a is n empty h = tt
     stmt_called env a is n (null p) h = tt
     stmt_called env a is n (block (body ss first last) p) h = stmts_called env a is n ss h
@@ -142,8 +143,10 @@ module _ (g : Program) (mark : Mark) where
     stmt_called env a is n (select_else pri alts ss at p q) h =
         (alts_called env a is n alts h.1.1.1.0, stmts_called env a is (n + alts_scopes alts) ss h.1.1.1.1.1)
     stmt_called env a is n (assign d e p q) h = (target_suits env a is d h.0, expr_suits env a is e h.1.0)
-    stmt_called env a is n (send d e p q) h = (desig_suits env a is d h.0.0, message_suits env a is (carried_by env.state.forms (desig_type (under env a) d)) e q h.1)
-    stmt_called env a is n (receive d v p q) h = (desig_suits env a is d h.0.0, receiver_suits env a is (carried_by env.state.forms (desig_type (under env a) d)) v q h.1)
+    stmt_called env a is n (send d e p q) h =
+        (desig_suits env a is d h.0.0, message_suits env a is (carried_by env.state.forms (desig_type (under env a) d)) e q h.1)
+    stmt_called env a is n (receive d v p q) h =
+        (desig_suits env a is d h.0.0, receiver_suits env a is (carried_by env.state.forms (desig_type (under env a) d)) v q h.1)
     stmt_called env a is n (call d args p) h = call_called g env a is.subs is.entered d args h
 
     pub stmts_called :
@@ -167,8 +170,10 @@ module _ (g : Program) (mark : Mark) where
     comm_called :
         (env : Env) (a : Around) → IsPlace g mark env a → (n : ℕ) (c : CommTree) → IsClean (broken_comm (under env a) n c) → SuitsComm g mark env n c
     comm_called env a is n (comm_accept b p) h = accept_called env a is n b p h
-    comm_called env a is n (comm_send d e p) h = (desig_suits env a is d h.0.0, message_suits env a is (carried_by env.state.forms (desig_type (under env a) d)) e p h.1)
-    comm_called env a is n (comm_receive d v p) h = (desig_suits env a is d h.0.0, receiver_suits env a is (carried_by env.state.forms (desig_type (under env a) d)) v p h.1)
+    comm_called env a is n (comm_send d e p) h =
+        (desig_suits env a is d h.0.0, message_suits env a is (carried_by env.state.forms (desig_type (under env a) d)) e p h.1)
+    comm_called env a is n (comm_receive d v p) h =
+        (desig_suits env a is d h.0.0, receiver_suits env a is (carried_by env.state.forms (desig_type (under env a) d)) v p h.1)
     comm_called env a is n (timeout e p) h = expr_suits env a is e h.0
     comm_called env a is n (terminate p) h = tt
 

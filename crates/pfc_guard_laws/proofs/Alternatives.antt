@@ -124,4 +124,5 @@ module _ (g : Program) (mark : Mark) (scanned : Scan → Type 0) (c : Context) w
       → SuitsRemainder g mark scanned c.env k → SuitsAction g mark scanned (from_alternatives c rest s k)
   alternatives_suit [] others s all k left = (all, left)
   alternatives_suit (a ∷ rest) others s all k left =
-      replica_suits a others.0 rest others.1 s all k left (λ t. from_alternatives c rest t k) (λ t found. alternatives_suit rest others.1 t found k left) a.replica
+      replica_suits a others.0 rest others.1 s all k left (λ t. from_alternatives c rest t k)
+      (λ t found. alternatives_suit rest others.1 t found k left) a.replica

@@ -179,7 +179,8 @@ module _ (g : Program) (program : SuitsProgram g) (scanned : List Activation →
 
         new_suits : SuitsConfig g scanned (instead owns n own) new
         new_suits =
-            instead_suits g scanned owns (record c { store = with_room c.store (new_number c) (new_values g b values); table = placed c.table n Is_created }) n own _
+            instead_suits g scanned owns
+            (record c { store = with_room c.store (new_number c) (new_values g b values); table = placed c.table n Is_created }) n own _
             suits
             (record { stands = refl; doing = body_suits g program plain (scanned own) b stmts; activations = (([], tt, tt), tt); hand = tt })
 
@@ -337,7 +338,8 @@ module _ (g : Program) (program : SuitsProgram g) (scanned : List Activation →
 
     -- ## Every action
 
-    pub effect_suits : (choice : ℕ) (m : Action) → act ≡ m → SuitsAction g (mark_in (owns p)) (scanned (owns p)) m → SuitsEffect g scanned (effect g c p choice m)
+    pub effect_suits : (choice : ℕ) (m : Action) → act ≡ m → SuitsAction g (mark_in (owns p)) (scanned (owns p)) m
+        → SuitsEffect g scanned (effect g c p choice m)
     effect_suits choice (reads x s u) e suited = (owns, it_holds g scanned owns c p x (value_for g c p s) u suits suited)
     effect_suits choice (writes x s v k) e suited = (owns, on_it_goes g scanned owns (written_for g c p s v) p x k suits suited)
     effect_suits choice (turns x k) e suited = on x k suited

@@ -39,7 +39,8 @@ module _ (g : Program) (mark : Mark) (scanned : Scan → Type 0) where
     Evaluates from = (u : AwaitsValue) (go : Value → Action) → SuitsAwaiting g mark scanned c.env u → Goes go → SuitsAction g mark scanned (from u go)
 
     abbrev pub Locates : (AwaitsLocation → (TypedSpot → Action) → Action) → Type 0
-    Locates from = (goal : AwaitsLocation) (go : TypedSpot → Action) → SuitsGoal g mark scanned c.env goal → Arrives go → SuitsAction g mark scanned (from goal go)
+    Locates from =
+        (goal : AwaitsLocation) (go : TypedSpot → Action) → SuitsGoal g mark scanned c.env goal → Arrives go → SuitsAction g mark scanned (from goal go)
 
     pub number_on : (o : Outcome) (go : Value → Action) → Goes go → SuitsAction g mark scanned (with_number c o go)
     number_on (Ok n) go on = on (ordinal n)
@@ -167,7 +168,8 @@ module _ (g : Program) (mark : Mark) (scanned : Scan → Type 0) where
       variable_suits e suits goal go waits on = on (spot_in 0 0 None)
 
       pub args_suit :
-          (formals : List Formal) (args : ActualTrees) → SuitActuals g c.env args → (given : List Argument) (call : Call) → SuitsCalling g mark scanned c.env call
+          (formals : List Formal) (args : ActualTrees) → SuitActuals g c.env args → (given : List Argument) (call : Call)
+          → SuitsCalling g mark scanned c.env call
           → SuitsAction g mark scanned (from_args c formals args given call)
       args_suit formals no_actuals suits given call waits = waits
       args_suit [] (more_actuals a rest) suits given call waits = waits

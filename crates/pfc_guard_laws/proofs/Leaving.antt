@@ -1,13 +1,11 @@
 -- Where all returns from resources are from ones that have been entered once, whoever scans behind a return has left the resource.
 use Rattle.std.proofs.Common.{◌≡◌, ◌≢◌, ℕ, List, [], ◌∷◌, true, Ok, All, refl, sym, subst}
 use Rattle.std.proofs.lemmas.List.Elements.{All-nil}
-use Rattle.pfc_types.specs.rules.Expressions.{Env}
 use Rattle.pfc_state.specs.Stands.{is_ready}
 use Rattle.pfc_world.specs.Tables.{at}
 use Rattle.pfc_semantics.specs.Programs.{Program}
-use Rattle.pfc_semantics.specs.Remainders.{Action, Way, Scan, Remainder, leave, own as trying, scans, passes, finishes}
-use Rattle.pfc_semantics.specs.Configurations.{Mark, of_resource, of_remainder, Activation, Config, activity_of}
-use Rattle.pfc_semantics.specs.Resources.{scan_of}
+use Rattle.pfc_semantics.specs.Remainders.{Action, Way, Scan, leave, own as trying, scans, passes, finishes}
+use Rattle.pfc_semantics.specs.Configurations.{of_resource, Activation, Config, activity_of}
 use Rattle.pfc_semantics.specs.Steps.{next_of, effect, line_of}
 use Rattle.pfc_semantics.specs.Events.{step}
 use Rattle.pfc_semantics.specs.Time.{settled_config}
@@ -52,7 +50,8 @@ module _ (g : Program) (program : SuitsProgram g) where
       let come = all_come_left first d so before in
       step_left (settled_config d) p choice ready once (come.0, settled_suits g Left d come.0 come.1)
 
-  left_by_way : (c : Config) (p : ℕ) (own : List Activation) → StandsOn own (activity_of g c p).activations → (s : Scan) (way : Way) → LeftFor way s.resource own
+  left_by_way : (c : Config) (p : ℕ) (own : List Activation) → StandsOn own (activity_of g c p).activations → (s : Scan) (way : Way)
+      → LeftFor way s.resource own
       → HasLeft g c p s way
   left_by_way c p own stands s leave left = own_left s.resource own (activity_of g c p).activations stands left
   left_by_way c p own stands s (trying bar) left = tt

@@ -9,3 +9,4 @@ pub mod Communications
 pub mod Effects
 pub mod Runs
 pub mod Leaving
+pub mod Keeping

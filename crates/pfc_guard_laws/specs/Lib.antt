@@ -2,3 +2,4 @@ pub mod Written
 pub mod Remainders
 pub mod Configurations
 pub mod Runs
+pub mod Keeping

@@ -1,5 +1,5 @@
--- What is left of a text, in an activation with this mark: what is called is as the rules ask, each guard is of the resource in which its procedure stands, and of
--- each scan something is so. Names are in view from here or from there, so the names in view are told.
+-- What is left of a text, in an activation with this mark: what is called is as the rules ask, each guard is of the resource in which its procedure stands,
+-- and of each scan something is so. The names in view are told, since what is called depends on them.
 use Rattle.std.specs.Prelude.{◌+◌, ◌≡◌, List, Option, Some, None}
 use Rattle.std.specs.List.{AllByRecursion}
 use Rattle.pfc_types.specs.rules.Expressions.{Env}

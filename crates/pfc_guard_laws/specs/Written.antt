@@ -1,5 +1,5 @@
--- What is called by a text. A sub that is called by its name, or in an expression, has no guard; an exported procedure stands in its module; and a requeue, which
--- stands in a guarded procedure alone, names one of the same resource.
+-- What is called by a text. A sub that is called by its name, or in an expression, has no guard; an exported procedure stands in its module; and a requeue,
+-- which stands in a guarded procedure alone, names one of the same resource.
 use Rattle.std.specs.Prelude.{ℕ, ◌+◌, ◌≡◌, Bool, true, false, Option, Some, None, is_some}
 use Rattle.pfc_base.specs.declared.places.Place.{Place}
 use Rattle.pfc_tree.specs.Symbols.{Text}

@@ -7,4 +7,4 @@
 
 mod laws;
 
-pub use laws::{guards_are_of_their_resources, who_scans_has_left};
+pub use laws::{guards_are_of_their_resources, runs_keep_to_rules, who_scans_has_left};

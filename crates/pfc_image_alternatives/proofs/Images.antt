@@ -1,17 +1,15 @@
 -- So it is of the whole image.
-use Rattle.std.proofs.Common.{◌≡◌, ℕ, suc, ◌+◌, ◌≤◌, false, List, [], ◌∷◌, ◌++◌, length, Option, Some, None, refl, sym, ap, ◌∙◌, subst, arith}
+use Rattle.std.proofs.Common.{◌≡◌, ℕ, suc, ◌+◌, ◌≤◌, false, List, [], ◌∷◌, length, Option, Some, None, refl, sym, subst, arith}
 use Rattle.std.specs.List.{All}
 use Rattle.pfc_tree.specs.trees.Parts.{ProgramTree}
 use Rattle.pfc_tree.specs.forget.Parts.{forget_program}
 use Rattle.pfc_tree.specs.lawful.Parts.{IsLawful}
 use Rattle.pfc_types.specs.Blocks.{State}
-use Rattle.pfc_types.specs.Scopes.{Level, meaning_of}
-use Rattle.pfc_types.specs.rules.Expressions.{Env, find}
+use Rattle.pfc_types.specs.Scopes.{meaning_of}
+use Rattle.pfc_types.specs.rules.Expressions.{find}
 use Rattle.pfc_types.specs.rules.FaultyNames.{stands_faulty}
 use Rattle.pfc_types.specs.rules.Whole.{finished, faults_in, broken, broken_bodies}
 use Rattle.pfc_semantics.specs.Programs.{Block, Guard, Program, program_of}
-use Rattle.pfc_translation.specs.Codes.{Code, ◌⨾◌, one}
-use Rattle.pfc_translation.specs.Expressions.{expr_code}
 use Rattle.pfc_translation.specs.Images.{site_in, guard_code, statements_code, body_code, Piece, a_body, an_initial, a_resource, pieces, resources_in, piece_code, coded, most_arms, image_of}
 use Rattle.pfc_name_laws.proofs.Numbers.{numbered, no_faulty, none_noted}
 use Rattle.pfc_name_laws.proofs.Parts.{finished_reached}

@@ -1,5 +1,5 @@
 -- Code with few alternatives in each select: what expressions, calls and communications give has none.
-use Rattle.std.proofs.Common.{◌≡◌, ℕ, suc, ◌+◌, ◌≤◌, max, Bool, true, false, if◌then◌else◌, cond, List, [], ◌∷◌, Option, Some, None, refl, arith}
+use Rattle.std.proofs.Common.{ℕ, ◌≤◌, max, Bool, true, false, if◌then◌else◌, List, [], ◌∷◌, Option, Some, None, arith}
 use Rattle.pfc_tree.specs.Symbols.{Text}
 use Rattle.pfc_tree.specs.trees.Exprs.{ExprTree, DesigTree, SelectorTrees, ExprTrees, ActualTree, ActualTrees, plain, sum, no_summands, product, no_multipliers, applied, desig, index, field, no_selectors, more_selectors, no_exprs, more_exprs, actual, actual_width, no_actuals, more_actuals}
 use Rattle.pfc_base.specs.declared.places.Place.{Place}
@@ -7,27 +7,22 @@ use Rattle.pfc_types.specs.declared.types.TypeId.{TypeId}
 use Rattle.pfc_types.specs.declared.scope.Meaning.{Meaning}
 use Rattle.pfc_types.specs.declared.scope.Meaning.TheVariants.{Variable, Sub, Module, Process, Entry, Predeclared}
 use Rattle.pfc_types.specs.declared.heads.Formal.{Formal}
-use Rattle.pfc_types.specs.declared.heads.SubHead.{SubHead}
 use Rattle.pfc_types.specs.declared.view.Found.{Found}
-use Rattle.pfc_types.specs.Scopes.{meaning_of, meaning_in, scope_at}
+use Rattle.pfc_types.specs.Scopes.{meaning_in, scope_at}
 use Rattle.pfc_types.specs.Blocks.{module_at, process_at, entry_at, sub_at}
 use Rattle.pfc_types.specs.rules.Calls.{last_field, before_last}
 use Rattle.pfc_types.specs.rules.Expressions.{find, field_type, selected, as_desig}
-use Rattle.pfc_semantics.specs.Objects.{module_number}
-use Rattle.pfc_semantics.specs.Displays.{Spot}
-use Rattle.pfc_semantics.specs.Programs.{Block, Program, block_number}
+use Rattle.pfc_semantics.specs.Programs.{Block, Program}
 use Rattle.pfc_semantics.specs.Predeclared.{Procedure, reader, writer, initial, wait, signal, delay, resume, sleep, no_procedure, procedure_of}
 use Rattle.pfc_semantics.specs.Expressions.{spot_of}
 use Rattle.pfc_semantics.specs.Statements.{as_string, item_of, expr_of, behind_first, name_in_process, process_of_type}
 use Rattle.pfc_semantics.specs.Remainders.{Replica}
 use Rattle.pfc_semantics.specs.Alternatives.{message_of, receiver_of}
-use Rattle.pfc_code.specs.declared.instructions.Instr.{Instr}
-use Rattle.pfc_code.specs.declared.instructions.Instr.TheVariants.{NEW, REQ}
 use Rattle.pfc_translation.specs.Sites.{Site, blocks_of, forms_of, context_of}
-use Rattle.pfc_translation.specs.Codes.{Code, nothing, ◌⨾◌, one, over, back, string, unseen}
-use Rattle.pfc_translation.specs.Addresses.{base_code, type_behind, element_in}
-use Rattle.pfc_translation.specs.Expressions.{call_instr, expr_code, first_value, first_address, actual_code, lent_code, variable_code, args_code, selectors_code, indices_code, address_code, desig_code, object_code}
-use Rattle.pfc_translation.specs.Calls.{plain_item, wide_item, item_code, writes_code, input_code, reads_code, given_code, rank_code, first_object, procedure_code, sub_code, enter_instr, exported_code, module_code, resource_of, requeue_code, activation_code, entry_code, process_code, field_code, called_variable, called_process, called_code, found_code, call_code}
+use Rattle.pfc_translation.specs.Codes.{Code}
+use Rattle.pfc_translation.specs.Addresses.{type_behind, element_in}
+use Rattle.pfc_translation.specs.Expressions.{expr_code, first_value, first_address, actual_code, lent_code, variable_code, args_code, selectors_code, indices_code, address_code, desig_code, object_code}
+use Rattle.pfc_translation.specs.Calls.{plain_item, wide_item, item_code, writes_code, input_code, reads_code, given_code, rank_code, first_object, procedure_code, exported_code, module_code, requeue_code, activation_code, entry_code, process_code, field_code, called_variable, called_process, called_code, found_code, call_code}
 use Rattle.pfc_translation.specs.Selects.{message_code, receiver_code, send_code, receive_code, replica_code}
 use Rattle.pfc_translation.specs.Statements.{assign_code}
 use Rattle.pfc_image_laws.proofs.Phrases.{IsAlone, LeadsOn, LeadsBack}

@@ -1,14 +1,14 @@
 -- A spread stands for as many alternatives as are counted of it.
-use Rattle.std.proofs.Common.{◌≡◌, ◌≢◌, ℕ, zero, suc, ◌+◌, ◌≤◌, ◌==◌, ℤ, pos, ◌+ℤ◌, Bool, true, false, ◌&&◌, if◌then◌else◌, List, [], ◌∷◌, ◌++◌, length, map, Option, Some, None}
+use Rattle.std.proofs.Common.{◌≡◌, ℕ, zero, suc, ◌+◌, ◌≤◌, ◌==◌, ℤ, pos, ◌+ℤ◌, Bool, true, false, ◌&&◌, if◌then◌else◌, List, [], length, Option, Some, None}
 use Rattle.std.proofs.Common.{refl, sym, ap, ◌∙◌, subst, arith, length-append}
-use Rattle.std.specs.Prelude.{int_le, nat_le}
+use Rattle.std.specs.Prelude.{int_le}
 use Rattle.std.proofs.lemmas.List.{length-map}
 use Rattle.pfc_base.specs.declared.places.Place.{Place}
 use Rattle.pfc_tree.specs.declared.tree.Spread.{Spread}
 use Rattle.pfc_tree.specs.declared.tree.Constant.{Constant}
 use Rattle.pfc_tree.specs.trees.Stmts.{AltTrees, no_alts, more_alts, alt}
 use Rattle.pfc_types.specs.Blocks.{State}
-use Rattle.pfc_types.specs.Scopes.{Names, Level, meaning_of}
+use Rattle.pfc_types.specs.Scopes.{Level, meaning_of}
 use Rattle.pfc_types.specs.Types.{is_same, extent}
 use Rattle.pfc_types.specs.declared.types.TypeId.{TypeId}
 use Rattle.pfc_types.specs.declared.scope.Meaning.{Meaning}
@@ -19,7 +19,7 @@ use Rattle.pfc_types.specs.rules.Constants.{Ordinal, constant_value, constant_ty
 use Rattle.pfc_types.specs.rules.Expressions.{Env, find}
 use Rattle.pfc_types.specs.rules.Statements.{for_rule, broken_spread, values_between, spread_count, alts_count, alt_scopes, broken_alts}
 use Rattle.pfc_semantics.specs.Displays.{Spot}
-use Rattle.pfc_semantics.specs.Remainders.{Context, Alternative}
+use Rattle.pfc_semantics.specs.Remainders.{Context}
 use Rattle.pfc_semantics.specs.Expressions.{spot_of}
 use Rattle.pfc_semantics.specs.Alternatives.{replicas_from, replicas_between, replicas_by, replicas, alternative, spread_out, alternatives}
 use Rattle.pfc_image_numbers.proofs.Rules.{IsClean, held, and_left, and_right}

@@ -26,7 +26,7 @@ use Rattle.pfc_run_invariants.specs.Fitting.{FitNames}
 use Rattle.pfc_run_invariants.specs.Remainders.{FitsAction}
 use Rattle.pfc_run_invariants.specs.Written.{FitStmts}
 use Rattle.pfc_run_invariants.specs.Configurations.{FitsGuard, FitsBlock, FitsProgram, marks_of, IsStable}
-use Rattle.pfc_inside_laws.specs.Inside.{IsMonitor, IsNoMonitor, IsOf, of_main, of_module, of_block, of_guard, in_accept, IsScoped, IsWithin, inside_of, FitsTest, HasText, AreInside, IsAlive}
+use Rattle.pfc_inside_laws.specs.Inside.{IsMonitor, IsForAccept, IsOf, of_main, of_module, of_block, of_guard, in_accept, IsScoped, IsWithin, inside_of, FitsTest, HasText, AreInside, IsAlive}
 use Rattle.pfc_run_invariants.proofs.Runs.{next_of_fits}
 
 -- ## Names that are found
@@ -129,12 +129,12 @@ module _ (g : Program) (scoped : IsScoped g) where
   abbrev Is : ℕ → List Mark → Env → Type 0
   Is p ms env = IsOf g env × IsWithin g p ms env
 
-  accept_at : (p : ℕ) (ms : List Mark) (env : Env) (i : ℕ) → Is p ms env → IsNoMonitor g i → IsWithin g p ms (within_accept env i)
+  accept_at : (p : ℕ) (ms : List Mark) (env : Env) (i : ℕ) → Is p ms env → IsForAccept g i → IsWithin g p ms (within_accept env i)
   accept_at p ms env i is none child j n seen_there monitor = by (i == j) refl seen_there
     where
       by : (b : Bool) → (i == j) ≡ b → (b || list_any (λ (level : Level). level.scope == j) env.view) ≡ true → list_any (is_in n) ms ≡ true
       by true e h =
-          let same : i ≡ j = grind (arith, nat_tests) in absurd (none n (subst (λ (k : ℕ). IsMonitor g k n) (sym same) monitor))
+          let same : i ≡ j = grind (arith, nat_tests) in absurd (none.monitor n (subst (λ (k : ℕ). IsMonitor g k n) (sym same) monitor))
       by false e h = is.1 child j n h monitor
 
   pub closed : IsClosed (inside_of g)
@@ -191,7 +191,7 @@ module _ (g : Program) (scoped : IsScoped g) where
     block_fits : (k : ℕ) (b : Block) → slice_get g.blocks k ≡ Some b → FitsBlock (inside_of g) b
     block_fits k b is = let t = text.blocks k b is in record { stmts = t.stmts; guard = guard_fits k b b.guard is refl t.guard }
 
-    unguarded : (b : Block) → FitStmts (IsNoMonitor g) b.next b.stmts × (b.guard ≡ None) → FitsBlock (inside_of g) b
+    unguarded : (b : Block) → FitStmts (IsForAccept g) b.next b.stmts × (b.guard ≡ None) → FitsBlock (inside_of g) b
     unguarded b t = record { stmts = t.0; guard = subst (λ (o : Option Guard). FitsGuard (inside_of g) o) (sym t.1) tt }
 
     pub program_fits : FitsProgram (inside_of g)

@@ -31,9 +31,14 @@ pub record IsMonitor (g : Program) (i n : ℕ) : Type 0 where
 abbrev pub IsSeen : Env → ℕ → Type 0
 IsSeen env i = list_any (λ (level : Level). level.scope == i) env.view ≡ true
 
--- no accept has the scope of a monitor, whose number that is
+-- the scope is no monitor's
 abbrev pub IsNoMonitor : Program → ℕ → Type 0
 IsNoMonitor g i = (n : ℕ) → IsMonitor g i n → ⊥
+
+-- The scope may be that of an accept: it is no monitor's, and its names, which stand for parameters, are no subs.
+pub record IsForAccept (g : Program) (i : ℕ) : Type 0 where
+  pub monitor : IsNoMonitor g i
+  pub subs : (x : Text) (k : ℕ) → meaning_in (scope_at g.state.blocks.scopes i) x ≡ Some (Sub k) → ⊥
 
 abbrev pub SeesNoMonitor : Program → Env → Type 0
 SeesNoMonitor g env = (i n : ℕ) → IsSeen env i → IsMonitor g i n → ⊥
@@ -44,7 +49,7 @@ pub data IsOf (g : Program) : Env → Type 0 where
   of_module : (k : ℕ) (b : Block) → slice_get g.modules k ≡ Some b → IsOf g b.env
   of_block : (k : ℕ) (b : Block) → slice_get g.blocks k ≡ Some b → IsOf g b.env
   of_guard : (k : ℕ) (b : Block) (guard : Guard) → slice_get g.blocks k ≡ Some b → b.guard ≡ Some guard → IsOf g guard.env
-  in_accept : (env : Env) (i : ℕ) → IsOf g env → IsNoMonitor g i → IsOf g (within_accept env i)
+  in_accept : (env : Env) (i : ℕ) → IsOf g env → IsForAccept g i → IsOf g (within_accept env i)
 
 -- Static scoping, as far as monitors go. What is called by a name in view sees no monitor that is not seen there; what is called from outside a module sees
 -- no monitor but that one; processes and guards see none. No sub has the scope of a monitor.
@@ -71,7 +76,7 @@ inside_of g =
       program = g;
       env = λ p ms env. IsOf g env × IsWithin g p ms env;
       spot = λ p ms i. (p ≢ 0) → (n : ℕ) → IsMonitor g i n → list_any (is_in n) ms ≡ true;
-      accept = IsNoMonitor g;
+      accept = IsForAccept g;
       guard = λ env. IsOf g env × SeesNoMonitor g env;
       alive = λ activations. activations ≢ [];
       acts = λ c p. (at c.table.rows p ≡ Is_ready) × ((activity_of g c p).activations ≢ []);
@@ -83,16 +88,16 @@ abbrev pub FitsTest : Option Guard → Type 0
 FitsTest None = Unit {0}
 FitsTest (Some guard) = FitsExpr guard.test
 
--- In a body numbers have 32 bits, and accepts have scopes of their own.
+-- In a body numbers have 32 bits, and accepts have scopes of parameters.
 pub record FitsText (g : Program) (b : Block) : Type 0 where
-  pub stmts : FitStmts (IsNoMonitor g) b.next b.stmts
+  pub stmts : FitStmts (IsForAccept g) b.next b.stmts
   pub guard : FitsTest b.guard
 
 -- so all bodies, and the first values
 pub record HasText (g : Program) : Type 0 where
   pub blocks : (k : ℕ) (b : Block) → slice_get g.blocks k ≡ Some b → FitsText g b
-  pub modules : (k : ℕ) (b : Block) → slice_get g.modules k ≡ Some b → FitStmts (IsNoMonitor g) b.next b.stmts × (b.guard ≡ None)
-  pub main : FitStmts (IsNoMonitor g) g.main.next g.main.stmts × (g.main.guard ≡ None)
+  pub modules : (k : ℕ) (b : Block) → slice_get g.modules k ≡ Some b → FitStmts (IsForAccept g) b.next b.stmts × (b.guard ≡ None)
+  pub main : FitStmts (IsForAccept g) g.main.next g.main.stmts × (g.main.guard ≡ None)
   pub firsts : FitList g.firsts
   pub variables : FitList g.variables
 

@@ -1,5 +1,5 @@
 -- The scopes of accepts are none of modules: each body has scopes of its own, and so has each module.
-use Rattle.std.proofs.Common.{◌≡◌, ◌≢◌, ℕ, zero, suc, ◌+◌, ◌≤◌, ◌<◌, Bool, true, false, List, [], ◌∷◌, ◌++◌, length, get_or, take, drop, Option, Some, None, refl, sym, ap, arith}
+use Rattle.std.proofs.Common.{◌≡◌, ◌≢◌, ℕ, zero, suc, ◌+◌, ◌≤◌, ◌<◌, Bool, true, false, List, [], ◌∷◌, length, get_or, take, drop, Option, Some, None, refl, arith}
 use Rattle.std.specs.List.{AllByRecursion}
 use Rattle.pfc_tree.specs.trees.Stmts.{BodyTree, body}
 use Rattle.pfc_tree.specs.trees.Parts.{PartTree, PartTrees, SubTree, ModuleTree, ProcessTree, consts, types, vars, sub_part, monitor, resource, process_part, no_parts, more_parts, sub, the_module, process}
@@ -10,11 +10,11 @@ use Rattle.pfc_types.specs.rules.Expressions.{Env}
 use Rattle.pfc_types.specs.rules.Statements.{body_scopes}
 use Rattle.pfc_types.specs.rules.Bodies.{env_at, around_nothing, around_process, around_sub, around_guard, passed, passed_part, passed_groups, passed_entries, part_scopes, parts_scopes, module_scopes, level}
 use Rattle.pfc_semantics.specs.Layouts.{Layout, sub_layout_at, process_layout}
-use Rattle.pfc_semantics.specs.Programs.{Block, Guard, block_of, guard_of, part_blocks, parts_blocks, sub_blocks, module_blocks, process_blocks, init_block, module_inits, part_inits, parts_inits}
+use Rattle.pfc_semantics.specs.Programs.{Block, Guard, block_of, guard_of, part_blocks, parts_blocks, sub_blocks, module_blocks, process_blocks, module_inits, parts_inits}
 use Rattle.pfc_image_laws.specs.Modules.{modules_from}
 use Rattle.pfc_run_invariants.specs.Written.{FitStmts}
 use Rattle.pfc_run_invariants.proofs.Lists.{all_append, all_push}
-use Rattle.pfc_number_laws.specs.Written.{HasBody, FitsEnding, FitsPart, FitParts, FitsSub, FitsModule, FitsProcess}
+use Rattle.pfc_number_laws.specs.Written.{HasBody, FitsPart, FitParts, FitsSub, FitsModule, FitsProcess}
 use Rattle.pfc_inside_programs.proofs.Accepts.{Along, stmts_fit}
 
 -- ## Modules

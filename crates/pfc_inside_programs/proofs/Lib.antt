@@ -1,3 +1,4 @@
 pub mod Accepts
 pub mod Bodies
+pub mod Parameters
 pub mod Programs

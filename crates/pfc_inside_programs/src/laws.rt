@@ -8,8 +8,8 @@ ghost use Rattle.pfc_semantics.specs.Programs.{program_of};
 ghost use Rattle.pfc_number_laws.specs.Written.{FitsTree};
 ghost use Rattle.pfc_inside_laws.specs.Inside.{HasText};
 
-/// In the bodies of a lawful program in which no static rule is broken no accept has the scope of a monitor, and numbers have 32 bits where those that are
-/// written have.
+/// In the bodies of a lawful program in which no static rule is broken accepts have scopes of parameters, none of which is a monitor's, and numbers have 32 bits
+/// where those that are written have.
 pub fn checked_programs_have_text()
     ensures { (t : ProgramTree) → IsLawful (forget_program t) → broken t ≡ [] → FitsTree t → HasText (program_of t) }
 {}

@@ -1,95 +1,44 @@
 -- A call of an entry that its owner waits to accept: all processes.
-use Rattle.std.proofs.Common.{◌≡◌, ◌≢◌, ℕ, zero, suc, ◌+◌, ◌^◌, ◌<◌, ◌≤◌, ◌==◌, ℤ, pos, Bool, true, false, List, [], ◌∷◌, ◌++◌, length, take, drop, reverse, set, get_or, slice_get, Option, Some, None, Ok, refl, sym, ap, ap₂, ◌∙◌, subst, arith, append_assoc, ◌⊎◌, inl, inr}
-use Rattle.std.proofs.lemmas.List.{get_or-set_same, get_or-set_other, length-set, length-reverse}
+use Rattle.std.proofs.Common.{◌≡◌, ◌≢◌, ℕ, ◌+◌, ◌<◌, ◌≤◌, ℤ, pos, true, List, [], length, set, get_or, slice_get, Some, None, refl, sym, ap, ◌∙◌, subst, arith, ◌⊎◌, inl, inr}
+use Rattle.std.proofs.lemmas.List.{get_or-set_same, get_or-set_other, length-set}
 use Rattle.pfc_types.specs.declared.types.TypeId.{TypeId}
 use Rattle.pfc_types.specs.declared.scope.Meaning.TheVariants.{Variable}
-use Rattle.pfc_state.specs.Stands.{Stand, Is_idle, Is_ready, Waits, ticket_at, is_unfinished, ticket_of, due_of, Is_created, Is_done}
-use Rattle.pfc_state.specs.declared.waits.Arm.{Arm as WaitArm}
-use Rattle.pfc_state.specs.declared.waits.Why.TheVariants.{Call, Meeting, Barred, Send, Receive, Accept, Select}
-use Rattle.pfc_world.specs.Partners.{caller, ticket_open_to, plain_wait}
-use Rattle.pfc_world.specs.Rendezvous.{taken}
+use Rattle.pfc_state.specs.Stands.{Is_ready, Waits, is_unfinished, ticket_of, due_of}
+use Rattle.pfc_state.specs.declared.waits.Why.TheVariants.{Meeting, Barred}
+use Rattle.pfc_world.specs.Partners.{ticket_open_to}
 use Rattle.pfc_world.specs.Tables.{Table, at}
-use Rattle.pfc_world.specs.Transitions.{ticked, placed, blocked}
+use Rattle.pfc_world.specs.Transitions.{ticked, placed}
 use Rattle.pfc_semantics.specs.Values.{Value, Location, ordinal, points}
-use Rattle.pfc_semantics.specs.Programs.{Program, Block}
-use Rattle.pfc_semantics.specs.Remainders.{Context, Open, Remainder}
-use Rattle.pfc_semantics.specs.Store.{Store, values_in}
-use Rattle.pfc_semantics.specs.Configurations.{empty_hand, Activity, Config, activity_of, nobody, at_work, Activation}
-use Rattle.pfc_translation.specs.Sites.{is_accept}
-use Rattle.pfc_translation.specs.Selects.{accept_cell, accept_cells}
-use Rattle.pfc_stacks.specs.declared.refs.Ref.{Ref}
-use Rattle.pfc_stacks.specs.Stacks.{Stack, Stacks, no_stack, stack_of, cells_of, operands_of, written, last_activation}
-use Rattle.pfc_stacks.specs.Effects.{moved}
-use Rattle.pfc_cells.specs.Memory.{AreCells, Lives, Entry, Entries, MemoryIs}
-use Rattle.pfc_cells.proofs.Blocks.{block_length}
-use Rattle.pfc_cells.proofs.Stores.{values_kept}
+use Rattle.pfc_semantics.specs.Programs.{Program}
+use Rattle.pfc_semantics.specs.Store.{Store}
+use Rattle.pfc_semantics.specs.Configurations.{Activity, Config, activity_of, nobody, at_work}
+use Rattle.pfc_stacks.specs.Stacks.{Stacks}
+use Rattle.pfc_cells.specs.Memory.{AreCells}
 use Rattle.pfc_machines.specs.declared.machine.Machine.{Machine}
 use Rattle.pfc_machines.specs.declared.descriptors.Descriptor.{Descriptor}
 use Rattle.pfc_machines.specs.Descriptors.{descriptor_of, descriptor_by, meeting, withdrawn}
-use Rattle.pfc_meeting_actions.specs.Meetings.{parameter_cell}
-use Rattle.pfc_standing_code.specs.Settings.{of_own, site_of, View, Trial, Setting, of_turn, of_another}
-use Rattle.pfc_standing_code.specs.TypedStatements.{AcceptsEntry}
-use Rattle.pfc_standing_code.specs.Words.{IsChecked}
-use Rattle.pfc_views.specs.Keeping.{IsLike}
-use Rattle.pfc_representation.specs.Levels.{Facts, program_in, LivingLevel, is_met_by, MayKeep, block_of, DoesOn, SeesThrough, IsSeenBy, HasSetting}
-use Rattle.pfc_representation.specs.Hands.{laid_parameters, entry_formals, AreKept, shows_nothing, IsOffered, is_woken, waits_plainly, waits_selecting}
-use Rattle.pfc_representation.specs.Holding.{Holders, holders_in, waits_for_monitor, waits_for_resource, Holds, is_quiet, waits_at_coend}
-use Rattle.pfc_representation.specs.Keeping.{IsSameStack, IsLender, IsUntouched}
-use Rattle.pfc_representation.specs.Processes.{RepresentsProcess, AreMet, IsAtLevel, IsUnderWay}
-use Rattle.pfc_representation.specs.Acting.{IsActing, IsActor}
-use Rattle.pfc_kept_object_actions.proofs.Change.{row_here, row_there, within_rows}
-use Rattle.pfc_kept_object_actions.proofs.Finding.{first_has}
-use Rattle.pfc_kept_messages.proofs.Passing.{LiesOver, lies_over}
-use Rattle.pfc_kept_messages.proofs.Stacks.{written_same, changed_cells, written_alike}
+use Rattle.pfc_standing_code.specs.Settings.{of_own}
+use Rattle.pfc_representation.specs.Levels.{Facts, program_in, LivingLevel, DoesOn}
+use Rattle.pfc_representation.specs.Hands.{laid_parameters, entry_formals, AreKept}
+use Rattle.pfc_representation.specs.Holding.{Holders, holders_in, is_quiet, waits_at_coend}
+use Rattle.pfc_representation.specs.Keeping.{IsUntouched}
+use Rattle.pfc_representation.specs.Processes.{RepresentsProcess}
+use Rattle.pfc_representation.specs.Acting.{IsActing}
 use Rattle.pfc_kept_meetings.specs.Owners.{HasTypedEntries}
-use Rattle.pfc_kept_meetings.specs.Accepts.{HasProcesses, KeepsAccepts, AreApart}
-use Rattle.pfc_kept_meetings.proofs.Caller.{met_kept}
-use Rattle.pfc_kept_meetings.proofs.Lenders.{ready_unmet, met_stand, met_by_one, HasNot, lenders_stay, seen_less, callers_less}
-use Rattle.pfc_kept_meetings.proofs.Untouched.{others_alike, main_lives, not_kept}
-use Rattle.std.proofs.lemmas.Option.{slice_get-get_or}
-use Rattle.pfc_semantics.specs.Displays.{Display}
-use Rattle.pfc_semantics.specs.Rewriting.{Doing, going}
-use Rattle.pfc_stacks.specs.Refs.{word_of}
-use Rattle.pfc_cells.specs.Homes.{Homes}
+use Rattle.pfc_kept_meetings.specs.Accepts.{HasProcesses, KeepsAccepts}
+use Rattle.pfc_semantics.specs.Rewriting.{Doing}
 use Rattle.pfc_machines.specs.Communications.{Communicating}
-use Rattle.pfc_standing_code.specs.Performs.{own_view, own_accepts, own_block, Performs}
-use Rattle.pfc_stack_laws.proofs.Moves.{hold_moved}
-use Rattle.pfc_representation.specs.Rooms.{own_address, LeadWithin, LeadsWithin, IsInBlock, HasRoomFor, room_in, process_count}
-use Rattle.pfc_representation.specs.Callers.{IsWithin, IsFirst, StandsFor, AreCallers}
-use Rattle.pfc_representation.specs.Trials.{TrialIs, HasTried}
+use Rattle.pfc_representation.specs.Callers.{IsWithin}
 use Rattle.pfc_representation.proofs.Kept.{process_still}
-use Rattle.pfc_representation.proofs.Quiet.{actor_moved, others_moved}
-use Rattle.pfc_kept_own_actions.proofs.Arrived.{has_setting, hold_store, stack_there}
-use Rattle.pfc_kept_object_actions.specs.Freed.{IsFreed}
-use Rattle.pfc_kept_object_actions.proofs.Freed.{process_freed}
 use Rattle.pfc_kept_messages.proofs.Others.{IsBarredStand, lender_waits}
-use Rattle.pfc_kept_messages.proofs.Waiting.{not_empty}
 use Rattle.pfc_kept_messages.proofs.Whole.{IsNewStand, IsBehind}
 use Rattle.pfc_kept_meetings.proofs.Tried.{tried_barred}
-use Rattle.pfc_kept_meetings.proofs.Settled.{settled, beside_back, through_then, within_then, first_then, beside_then}
-use Rattle.pfc_semantics.specs.Rendezvous.{meeting_of}
-use Rattle.pfc_following_source.specs.Behind.{BehindAccept}
-use Rattle.pfc_kept_meetings.proofs.Given.{may_lend}
-use Rattle.pfc_kept_meetings.proofs.Few.{found_at}
-use Rattle.pfc_standing_code.specs.Effects.{Arm}
 use Rattle.std.specs.Prelude.{is_some}
-use Rattle.pfc_state.specs.declared.waits.Arm.TheVariants.{Accept as Entered, Send as To, Receive as From}
-use Rattle.pfc_machines.specs.Offers.{without}
-use Rattle.pfc_representation.specs.Alternatives.{none_made}
-use Rattle.pfc_code.specs.declared.instructions.Instr.{Instr}
-use Rattle.pfc_kept_own_actions.proofs.Within.{room_anywhere}
-use Rattle.pfc_kept_messages.proofs.Made.{gone as gone_all}
-use Rattle.pfc_kept_messages.proofs.Meeting.{apart as process_apart}
-use Rattle.pfc_kept_messages.proofs.Partner.{is_open_stand, open_unmet, open_awake, open_no_coend, open_unbarred, open_not_idle, open_not_ready, IsShowing}
-use Rattle.pfc_kept_messages.proofs.Held.{WaitsForNone, holds_anew}
+use Rattle.pfc_state.specs.declared.waits.Arm.TheVariants.{Accept as Entered}
+use Rattle.pfc_kept_messages.proofs.Partner.{open_awake, open_no_coend, open_unbarred}
 use Rattle.pfc_kept_meetings.specs.Waiting.{KeepsOffers}
-use Rattle.pfc_semantics.specs.Remainders.{Accepting}
 use Rattle.pfc_kept_meetings.proofs.Giving as giving
-use Rattle.pfc_kept_meetings.proofs.Owner as owner
-use Rattle.pfc_kept_messages.proofs.Finding as finding
 use Rattle.pfc_kept_meetings.proofs.Waiting as waiting
-use Rattle.pfc_kept_meetings.proofs.Begins as begins
-use Rattle.pfc_kept_meetings.proofs.Shown as shown
 use Rattle.pfc_kept_meetings.proofs.Granted as granted
 use Rattle.pfc_kept_meetings.proofs.Granted.{no_holder}
 use Rattle.pfc_kept_meetings.proofs.Granting as granting
@@ -98,8 +47,10 @@ module _ (facts : Facts) (m : Machine) (c : Config) (p : ℕ) (level : LivingLev
     (q entry : ℕ) (ticket : is_some (ticket_open_to (Entered entry) (at c.table.rows q)) ≡ true)
     (processes : HasProcesses facts.tree) (typed : HasTypedEntries facts.tree) (runs : KeepsAccepts facts c) (offers : KeepsOffers facts c)
     (values : List Value) (words : List ℤ)
-    (hold : AreCells (program_in facts) acting.homes (laid_parameters (entry_formals (program_in facts) q (waiting.a facts m c p level acting own q entry ticket processes typed runs offers).entry)) values words)
-    (given : (k : ℕ) (t : TypeId) → slice_get (laid_parameters (entry_formals (program_in facts) q (waiting.a facts m c p level acting own q entry ticket processes typed runs offers).entry)) k ≡ Some (Variable t true)
+    (hold : AreCells (program_in facts) acting.homes (laid_parameters (entry_formals (program_in facts) q (waiting.a facts m c p level acting own q entry
+    ticket processes typed runs offers).entry)) values words)
+    (given : (k : ℕ) (t : TypeId) → slice_get (laid_parameters (entry_formals (program_in facts) q (waiting.a facts m c p level acting own q entry ticket
+    processes typed runs offers).entry)) k ≡ Some (Variable t true)
     → (l : Location) × (get_or values k (ordinal (pos 0)) ≡ points l))
     (kept : AreKept c.table acting.entries p (descriptor_of m.descriptors p).communications.callers values)
     (to : ℕ) (ops below : List ℤ) (doing_p : Doing) (does_p : DoesOn level to below doing_p)
@@ -117,28 +68,34 @@ module _ (facts : Facts) (m : Machine) (c : Config) (p : ℕ) (level : LivingLev
   dq = descriptor_of m.descriptors q
 
   abbrev stacks' : Stacks
-  stacks' = granted.stacks' facts m c p level acting own q entry ticket processes typed runs offers values words hold given kept to ops below doing_p does_p within_p line
+  stacks' = granted.stacks' facts m c p level acting own q entry ticket processes typed runs offers values words hold given kept to ops below doing_p does_p
+      within_p line
 
   abbrev table : Table
-  table = granted.table facts m c p level acting own q entry ticket processes typed runs offers values words hold given kept to ops below doing_p does_p within_p line
+  table = granted.table facts m c p level acting own q entry ticket processes typed runs offers values words hold given kept to ops below doing_p does_p
+      within_p line
 
   abbrev table' : Table
   table' = ticked table
 
   abbrev new_store : Store
-  new_store = granted.new_store facts m c p level acting own q entry ticket processes typed runs offers values words hold given kept to ops below doing_p does_p within_p line
+  new_store = granted.new_store facts m c p level acting own q entry ticket processes typed runs offers values words hold given kept to ops below doing_p
+      does_p within_p line
 
   abbrev doing_q : Doing
-  doing_q = granting.doing_q facts m c p level acting own q entry ticket processes typed runs offers values words hold given kept to ops below doing_p does_p within_p line
+  doing_q = granting.doing_q facts m c p level acting own q entry ticket processes typed runs offers values words hold given kept to ops below doing_p does_p
+      within_p line
 
   off : q ≢ p
-  off = granted.off facts m c p level acting own q entry ticket processes typed runs offers values words hold given kept to ops below doing_p does_p within_p line
+  off = granted.off facts m c p level acting own q entry ticket processes typed runs offers values words hold given kept to ops below doing_p does_p within_p
+      line
 
   inside : q < length c.activities
   inside = waiting.inside facts m c p level acting own q entry ticket processes typed runs offers
 
   abbrev d' : Descriptor
-  d' = granting.d' facts m c p level acting own q entry ticket processes typed runs offers values words hold given kept to ops below doing_p does_p within_p line
+  d' = granting.d' facts m c p level acting own q entry ticket processes typed runs offers values words hold given kept to ops below doing_p does_p within_p
+      line
 
   -- ## The others
 
@@ -147,18 +104,26 @@ module _ (facts : Facts) (m : Machine) (c : Config) (p : ℕ) (level : LivingLev
     λ is.
         (let no : Waits (Barred barred.resource barred.procedure) barred.ticket [] ≡ Is_ready =
         sym barred.is ∙ ap (λ n. at c.table.rows n) is ∙ acting.actor.ready in cc),
-    λ is. open_unbarred (at c.table.rows q) (granted.waits_q facts m c p level acting own q entry ticket processes typed runs offers values words hold given kept to ops below doing_p does_p within_p line) (subst (λ n. IsBarredStand (at c.table.rows n)) is barred),
+    λ is. open_unbarred (at c.table.rows q) (granted.waits_q facts m c p level acting own q entry ticket processes typed runs offers values words hold given
+        kept to ops below doing_p does_p within_p line) (subst (λ n. IsBarredStand (at c.table.rows n)) is barred),
   )
 
   untouched : (r : ℕ) → r ≢ p → r ≢ q
       → IsUntouched facts r acting.homes acting.homes acting.entries acting.entries c.store new_store m.stacks stacks' c.table table'
   untouched r away other =
       record {
-        like = λ keeps these. granted.like_of facts m c p level acting own q entry ticket processes typed runs offers values words hold given kept to ops below doing_p does_p within_p line r other keeps these;
-        lenders = λ s lender. (let waits = lender_waits c.table r s lender in (granted.stay facts m c p level acting own q entry ticket processes typed runs offers values words hold given kept to ops below doing_p does_p within_p line s waits.0 waits.1, refl));
-        stack = granted.stack_other facts m c p level acting own q entry ticket processes typed runs offers values words hold given kept to ops below doing_p does_p within_p line r away other;
+        like = λ keeps these. granted.like_of facts m c p level acting own q entry ticket processes typed runs offers values words hold given kept to ops below
+            doing_p does_p within_p line r other keeps these;
+        lenders = λ s lender. (let waits = lender_waits c.table r s lender in (
+          granted.stay facts m c p level acting own q entry ticket processes typed runs
+              offers values words hold given kept to ops below doing_p does_p within_p line s waits.0 waits.1,
+          refl,
+        ));
+        stack = granted.stack_other facts m c p level acting own q entry ticket processes typed runs offers values words hold given kept to ops below doing_p
+            does_p within_p line r away other;
         entries_same = refl;
-        row = granted.row_other facts m c p level acting own q entry ticket processes typed runs offers values words hold given kept to ops below doing_p does_p within_p line r away other;
+        row = granted.row_other facts m c p level acting own q entry ticket processes typed runs offers values words hold given kept to ops below doing_p
+            does_p within_p line r away other;
       }
 
   other_kept : (r : ℕ) → r ≢ p → r ≢ q → r < length c.activities
@@ -204,7 +169,8 @@ module _ (facts : Facts) (m : Machine) (c : Config) (p : ℕ) (level : LivingLev
   pub once_other : get_or once q (nobody g) ≡ activity_of g c q
   once_other = get_or-set_other c.activities p q working (nobody g) off
 
-  activity_here : record (get_or activities p (nobody g)) { line = line } ≡ granted.a1 facts m c p level acting own q entry ticket processes typed runs offers values words hold given kept to ops below doing_p does_p within_p line
+  activity_here : record (get_or activities p (nobody g)) { line = line } ≡ granted.a1 facts m c p level acting own q entry ticket processes typed runs offers
+      values words hold given kept to ops below doing_p does_p within_p line
   activity_here =
       ap (λ (y : Activity). record y { line = line })
       (get_or-set_other once q p behind_it (nobody g) (λ is. off (sym is)) ∙ get_or-set_same c.activities p working (nobody g) acting.actor.process)
@@ -227,7 +193,8 @@ module _ (facts : Facts) (m : Machine) (c : Config) (p : ℕ) (level : LivingLev
   descriptor_owner =
       get_or-set_same first_changed q (withdrawn (descriptor_of first_changed q)) (descriptor_by 0) (subst (λ n. q < n) (sym first_size) descriptor_in)
       ∙ ap (λ (y : Descriptor). withdrawn y) (get_or-set_same m.descriptors q (meeting p dq) (descriptor_by 0) descriptor_in)
-      ∙ ap (λ (y : Communicating). record dq { communications = y; offered = 0 }) (granting.latest_is facts m c p level acting own q entry ticket processes typed runs offers values words hold given kept to ops below doing_p does_p within_p line)
+      ∙ ap (λ (y : Communicating). record dq { communications = y; offered = 0 }) (granting.latest_is facts m c p level acting own q entry ticket processes
+      typed runs offers values words hold given kept to ops below doing_p does_p within_p line)
 
   descriptor_there : (r : ℕ) → r ≢ q → descriptor_of descriptors r ≡ descriptor_of m.descriptors r
   descriptor_there r other =
@@ -237,13 +204,18 @@ module _ (facts : Facts) (m : Machine) (c : Config) (p : ℕ) (level : LivingLev
   others_kept : (r : ℕ) → r ≢ p → (r ≡ q) ⊎ (r ≢ q) → r < length c.activities
       → RepresentsProcess facts acting.homes acting.entries new_store stacks' table' h r (get_or activities r (nobody g)) (descriptor_of descriptors r)
   others_kept r away (inl is) inside_r =
-      subst (λ n. RepresentsProcess facts acting.homes acting.entries new_store stacks' table' h n (get_or activities n (nobody g)) (descriptor_of descriptors n)) (sym is)
-      (subst (λ (y : Activity). RepresentsProcess facts acting.homes acting.entries new_store stacks' table' h q y (descriptor_of descriptors q)) (sym activity_owner)
+      subst (λ n. RepresentsProcess facts acting.homes acting.entries new_store stacks' table' h n (get_or activities n (nobody g)) (descriptor_of descriptors
+      n)) (sym is)
+      (subst (λ (y : Activity). RepresentsProcess facts acting.homes acting.entries new_store stacks' table' h q y (descriptor_of descriptors q)) (sym
+      activity_owner)
       (subst (λ (y : Descriptor). RepresentsProcess facts acting.homes acting.entries new_store stacks' table' h q (at_work (activity_of g c q) doing_q) y)
-      (sym descriptor_owner) (granting.owner_then facts m c p level acting own q entry ticket processes typed runs offers values words hold given kept to ops below doing_p does_p within_p line)))
+      (sym descriptor_owner) (granting.owner_then facts m c p level acting own q entry ticket processes typed runs offers values words hold given kept to ops
+      below doing_p does_p within_p line)))
   others_kept r away (inr other) inside_r =
-      subst (λ (y : Activity). RepresentsProcess facts acting.homes acting.entries new_store stacks' table' h r y (descriptor_of descriptors r)) (sym (activity_there r away other))
-      (subst (λ (y : Descriptor). RepresentsProcess facts acting.homes acting.entries new_store stacks' table' h r (activity_of g c r) y) (sym (descriptor_there r other))
+      subst (λ (y : Activity). RepresentsProcess facts acting.homes acting.entries new_store stacks' table' h r y (descriptor_of descriptors r)) (sym
+      (activity_there r away other))
+      (subst (λ (y : Descriptor). RepresentsProcess facts acting.homes acting.entries new_store stacks' table' h r (activity_of g c r) y) (sym
+      (descriptor_there r other))
       (other_kept r away other inside_r))
 
   -- ## All of it
@@ -254,11 +226,14 @@ module _ (facts : Facts) (m : Machine) (c : Config) (p : ℕ) (level : LivingLev
   new_caller : IsNewStand c (at c.table.rows p) (at table.rows p)
   new_caller =
       record {
-        unfinished = ap is_unfinished (granted.row_p facts m c p level acting own q entry ticket processes typed runs offers values words hold given kept to ops below doing_p does_p within_p line);
+        unfinished = ap is_unfinished (granted.row_p facts m c p level acting own q entry ticket processes typed runs offers values words hold given kept to
+            ops below doing_p does_p within_p line);
         awake = ap is_quiet acting.actor.ready;
         no_coend = ap waits_at_coend acting.actor.ready;
-        ticket = λ t is. at_now t (let both : Some (c.table.done + 1) ≡ Some t = ap ticket_of (sym (granted.row_p facts m c p level acting own q entry ticket processes typed runs offers values words hold given kept to ops below doing_p does_p within_p line)) ∙ is in cc);
-        due = λ t is. absurd (let no : None ≡ Some t = ap due_of (sym (granted.row_p facts m c p level acting own q entry ticket processes typed runs offers values words hold given kept to ops below doing_p does_p within_p line)) ∙ is in cc);
+        ticket = λ t is. at_now t (let both : Some (c.table.done + 1) ≡ Some t = ap ticket_of (sym (granted.row_p facts m c p level acting own q entry ticket
+            processes typed runs offers values words hold given kept to ops below doing_p does_p within_p line)) ∙ is in cc);
+        due = λ t is. absurd (let no : None ≡ Some t = ap due_of (sym (granted.row_p facts m c p level acting own q entry ticket processes typed runs offers
+            values words hold given kept to ops below doing_p does_p within_p line)) ∙ is in cc);
       }
     where
       at_now : (t : ℕ) → c.table.done + 1 ≡ t → t ≤ c.table.done + 1
@@ -267,26 +242,42 @@ module _ (facts : Facts) (m : Machine) (c : Config) (p : ℕ) (level : LivingLev
   new_owner : IsNewStand c (at c.table.rows q) (at table.rows q)
   new_owner =
       record {
-        unfinished = ap is_unfinished (granted.row_q facts m c p level acting own q entry ticket processes typed runs offers values words hold given kept to ops below doing_p does_p within_p line);
-        awake = open_awake (at c.table.rows q) (granted.waits_q facts m c p level acting own q entry ticket processes typed runs offers values words hold given kept to ops below doing_p does_p within_p line);
-        no_coend = open_no_coend (at c.table.rows q) (granted.waits_q facts m c p level acting own q entry ticket processes typed runs offers values words hold given kept to ops below doing_p does_p within_p line);
-        ticket = λ t is. absurd (let no : None ≡ Some t = ap ticket_of (sym (granted.row_q facts m c p level acting own q entry ticket processes typed runs offers values words hold given kept to ops below doing_p does_p within_p line)) ∙ is in cc);
-        due = λ t is. absurd (let no : None ≡ Some t = ap due_of (sym (granted.row_q facts m c p level acting own q entry ticket processes typed runs offers values words hold given kept to ops below doing_p does_p within_p line)) ∙ is in cc);
+        unfinished = ap is_unfinished (granted.row_q facts m c p level acting own q entry ticket processes typed runs offers values words hold given kept to
+            ops below doing_p does_p within_p line);
+        awake = open_awake (at c.table.rows q) (granted.waits_q facts m c p level acting own q entry ticket processes typed runs offers values words hold given
+            kept to ops below doing_p does_p within_p line);
+        no_coend = open_no_coend (at c.table.rows q) (granted.waits_q facts m c p level acting own q entry ticket processes typed runs offers values words hold
+            given kept to ops below doing_p does_p within_p line);
+        ticket = λ t is. absurd (let no : None ≡ Some t = ap ticket_of (sym (granted.row_q facts m c p level acting own q entry ticket processes typed runs
+            offers values words hold given kept to ops below doing_p does_p within_p line)) ∙ is in cc);
+        due = λ t is. absurd (let no : None ≡ Some t = ap due_of (sym (granted.row_q facts m c p level acting own q entry ticket processes typed runs offers
+            values words hold given kept to ops below doing_p does_p within_p line)) ∙ is in cc);
       }
 
   stands_as : (r : ℕ) → (r ≡ p) ⊎ (r ≢ p) → (r ≡ q) ⊎ (r ≢ q)
       → (at table.rows r ≡ at c.table.rows r) ⊎ IsNewStand c (at c.table.rows r) (at table.rows r)
   stands_as r (inl is) other = inr (subst (λ n. IsNewStand c (at c.table.rows n) (at table.rows n)) (sym is) new_caller)
   stands_as r (inr away) (inl is) = inr (subst (λ n. IsNewStand c (at c.table.rows n) (at table.rows n)) (sym is) new_owner)
-  stands_as r (inr away) (inr other) = inl (granted.row_other facts m c p level acting own q entry ticket processes typed runs offers values words hold given kept to ops below doing_p does_p within_p line r away other)
+  stands_as r (inr away) (inr other) = inl (granted.row_other facts m c p level acting own q entry ticket processes typed runs offers values words hold given
+      kept to ops below doing_p does_p within_p line r away other)
 
   pub grants_behind : IsBehind facts m c p level acting line activities descriptors new_store stacks' table
   grants_behind =
-      let held = giving.holds_then facts m c acting.homes acting.entries acting.alike q (waiting.its_level facts m c p level acting own q entry ticket processes typed runs offers) (waiting.shows facts m c p level acting own q entry ticket processes typed runs offers).under_way.stands (waiting.shows facts m c p level acting own q entry ticket processes typed runs offers).offers.own (waiting.inside facts m c p level acting own q entry ticket processes typed runs offers) processes (waiting.b facts m c p level acting own q entry ticket processes typed runs offers) (waiting.x facts m c p level acting own q entry ticket processes typed runs offers) (waiting.shows facts m c p level acting own q entry ticket processes typed runs offers).offers.checked (waiting.a facts m c p level acting own q entry ticket processes typed runs offers) (waiting.accepts facts m c p level acting own q entry ticket processes typed runs offers) typed runs (waiting.of_block facts m c p level acting own q entry ticket processes typed runs offers) values words hold stacks' (granted.same facts m c p level acting own q entry ticket processes typed runs offers values words hold given kept to ops below doing_p does_p within_p line) (granted.size facts m c p level acting own q entry ticket processes typed runs offers values words hold given kept to ops below doing_p does_p within_p line) in
+      let held = giving.holds_then facts m c acting.homes acting.entries acting.alike q (waiting.its_level facts m c p level acting own q entry ticket
+      processes typed runs offers) (waiting.shows facts m c p level acting own q entry ticket processes typed runs offers).under_way.stands (waiting.shows
+      facts m c p level acting own q entry ticket processes typed runs offers).offers.own (waiting.inside facts m c p level acting own q entry ticket
+      processes typed runs offers) processes (waiting.b facts m c p level acting own q entry ticket processes typed runs offers) (waiting.x facts m c p
+      level acting own q entry ticket processes typed runs offers) (waiting.shows facts m c p level acting own q entry ticket processes typed runs
+      offers).offers.checked (waiting.a facts m c p level acting own q entry ticket processes typed runs offers) (waiting.accepts facts m c p level acting
+      own q entry ticket processes typed runs offers) typed runs (waiting.of_block facts m c p level acting own q entry ticket processes typed runs offers)
+      values words hold stacks' (granted.same facts m c p level acting own q entry ticket processes typed runs offers values words hold given kept to ops
+      below doing_p does_p within_p line) (granted.size facts m c p level acting own q entry ticket processes typed runs offers values words hold given
+      kept to ops below doing_p does_p within_p line) in
       record {
         activity_count = length-set once q behind_it ∙ once_size;
         descriptor_count = length-set first_changed q (withdrawn (descriptor_of first_changed q)) ∙ first_size;
-        stack_count = granted.size facts m c p level acting own q entry ticket processes typed runs offers values words hold given kept to ops below doing_p does_p within_p line;
+        stack_count = granted.size facts m c p level acting own q entry ticket processes typed runs offers values words hold given kept to ops below doing_p
+            does_p within_p line;
         row_count = length-set (placed c.table q Is_ready).rows p (Waits (Meeting q) (c.table.done + 1) []) ∙ length-set c.table.rows q Is_ready;
         memory = held.memory;
         few = held.few;
@@ -296,9 +287,15 @@ module _ (facts : Facts) (m : Machine) (c : Config) (p : ℕ) (level : LivingLev
         moment = refl;
         stands = λ r. stands_as r (either r p) (either r q);
         mine =
-            subst (λ (y : Activity). RepresentsProcess facts acting.homes acting.entries new_store stacks' table' h p y (record (descriptor_of descriptors p) { line = line }))
+            subst (λ (y : Activity). RepresentsProcess facts acting.homes acting.entries new_store stacks' table' h p y (record (descriptor_of descriptors p) {
+              line = line;
+            }))
             (sym activity_here)
-            (subst (λ (y : Descriptor). RepresentsProcess facts acting.homes acting.entries new_store stacks' table' h p (granted.a1 facts m c p level acting own q entry ticket processes typed runs offers values words hold given kept to ops below doing_p does_p within_p line) (record y { line = line }))
-            (sym (descriptor_there p (λ is. off (sym is)))) (granted.caller_then facts m c p level acting own q entry ticket processes typed runs offers values words hold given kept to ops below doing_p does_p within_p line));
+            (subst (λ (y : Descriptor). RepresentsProcess facts acting.homes acting.entries new_store stacks' table' h p (granted.a1 facts m c p level acting
+            own q entry ticket processes typed runs offers values words hold given kept to ops below doing_p does_p within_p line) (record y {
+              line = line;
+            }))
+            (sym (descriptor_there p (λ is. off (sym is)))) (granted.caller_then facts m c p level acting own q entry ticket processes typed runs offers values
+            words hold given kept to ops below doing_p does_p within_p line));
         others = λ r away inside_r. others_kept r away (either r q) inside_r;
       }

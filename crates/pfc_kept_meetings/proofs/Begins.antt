@@ -40,7 +40,8 @@ use Rattle.pfc_representation.specs.Machines.{AreAlike}
 use Rattle.pfc_representation.specs.Processes.{IsAtLevel}
 use Rattle.pfc_kept_messages.proofs.Sight.{same_program}
 use Rattle.pfc_kept_meetings.specs.Owners.{HasTypedEntries}
-use Rattle.pfc_kept_meetings.specs.Accepts.{HasProcesses, KeepsAccepts, AreApart}
+use Rattle.pfc_kept_meetings.specs.Accepts.{HasProcesses, KeepsAccepts}
+use Rattle.pfc_kept_meetings.proofs.Apart.{AreApart}
 use Rattle.pfc_kept_meetings.proofs.Arguments.{seen_plainly}
 use Rattle.pfc_kept_meetings.proofs.Giving as giving
 use Rattle.pfc_kept_meetings.proofs.Known as known_ones

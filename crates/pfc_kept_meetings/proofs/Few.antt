@@ -224,9 +224,11 @@ only_these xs ys j once within_ys few there = by (list_any (λ i. i == j) xs) re
     j_under : j < suc j + above_all xs
     j_under = grind arith
 
-    one_apart : list_any (λ i. i == j) xs ≡ false → suc (counted (suc j + above_all xs) (λ r. list_any (λ i. i == r) xs)) ≤ counted (suc j + above_all xs) (λ r. list_any (λ i. i == r) ys)
+    one_apart : list_any (λ i. i == j) xs ≡ false → suc (counted (suc j + above_all xs) (λ r. list_any (λ i. i == r) xs)) ≤ counted (suc j + above_all xs) (λ
+        r. list_any (λ i. i == r) ys)
     one_apart apart =
-        subst (λ k. k ≤ counted (suc j + above_all xs) (λ r. list_any (λ i. i == r) ys)) (one_more (suc j + above_all xs) j (λ r. list_any (λ i. i == r) xs) j_under apart)
+        subst (λ k. k ≤ counted (suc j + above_all xs) (λ r. list_any (λ i. i == r) ys)) (one_more (suc j + above_all xs) j (λ r. list_any (λ i. i == r) xs)
+        j_under apart)
         (counts_more (suc j + above_all xs) (λ r. j == r || list_any (λ i. i == r) xs) (λ r. list_any (λ i. i == r) ys) both)
       where
         both : (r : ℕ) → (j == r || list_any (λ i. i == r) xs) ≡ true → list_any (λ i. i == r) ys ≡ true
@@ -240,5 +242,6 @@ only_these xs ys j once within_ys few there = by (list_any (λ i. i == j) xs) re
     by true is = refl
     by false is =
         absurd
-        (never (counted (suc j + above_all xs) (λ r. list_any (λ i. i == r) xs)) (counted (suc j + above_all xs) (λ r. list_any (λ i. i == r) ys)) (length xs) (length ys)
+        (never (counted (suc j + above_all xs) (λ r. list_any (λ i. i == r) xs)) (counted (suc j + above_all xs) (λ r. list_any (λ i. i == r) ys)) (length xs)
+        (length ys)
         (all_counted (suc j + above_all xs) xs once all_under) (one_apart is) (at_most_all (suc j + above_all xs) ys) few)

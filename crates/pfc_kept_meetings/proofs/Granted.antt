@@ -1,95 +1,66 @@
 -- A call of an entry that its owner waits to accept: the table, the stacks, and the caller.
-use Rattle.std.proofs.Common.{◌≡◌, ◌≢◌, ℕ, zero, suc, ◌+◌, ◌^◌, ◌<◌, ◌≤◌, ◌==◌, ℤ, pos, Bool, true, false, List, [], ◌∷◌, ◌++◌, length, take, drop, reverse, set, get_or, slice_get, Option, Some, None, Ok, refl, sym, ap, ap₂, ◌∙◌, subst, arith, append_assoc, ◌⊎◌, inl, inr}
-use Rattle.std.proofs.lemmas.List.{get_or-set_same, get_or-set_other, length-set, length-reverse}
+use Rattle.std.proofs.Common.{◌≡◌, ◌≢◌, ℕ, ◌+◌, ◌<◌, ℤ, pos, Bool, true, List, [], length, set, get_or, slice_get, Some, None, refl, sym, ap, ◌∙◌, subst, arith, ◌⊎◌, inl, inr}
+use Rattle.std.proofs.lemmas.List.{get_or-set_same, get_or-set_other, length-set}
 use Rattle.pfc_types.specs.declared.types.TypeId.{TypeId}
 use Rattle.pfc_types.specs.declared.scope.Meaning.TheVariants.{Variable}
-use Rattle.pfc_state.specs.Stands.{Stand, Is_idle, Is_ready, Waits, ticket_at, is_unfinished, ticket_of, due_of, Is_created, Is_done}
+use Rattle.pfc_state.specs.Stands.{Stand, Is_ready, Waits, is_unfinished}
 use Rattle.pfc_state.specs.declared.waits.Arm.{Arm as WaitArm}
-use Rattle.pfc_state.specs.declared.waits.Why.TheVariants.{Call, Meeting, Barred, Send, Receive, Accept, Select}
-use Rattle.pfc_world.specs.Partners.{caller, ticket_open_to, plain_wait}
-use Rattle.pfc_world.specs.Rendezvous.{taken}
+use Rattle.pfc_state.specs.declared.waits.Why.TheVariants.{Meeting}
+use Rattle.pfc_world.specs.Partners.{ticket_open_to}
 use Rattle.pfc_world.specs.Tables.{Table, at}
 use Rattle.pfc_world.specs.Transitions.{ticked, placed, blocked}
 use Rattle.pfc_semantics.specs.Values.{Value, Location, ordinal, points}
 use Rattle.pfc_semantics.specs.Programs.{Program, Block}
-use Rattle.pfc_semantics.specs.Remainders.{Context, Open, Remainder}
-use Rattle.pfc_semantics.specs.Store.{Store, values_in}
-use Rattle.pfc_semantics.specs.Configurations.{empty_hand, Activity, Config, activity_of, nobody, at_work, Activation}
+use Rattle.pfc_semantics.specs.Remainders.{Context, Open}
+use Rattle.pfc_semantics.specs.Store.{Store}
+use Rattle.pfc_semantics.specs.Configurations.{Activity, Config, activity_of, at_work}
 use Rattle.pfc_translation.specs.Sites.{is_accept}
-use Rattle.pfc_translation.specs.Selects.{accept_cell, accept_cells}
+use Rattle.pfc_translation.specs.Selects.{accept_cell}
 use Rattle.pfc_stacks.specs.declared.refs.Ref.{Ref}
-use Rattle.pfc_stacks.specs.Stacks.{Stack, Stacks, no_stack, stack_of, cells_of, operands_of, written, last_activation}
+use Rattle.pfc_stacks.specs.Stacks.{Stack, Stacks, no_stack, stack_of, cells_of, written, last_activation}
 use Rattle.pfc_stacks.specs.Effects.{moved}
-use Rattle.pfc_cells.specs.Memory.{AreCells, Lives, Entry, Entries, MemoryIs}
-use Rattle.pfc_cells.proofs.Blocks.{block_length}
+use Rattle.pfc_cells.specs.Memory.{AreCells, Lives}
 use Rattle.pfc_cells.proofs.Stores.{values_kept}
 use Rattle.pfc_machines.specs.declared.machine.Machine.{Machine}
 use Rattle.pfc_machines.specs.declared.descriptors.Descriptor.{Descriptor}
-use Rattle.pfc_machines.specs.Descriptors.{descriptor_of, descriptor_by, meeting, withdrawn}
+use Rattle.pfc_machines.specs.Descriptors.{descriptor_of}
 use Rattle.pfc_meeting_actions.specs.Meetings.{parameter_cell}
-use Rattle.pfc_standing_code.specs.Settings.{of_own, site_of, View, Trial, Setting, of_turn, of_another}
+use Rattle.pfc_standing_code.specs.Settings.{of_own, site_of, Trial}
 use Rattle.pfc_standing_code.specs.TypedStatements.{AcceptsEntry}
-use Rattle.pfc_standing_code.specs.Words.{IsChecked}
 use Rattle.pfc_views.specs.Keeping.{IsLike}
-use Rattle.pfc_representation.specs.Levels.{Facts, program_in, LivingLevel, is_met_by, MayKeep, block_of, DoesOn, SeesThrough, IsSeenBy, HasSetting}
+use Rattle.pfc_representation.specs.Levels.{Facts, program_in, LivingLevel, is_met_by, MayKeep, DoesOn}
 use Rattle.pfc_representation.specs.Hands.{laid_parameters, entry_formals, AreKept, shows_nothing, IsOffered, is_woken, waits_plainly, waits_selecting}
-use Rattle.pfc_representation.specs.Holding.{Holders, holders_in, waits_for_monitor, waits_for_resource, Holds, is_quiet, waits_at_coend}
-use Rattle.pfc_representation.specs.Keeping.{IsSameStack, IsLender, IsUntouched}
-use Rattle.pfc_representation.specs.Processes.{RepresentsProcess, AreMet, IsAtLevel, IsUnderWay}
+use Rattle.pfc_representation.specs.Holding.{Holders, holders_in, waits_for_monitor, waits_for_resource}
+use Rattle.pfc_representation.specs.Keeping.{IsSameStack}
+use Rattle.pfc_representation.specs.Processes.{RepresentsProcess, IsAtLevel, IsUnderWay}
 use Rattle.pfc_representation.specs.Acting.{IsActing, IsActor}
-use Rattle.pfc_kept_object_actions.proofs.Change.{row_here, row_there, within_rows}
-use Rattle.pfc_kept_object_actions.proofs.Finding.{first_has}
-use Rattle.pfc_kept_messages.proofs.Passing.{LiesOver, lies_over}
+use Rattle.pfc_kept_object_actions.proofs.Change.{row_here, row_there}
 use Rattle.pfc_kept_messages.proofs.Stacks.{written_same, changed_cells, written_alike}
 use Rattle.pfc_kept_meetings.specs.Owners.{HasTypedEntries}
-use Rattle.pfc_kept_meetings.specs.Accepts.{HasProcesses, KeepsAccepts, AreApart}
+use Rattle.pfc_kept_meetings.specs.Accepts.{HasProcesses, KeepsAccepts}
+use Rattle.pfc_kept_meetings.proofs.Apart.{AreApart}
 use Rattle.pfc_kept_meetings.proofs.Caller.{met_kept}
-use Rattle.pfc_kept_meetings.proofs.Lenders.{ready_unmet, met_stand, met_by_one, HasNot, lenders_stay, seen_less, callers_less}
-use Rattle.pfc_kept_meetings.proofs.Untouched.{others_alike, main_lives, not_kept}
-use Rattle.std.proofs.lemmas.Option.{slice_get-get_or}
-use Rattle.pfc_semantics.specs.Displays.{Display}
-use Rattle.pfc_semantics.specs.Rewriting.{Doing, going}
+use Rattle.pfc_kept_meetings.proofs.Lenders.{ready_unmet}
+use Rattle.pfc_kept_meetings.proofs.Untouched.{others_alike, main_lives}
+use Rattle.pfc_semantics.specs.Rewriting.{Doing}
 use Rattle.pfc_stacks.specs.Refs.{word_of}
-use Rattle.pfc_cells.specs.Homes.{Homes}
-use Rattle.pfc_machines.specs.Communications.{Communicating}
-use Rattle.pfc_standing_code.specs.Performs.{own_view, own_accepts, own_block, Performs}
-use Rattle.pfc_stack_laws.proofs.Moves.{hold_moved}
-use Rattle.pfc_representation.specs.Rooms.{own_address, LeadWithin, LeadsWithin, IsInBlock, HasRoomFor, room_in, process_count}
-use Rattle.pfc_representation.specs.Callers.{IsWithin, IsFirst, StandsFor, AreCallers}
+use Rattle.pfc_representation.specs.Rooms.{own_address}
+use Rattle.pfc_representation.specs.Callers.{IsWithin}
 use Rattle.pfc_representation.specs.Trials.{TrialIs, HasTried}
-use Rattle.pfc_representation.proofs.Kept.{process_still}
-use Rattle.pfc_representation.proofs.Quiet.{actor_moved, others_moved}
-use Rattle.pfc_kept_own_actions.proofs.Arrived.{has_setting, hold_store, stack_there}
-use Rattle.pfc_kept_object_actions.specs.Freed.{IsFreed}
-use Rattle.pfc_kept_object_actions.proofs.Freed.{process_freed}
-use Rattle.pfc_kept_messages.proofs.Others.{IsBarredStand, lender_waits}
+use Rattle.pfc_representation.proofs.Quiet.{actor_moved}
+use Rattle.pfc_kept_own_actions.proofs.Arrived.{stack_there}
 use Rattle.pfc_kept_messages.proofs.Waiting.{not_empty}
-use Rattle.pfc_kept_messages.proofs.Whole.{IsNewStand, IsBehind}
-use Rattle.pfc_kept_meetings.proofs.Tried.{tried_barred}
-use Rattle.pfc_kept_meetings.proofs.Settled.{settled, beside_back, through_then, within_then, first_then, beside_then}
-use Rattle.pfc_semantics.specs.Rendezvous.{meeting_of}
-use Rattle.pfc_following_source.specs.Behind.{BehindAccept}
-use Rattle.pfc_kept_meetings.proofs.Given.{may_lend}
-use Rattle.pfc_kept_meetings.proofs.Few.{found_at}
-use Rattle.pfc_standing_code.specs.Effects.{Arm}
 use Rattle.std.specs.Prelude.{is_some}
 use Rattle.pfc_state.specs.declared.waits.Arm.TheVariants.{Accept as Entered, Send as To, Receive as From}
-use Rattle.pfc_machines.specs.Offers.{without}
-use Rattle.pfc_representation.specs.Alternatives.{none_made}
-use Rattle.pfc_code.specs.declared.instructions.Instr.{Instr}
-use Rattle.pfc_kept_own_actions.proofs.Within.{room_anywhere}
-use Rattle.pfc_kept_messages.proofs.Made.{gone as gone_all}
 use Rattle.pfc_kept_messages.proofs.Meeting.{apart as process_apart}
-use Rattle.pfc_kept_messages.proofs.Partner.{is_open_stand, open_unmet, open_awake, open_no_coend, open_unbarred, open_not_idle, open_not_ready, IsShowing}
-use Rattle.pfc_kept_messages.proofs.Held.{WaitsForNone, holds_anew}
+use Rattle.pfc_kept_messages.proofs.Partner.{is_open_stand, open_unmet, IsShowing}
+use Rattle.pfc_kept_messages.proofs.Held.{WaitsForNone}
 use Rattle.pfc_kept_meetings.specs.Waiting.{KeepsOffers}
 use Rattle.pfc_semantics.specs.Remainders.{Accepting}
 use Rattle.pfc_kept_meetings.proofs.Giving as giving
 use Rattle.pfc_kept_meetings.proofs.Owner as owner
 use Rattle.pfc_kept_messages.proofs.Finding as finding
 use Rattle.pfc_kept_meetings.proofs.Waiting as waiting
-use Rattle.pfc_kept_meetings.proofs.Begins as begins
-use Rattle.pfc_kept_meetings.proofs.Shown as shown
 
 -- what an offer waits for is neither a monitor nor a resource
 pub no_holder : (owners : List ℕ) (s : Stand) (os : List Open) (arms : List WaitArm) → IsOffered s os arms → WaitsForNone owners s
@@ -103,8 +74,10 @@ module _ (facts : Facts) (m : Machine) (c : Config) (p : ℕ) (level : LivingLev
     (q entry : ℕ) (ticket : is_some (ticket_open_to (Entered entry) (at c.table.rows q)) ≡ true)
     (processes : HasProcesses facts.tree) (typed : HasTypedEntries facts.tree) (runs : KeepsAccepts facts c) (offers : KeepsOffers facts c)
     (values : List Value) (words : List ℤ)
-    (hold : AreCells (program_in facts) acting.homes (laid_parameters (entry_formals (program_in facts) q (waiting.a facts m c p level acting own q entry ticket processes typed runs offers).entry)) values words)
-    (given : (k : ℕ) (t : TypeId) → slice_get (laid_parameters (entry_formals (program_in facts) q (waiting.a facts m c p level acting own q entry ticket processes typed runs offers).entry)) k ≡ Some (Variable t true)
+    (hold : AreCells (program_in facts) acting.homes (laid_parameters (entry_formals (program_in facts) q (waiting.a facts m c p level acting own q entry
+    ticket processes typed runs offers).entry)) values words)
+    (given : (k : ℕ) (t : TypeId) → slice_get (laid_parameters (entry_formals (program_in facts) q (waiting.a facts m c p level acting own q entry ticket
+    processes typed runs offers).entry)) k ≡ Some (Variable t true)
     → (l : Location) × (get_or values k (ordinal (pos 0)) ≡ points l))
     (kept : AreKept c.table acting.entries p (descriptor_of m.descriptors p).communications.callers values)
     (to : ℕ) (ops below : List ℤ) (doing_p : Doing) (does_p : DoesOn level to below doing_p)
@@ -130,7 +103,8 @@ module _ (facts : Facts) (m : Machine) (c : Config) (p : ℕ) (level : LivingLev
   abbrev pub its_level : LivingLevel
   its_level = waiting.its_level facts m c p level acting own q entry ticket processes typed runs offers
 
-  abbrev pub shows : IsShowing facts acting.homes acting.entries c.store m.stacks c.table (holders_in facts c) q (activity_of g c q) (descriptor_of m.descriptors q) (finding.waits facts m c p level acting own q (Entered entry) ticket)
+  abbrev pub shows : IsShowing facts acting.homes acting.entries c.store m.stacks c.table (holders_in facts c) q (activity_of g c q) (descriptor_of
+      m.descriptors q) (finding.waits facts m c p level acting own q (Entered entry) ticket)
   shows = waiting.shows facts m c p level acting own q entry ticket processes typed runs offers
 
   abbrev pub b : Block
@@ -274,7 +248,8 @@ module _ (facts : Facts) (m : Machine) (c : Config) (p : ℕ) (level : LivingLev
         line = refl;
         spare = actor1.spare;
         activations =
-            not_empty facts acting.homes acting.entries c.store stacks1 c.table h p (stack_of stacks1 p).room level (word_of (last_activation stacks1 p)) dp.communications
+            not_empty facts acting.homes acting.entries c.store stacks1 c.table h p (stack_of stacks1 p).room level (word_of (last_activation stacks1 p))
+            dp.communications
             ap0.activations (acting.entries p) a1 d1 level_p.callers under_p;
       }
 
@@ -368,20 +343,30 @@ module _ (facts : Facts) (m : Machine) (c : Config) (p : ℕ) (level : LivingLev
   -- ## Store
 
   abbrev pub new_store : Store
-  new_store = giving.new_store facts m c acting.homes acting.entries acting.alike q its_level shows.under_way.stands shows.offers.own inside processes b x shows.offers.checked a accepts_so typed runs of_block_so values words hold
+  new_store = giving.new_store facts m c acting.homes acting.entries acting.alike q its_level shows.under_way.stands shows.offers.own inside processes b x
+      shows.offers.checked a accepts_so typed runs of_block_so values words hold
 
   pub like_of : (r : ℕ) → r ≢ q → (keeps : ℕ → Bool)
       → ((y : ℕ) → keeps y ≡ true → (others : List ℕ) × MayKeep c.table acting.entries r others (acting.entries r) y)
       → IsLike g keeps acting.homes acting.homes acting.entries acting.entries c.store new_store
   like_of r away =
-      others_alike facts m c acting.homes acting.entries acting.alike q (giving.act facts m c acting.homes acting.entries acting.alike q its_level shows.under_way.stands shows.offers.own inside processes b x shows.offers.checked a accepts_so typed runs of_block_so).number (giving.home facts m c acting.homes acting.entries acting.alike q its_level shows.under_way.stands shows.offers.own inside processes b x shows.offers.checked a accepts_so typed runs of_block_so) (giving.at_home facts m c acting.homes acting.entries acting.alike q its_level shows.under_way.stands shows.offers.own inside processes b x shows.offers.checked a accepts_so typed runs of_block_so) (owner.first facts m c acting.homes acting.entries acting.alike q its_level shows.under_way.stands shows.offers.own inside processes b x shows.offers.checked a.entry a.scope accepts_so).stands.process
-      (owner.child facts m c acting.homes acting.entries acting.alike q its_level shows.under_way.stands shows.offers.own inside processes b x shows.offers.checked a.entry a.scope accepts_so) awake_q new_store (λ y other. values_kept c.store (giving.act facts m c acting.homes acting.entries acting.alike q its_level shows.under_way.stands shows.offers.own inside processes b x shows.offers.checked a accepts_so typed runs of_block_so).number _ y other) r away
+      others_alike facts m c acting.homes acting.entries acting.alike q (giving.act facts m c acting.homes acting.entries acting.alike q its_level
+      shows.under_way.stands shows.offers.own inside processes b x shows.offers.checked a accepts_so typed runs of_block_so).number (giving.home facts m c
+      acting.homes acting.entries acting.alike q its_level shows.under_way.stands shows.offers.own inside processes b x shows.offers.checked a accepts_so
+      typed runs of_block_so) (giving.at_home facts m c acting.homes acting.entries acting.alike q its_level shows.under_way.stands shows.offers.own inside
+      processes b x shows.offers.checked a accepts_so typed runs of_block_so) (owner.first facts m c acting.homes acting.entries acting.alike q its_level
+      shows.under_way.stands shows.offers.own inside processes b x shows.offers.checked a.entry a.scope accepts_so).stands.process
+      (owner.child facts m c acting.homes acting.entries acting.alike q its_level shows.under_way.stands shows.offers.own inside processes b x
+      shows.offers.checked a.entry a.scope accepts_so) awake_q new_store (λ y other. values_kept c.store (giving.act facts m c acting.homes acting.entries
+      acting.alike q its_level shows.under_way.stands shows.offers.own inside processes b x shows.offers.checked a accepts_so typed runs
+      of_block_so).number _ y other) r away
 
   -- ## The caller
 
   pub caller_then : RepresentsProcess facts acting.homes acting.entries new_store stacks' table' h p a1 d1
   caller_then =
-      met_kept facts acting.homes acting.entries c.store new_store stacks1 stacks' c.table table' h p a1 d1 under_p own acting.actor.offered q (c.table.done + 1) row_p
+      met_kept facts acting.homes acting.entries c.store new_store stacks1 stacks' c.table table' h p a1 d1 under_p own acting.actor.offered q (c.table.done +
+      1) row_p
       (record {
         monitors = λ n. ap (λ (s : Stand). waits_for_monitor h.owners n s) acting.actor.ready;
         resources = λ n. ap (λ (s : Stand). waits_for_resource n s) acting.actor.ready;

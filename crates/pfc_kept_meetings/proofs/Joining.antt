@@ -10,7 +10,7 @@ use Rattle.pfc_world.specs.Transitions.{rested}
 use Rattle.pfc_semantics.specs.Displays.{Frame, frame_of}
 use Rattle.pfc_semantics.specs.Values.{Value}
 use Rattle.pfc_semantics.specs.Programs.{Block, Program}
-use Rattle.pfc_semantics.specs.Remainders.{Action, Context, Accepting, Offer, Open, Remainder, to_accept, meets}
+use Rattle.pfc_semantics.specs.Remainders.{Context, Accepting, Offer, Open, Remainder, to_accept, meets}
 use Rattle.pfc_semantics.specs.Rendezvous.{taken_from, asked}
 use Rattle.pfc_semantics.specs.Store.{Store, values_in, with_values}
 use Rattle.pfc_semantics.specs.Configurations.{Config, Hand, activity_of}
@@ -43,7 +43,10 @@ use Rattle.pfc_kept_object_actions.proofs.Change.{within_rows}
 use Rattle.pfc_kept_messages.proofs.Stacks.{changed_cells}
 use Rattle.pfc_kept_messages.proofs.Whole.{comes_then}
 use Rattle.pfc_kept_meetings.specs.Owners.{HasTypedEntries}
-use Rattle.pfc_kept_meetings.specs.Accepts.{HasProcesses, KeepsAccepts, AreApart, Accepts}
+use Rattle.pfc_kept_meetings.specs.Accepts.{HasProcesses, KeepsAccepts}
+use Rattle.pfc_kept_meetings.proofs.Apart.{AreApart}
+use Rattle.pfc_kept_meetings.specs.Waiting.{StandsWithin}
+use Rattle.pfc_kept_meetings.proofs.Standing as standing
 use Rattle.pfc_kept_meetings.proofs.Accepting as accepting
 use Rattle.pfc_kept_meetings.proofs.Accepting.{accept_kept}
 use Rattle.pfc_kept_meetings.proofs.Few.{found_at, are_fewer}
@@ -51,7 +54,6 @@ use Rattle.pfc_kept_meetings.proofs.Giving as giving
 use Rattle.pfc_kept_meetings.proofs.Lenders.{ready_unmet}
 use Rattle.pfc_kept_meetings.proofs.Live as live_cells
 use Rattle.pfc_kept_meetings.proofs.Meets as meets
-use Rattle.pfc_kept_meetings.proofs.Owner as owner
 use Rattle.pfc_kept_meetings.proofs.Together as together
 use Rattle.pfc_kept_meetings.proofs.Together.{begins_behind}
 
@@ -276,19 +278,17 @@ by_block : (facts : Facts) (m : Machine) (c : Config) (p choice : ℕ) (level : 
     → MetAt level.setting (site_of level.setting b x) ((stack_of m.stacks p).at + 1) (length (operands_of m.stacks p)) (Some a) o.next o.stmts
     (λ end. Performs level.setting b x.env end (operands_of m.stacks p) [] k)
     → BehindAccept level.setting b ((stack_of m.stacks p).at + 1) (operands_of m.stacks p) x a o k
-    → is_accept level.setting.block a.scope ≡ true → AreApart level.setting.block a.scope level.setting.accepts → IsKept facts m c p choice (meets x o k)
-by_block facts m c p choice level x o k a processes typed runs offer acting arrived b checked own none plain there met behind of_block apart =
-    let same : level.setting.block ≡ b = owner.setting_block facts m c acting.homes acting.entries acting.alike p level acting.actor.stands own
-    acting.actor.process processes b x checked a.entry a.scope met.0 in
+    → StandsWithin facts c p x a → IsKept facts m c p choice (meets x o k)
+by_block facts m c p choice level x o k a processes typed runs offer acting arrived b checked own none plain there met behind within_those =
     joined_kept facts m c p choice level x o k own acting arrived b checked none plain a offer processes typed runs
-    (subst (λ (y : Block). is_accept y a.scope ≡ true) same of_block) (subst (λ (y : Block). AreApart y a.scope level.setting.accepts) same apart)
-    there met behind
+    (standing.of_block facts m c acting.homes acting.entries acting.alike p level acting.actor.stands own acting.actor.process processes b x checked a met.0
+    within_those) (standing.apart facts m c acting.homes acting.entries acting.alike p level acting.actor.stands own acting.actor.process processes b x
+    checked a met.0 within_those) there met behind
 
 pub accept_is_kept : (facts : Facts) (m : Machine) (c : Config) (p choice : ℕ) (level : LivingLevel) (x : Context) (o : Open) (k : Remainder) (a : Accepting)
     → HasProcesses facts.tree → HasTypedEntries facts.tree → KeepsAccepts facts c → o.offer ≡ to_accept a
-    → is_accept level.setting.block a.scope ≡ true → AreApart level.setting.block a.scope level.setting.accepts
-    → IsActing facts m c p level → HasArrived facts m c p level (meets x o k) → IsKept facts m c p choice (meets x o k)
-accept_is_kept facts m c p choice level x o k a processes typed runs offer of_block apart acting arrived =
+    → StandsWithin facts c p x a → IsActing facts m c p level → HasArrived facts m c p level (meets x o k) → IsKept facts m c p choice (meets x o k)
+accept_is_kept facts m c p choice level x o k a processes typed runs offer within_those acting arrived =
     let (b, checked, by) = arrived.arrived in
     let here = (stack_of m.stacks p).at in
     let ops = operands_of m.stacks p in
@@ -296,11 +296,4 @@ accept_is_kept facts m c p choice level x o k a processes typed runs offer of_bl
     let behind = subst (λ (y : Offer). BehindMeeting level.setting b here ops x o y k) offer
     (leads_on level.setting b here (meets x o k) ops level.arms arrived.room checked by) in
     by_block facts m c p choice level x o k a processes typed runs offer acting arrived b checked by.0.0 by.0.1 by.1.0 meets_by.0 meets_by.1 behind
-    of_block apart
-
-pub accepts_kept : (facts : Facts) (m : Machine) (c : Config) (p choice : ℕ) (level : LivingLevel) (n : Action)
-    → HasProcesses facts.tree → HasTypedEntries facts.tree → KeepsAccepts facts c → Accepts level n → IsActing facts m c p level
-    → HasArrived facts m c p level n → IsKept facts m c p choice n
-accepts_kept facts m c p choice level (meets x o k) processes typed runs (a, offer, of_block, apart) acting arrived =
-    accept_is_kept facts m c p choice level x o k a processes typed runs offer of_block apart acting arrived
-accepts_kept facts m c p choice level n processes typed runs is acting arrived = absurd is
+    within_those

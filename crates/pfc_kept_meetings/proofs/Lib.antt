@@ -23,7 +23,6 @@ pub mod Begins
 pub mod Untouched
 pub mod Caller
 pub mod Meets
-pub mod Told
 pub mod Few
 pub mod Live
 pub mod Together
@@ -33,3 +32,6 @@ pub mod Granted
 pub mod Granting
 pub mod Answering
 pub mod Calling
+pub mod Standing
+pub mod Apart
+pub mod Told

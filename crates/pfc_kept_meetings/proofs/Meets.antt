@@ -42,7 +42,8 @@ use Rattle.pfc_kept_object_actions.proofs.Finding.{first_has}
 use Rattle.pfc_kept_messages.proofs.Passing.{LiesOver, lies_over}
 use Rattle.pfc_kept_messages.proofs.Stacks.{written_same, changed_cells, written_alike}
 use Rattle.pfc_kept_meetings.specs.Owners.{HasTypedEntries}
-use Rattle.pfc_kept_meetings.specs.Accepts.{HasProcesses, KeepsAccepts, AreApart}
+use Rattle.pfc_kept_meetings.specs.Accepts.{HasProcesses, KeepsAccepts}
+use Rattle.pfc_kept_meetings.proofs.Apart.{AreApart}
 use Rattle.pfc_kept_meetings.proofs.Caller.{calling, IsAsking, is_asking, asked_is, met_kept}
 use Rattle.pfc_kept_meetings.proofs.Giving as giving
 use Rattle.pfc_kept_meetings.proofs.Lenders.{ready_unmet}

@@ -42,7 +42,8 @@ use Rattle.pfc_representation.specs.Processes.{IsAtLevel}
 use Rattle.pfc_representation.proofs.Kept.{may_keep}
 use Rattle.pfc_kept_messages.proofs.Others.{lender_waits}
 use Rattle.pfc_kept_meetings.specs.Owners.{HasTypedEntries}
-use Rattle.pfc_kept_meetings.specs.Accepts.{HasProcesses, KeepsAccepts, AreApart}
+use Rattle.pfc_kept_meetings.specs.Accepts.{HasProcesses, KeepsAccepts}
+use Rattle.pfc_kept_meetings.proofs.Apart.{AreApart}
 use Rattle.pfc_kept_code.specs.Kept.{SeesAlike}
 use Rattle.pfc_kept_meetings.proofs.Alike.{seen_alike}
 use Rattle.pfc_kept_meetings.proofs.Anew as anew

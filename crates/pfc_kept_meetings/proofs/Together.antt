@@ -30,7 +30,8 @@ use Rattle.pfc_representation.specs.Keeping.{IsSameStack, IsUntouched}
 use Rattle.pfc_representation.specs.Processes.{RepresentsProcess, AreMet, IsAtLevel, IsUnderWay}
 use Rattle.pfc_representation.specs.Acting.{IsActing}
 use Rattle.pfc_kept_meetings.specs.Owners.{HasTypedEntries}
-use Rattle.pfc_kept_meetings.specs.Accepts.{HasProcesses, KeepsAccepts, AreApart}
+use Rattle.pfc_kept_meetings.specs.Accepts.{HasProcesses, KeepsAccepts}
+use Rattle.pfc_kept_meetings.proofs.Apart.{AreApart}
 use Rattle.pfc_kept_meetings.proofs.Lenders.{ready_unmet}
 use Rattle.pfc_kept_meetings.proofs.Untouched.{not_kept}
 use Rattle.pfc_semantics.specs.Rewriting.{Doing, going}

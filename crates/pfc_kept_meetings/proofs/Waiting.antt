@@ -1,57 +1,43 @@
 -- An owner that waits to accept an entry: which accept both sides find, and what is told of it.
-use Rattle.std.proofs.Common.{◌≡◌, ◌≢◌, ℕ, zero, suc, ◌+◌, ◌<◌, ◌≤◌, ◌==◌, ℤ, Bool, true, false, ◌||◌, if◌then◌else◌, List, [], ◌∷◌, ◌++◌, length, slice_get, Option, Some, None, refl, sym, ap, ap₂, ◌∙◌, subst, arith, ◌⊎◌, inl, inr}
+use Rattle.std.proofs.Common.{◌≡◌, ℕ, zero, suc, ◌<◌, ◌≤◌, ℤ, Bool, true, false, if◌then◌else◌, List, [], ◌∷◌, length, slice_get, Option, Some, None, refl, ap, ◌∙◌, subst}
 use Rattle.std.specs.Prelude.{is_some}
-use Rattle.std.specs.List.{list_any}
-use Rattle.std.proofs.lemmas.List.{append-nil}
 use Rattle.pfc_tree.specs.trees.Stmts.{StmtTrees}
-use Rattle.pfc_types.specs.Scopes.{Level}
 use Rattle.pfc_state.specs.declared.waits.Arm.{Arm as WaitArm}
-use Rattle.pfc_state.specs.declared.waits.Arm.TheVariants.{Send as To, Receive as From, Accept as Entered}
+use Rattle.pfc_state.specs.declared.waits.Arm.TheVariants.{Accept as Entered}
 use Rattle.pfc_world.specs.Partners.{ticket_open_to}
-use Rattle.pfc_world.specs.Tables.{Table, at}
+use Rattle.pfc_world.specs.Tables.{at}
 use Rattle.pfc_semantics.specs.Channels as text
 use Rattle.pfc_semantics.specs.Channels.{Side, first_open}
-use Rattle.pfc_semantics.specs.Displays.{Display}
-use Rattle.pfc_semantics.specs.Processes.{process_block}
 use Rattle.pfc_semantics.specs.Programs.{Block, Program}
 use Rattle.pfc_semantics.specs.Remainders.{Context, Accepting, Offer, Open, Remainder, Replica, to_send, to_receive, to_accept, to_wait, to_end}
-use Rattle.pfc_semantics.specs.Store.{Store}
 use Rattle.pfc_semantics.specs.Configurations.{Config, activity_of}
 use Rattle.pfc_code.specs.declared.instructions.Instr.{Instr}
 use Rattle.pfc_code.specs.declared.instructions.Instr.TheVariants.{ARMA}
-use Rattle.pfc_translation.specs.Sites.{Site, is_mains, linked, is_accept}
+use Rattle.pfc_translation.specs.Sites.{Site, is_accept}
 use Rattle.pfc_translation.specs.Selects.{accept_cell, accept_cells}
-use Rattle.pfc_cells.specs.Homes.{Homes}
-use Rattle.pfc_cells.specs.Memory.{Entry, Entries}
 use Rattle.pfc_stacks.specs.Stacks.{stack_of}
 use Rattle.pfc_machines.specs.declared.machine.Machine.{Machine}
-use Rattle.pfc_machines.specs.declared.descriptors.Descriptor.{Descriptor}
-use Rattle.pfc_machines.specs.declared.alternatives.Alternative.{Alternative}
 use Rattle.pfc_machines.specs.declared.alternatives.Offer.TheVariants.{Accept as AcceptOffer}
 use Rattle.pfc_machines.specs.Descriptors.{descriptor_of}
 use Rattle.pfc_standing_code.specs.Effects.{Arm}
-use Rattle.pfc_standing_code.specs.Settings.{View, Setting, of_own, site_of}
-use Rattle.pfc_standing_code.specs.Words.{is_known}
+use Rattle.pfc_standing_code.specs.Settings.{Setting, of_own, site_of}
 use Rattle.pfc_standing_code.specs.Performs.{MetAt, BranchAt, IsOpen, AreOpen, Performs}
 use Rattle.pfc_standing_code.specs.TypedStatements.{AcceptsEntry}
 use Rattle.pfc_following_source.specs.Behind.{BehindAccept, BehindOpen, branch_of}
 use Rattle.pfc_representation.specs.Alternatives.{IsMadeBy}
-use Rattle.pfc_representation.specs.Levels.{Facts, program_in, LivingLevel, is_met_by, SeesThrough}
+use Rattle.pfc_representation.specs.Levels.{Facts, program_in, LivingLevel}
 use Rattle.pfc_representation.specs.Rooms.{MayMeet, MayMeetBy, process_count}
 use Rattle.pfc_representation.specs.Acting.{IsActing}
 use Rattle.pfc_representation.specs.Holding.{holders_in}
 use Rattle.pfc_kept_messages.proofs.Finding as finding
 use Rattle.pfc_kept_messages.proofs.Meeting.{is_process}
 use Rattle.pfc_kept_messages.proofs.Partner.{IsShowing}
-use Rattle.pfc_call_laws.proofs.Displays.{any_at, same_of}
-use Rattle.pfc_call_laws.proofs.Places.{or_cases, or_left, or_right}
+use Rattle.pfc_call_laws.proofs.Displays.{same_of}
 use Rattle.pfc_kept_meetings.specs.Owners.{HasTypedEntries}
-use Rattle.pfc_kept_meetings.specs.Accepts.{HasProcesses, KeepsAccepts, AreApart}
+use Rattle.pfc_kept_meetings.specs.Accepts.{HasProcesses, KeepsAccepts}
+use Rattle.pfc_kept_meetings.proofs.Apart.{AreApart}
 use Rattle.pfc_kept_meetings.specs.Waiting.{StandsWithin, KeepsOffers}
-use Rattle.pfc_kept_meetings.proofs.Arguments.{seen_plainly}
-use Rattle.pfc_kept_meetings.proofs.Few.{only_these, found_at}
-use Rattle.pfc_kept_meetings.proofs.Owner as owner
-use Rattle.pfc_kept_messages.proofs.Sight.{same_program}
+use Rattle.pfc_kept_meetings.proofs.Standing as standing
 
 -- ## The accept
 
@@ -100,15 +86,6 @@ meets_most count most g s held (y ∷ os) (arm ∷ arms) P zero o a are there of
     subst (λ (z : Instr). MayMeetBy count most z) open_one.1 may.0
 meets_most count most g s held (y ∷ os) (arm ∷ arms) P (suc n) o a are there offer may = meets_most count most g s held os arms P n o a are.1 there offer may.1
 
-through_length : (facts : Facts) (homes : Homes) (entries : Entries) (store : Store) (table : Table) (p : ℕ) (mine : List Entry) (w : ℤ) (display : Display)
-    (g : Setting) (b : Block) (view : View) (others accepts meetings : List ℕ)
-    → SeesThrough facts homes entries store table p mine w display g b view others accepts meetings → length accepts ≡ length meetings
-through_length facts homes entries store table p mine w display g b view others [] [] is = refl
-through_length facts homes entries store table p mine w display g b view others (i ∷ accepts) (q ∷ meetings) is =
-    ap (λ n. suc n) (through_length facts homes entries store table p mine w display g b view others accepts meetings is.1)
-through_length facts homes entries store table p mine w display g b view others [] (q ∷ meetings) is = absurd is
-through_length facts homes entries store table p mine w display g b view others (i ∷ accepts) [] is = absurd is
-
 module _ (facts : Facts) (m : Machine) (c : Config) (p : ℕ) (level : LivingLevel) (acting : IsActing facts m c p level) (own : level.setting.trial ≡ of_own)
     (q entry : ℕ) (ticket : is_some (ticket_open_to (Entered entry) (at c.table.rows q)) ≡ true)
     (processes : HasProcesses facts.tree) (typed : HasTypedEntries facts.tree) (runs : KeepsAccepts facts c) (offers : KeepsOffers facts c) where
@@ -118,7 +95,8 @@ module _ (facts : Facts) (m : Machine) (c : Config) (p : ℕ) (level : LivingLev
   abbrev pub its_level : LivingLevel
   its_level = finding.its_level facts m c p level acting own q (Entered entry) ticket
 
-  abbrev pub shows : IsShowing facts acting.homes acting.entries c.store m.stacks c.table (holders_in facts c) q (activity_of g c q) (descriptor_of m.descriptors q)
+  abbrev pub shows : IsShowing facts acting.homes acting.entries c.store m.stacks c.table (holders_in facts c) q (activity_of g c q) (descriptor_of
+      m.descriptors q)
       (finding.waits facts m c p level acting own q (Entered entry) ticket)
   shows = finding.shows facts m c p level acting own q (Entered entry) ticket
 
@@ -179,7 +157,8 @@ module _ (facts : Facts) (m : Machine) (c : Config) (p : ℕ) (level : LivingLev
         branch = to;
       }
   alternative_is =
-      (subst (λ (i : Instr). IsMadeBy (finding.makes facts m c p level acting own q (Entered entry) ticket).depth i met.arm.operands met.kept.alternative met.is_kept.words) arm_is met.is_kept.made).1
+      (subst (λ (i : Instr). IsMadeBy (finding.makes facts m c p level acting own q (Entered entry) ticket).depth i met.arm.operands met.kept.alternative
+      met.is_kept.words) arm_is met.is_kept.made).1
 
   -- ## It is not open already
 
@@ -196,73 +175,10 @@ module _ (facts : Facts) (m : Machine) (c : Config) (p : ℕ) (level : LivingLev
       (length ops) shows.opened its_level.arms behind_it open_there.0 met.o a shows.offers.open_ones open_there.1 accept_there.1
       shows.under_way.stands.accepts
 
-  block_is : b ≡ process_block g q
-  block_is = owner.process_is facts m c acting.homes acting.entries acting.alike q its_level shows.under_way.stands shows.offers.own inside processes b x shows.offers.checked a.entry a.scope accepts
-
   pub of_block : is_accept b a.scope ≡ true
-  of_block = subst (λ (y : Block). is_accept y a.scope ≡ true) (sym block_is) within_those.of_block
-
-  program_is : its_level.setting.program ≡ g
-  program_is =
-      same_program facts m c acting.homes acting.entries acting.alike q (descriptor_of m.descriptors q) its_level shows.under_way.stands shows.offers.own
-
-  callers_are : (descriptor_of m.descriptors q).communications.callers ≡ its_level.setting.meetings
-  callers_are = (owner.first facts m c acting.homes acting.entries acting.alike q its_level shows.under_way.stands shows.offers.own inside processes b x shows.offers.checked a.entry a.scope accepts).made.1 ∙ append-nil its_level.setting.meetings
-
-  accepts_count : length its_level.setting.accepts ≡ length its_level.setting.meetings
-  accepts_count =
-      let seen = shows.under_way.stands.seen in
-      through_length facts acting.homes acting.entries c.store c.table q (acting.entries q) _ _ its_level.setting its_level.setting.block
-      its_level.setting.view seen.others its_level.setting.accepts its_level.setting.meetings
-      (seen_plainly facts acting.homes acting.entries c.store c.table q (acting.entries q) _ _ its_level.setting seen.others its_level.setting.trial
-      shows.offers.own seen.sees)
-
-  few : length its_level.setting.accepts ≤ length within_those.around
-  few =
-      subst (λ n. n ≤ length within_those.around) (ap (λ (ys : List ℕ). length ys) callers_are ∙ sym accepts_count)
-      (within_those.callers (descriptor_of m.descriptors q).communications.callers shows.under_way.stands.met.once waiting)
-    where
-      waiting : (n r : ℕ) → slice_get (descriptor_of m.descriptors q).communications.callers n ≡ Some r → is_met_by (at c.table.rows r) q
-      waiting n r there =
-          let found = found_at (descriptor_of m.descriptors q).communications.callers n r 0 there in
-          subst (λ j. is_met_by (at c.table.rows j) q) found.1 (shows.under_way.stands.met.waiting n 0 found.0)
-
-  known_around : (i : ℕ) → is_accept b i ≡ true → list_any (λ (y : Level). y.scope == i) x.env.view ≡ true
-      → list_any (λ n. n == i) its_level.setting.accepts ≡ true
-  known_around i is_one seen =
-      by (or_cases (is_mains g.state.blocks i) _ known)
-    where
-      known : is_known g.state.blocks b its_level.setting.accepts i ≡ true
-      known =
-          subst (λ (y : Program). is_known y.state.blocks b its_level.setting.accepts i ≡ true) program_is
-          (shows.offers.checked.known i (or_right (is_mains its_level.setting.program.state.blocks i) _ seen))
-
-      unknown : is_known g.state.blocks b [] i ≡ true → ⊥
-      unknown is = (let both : true ≡ false = sym is_one ∙ (owner.scopes facts m c acting.homes acting.entries acting.alike q its_level shows.under_way.stands shows.offers.own inside processes b x shows.offers.checked a.entry a.scope accepts).no_accept i is in cc)
-
-      by_rest : (list_any (λ n. n == i) (linked g.state.blocks b.env.view) ≡ true) ⊎ (list_any (λ n. n == i) its_level.setting.accepts ≡ true)
-          → list_any (λ n. n == i) its_level.setting.accepts ≡ true
-      by_rest (inl is) =
-          absurd (unknown (or_right (is_mains g.state.blocks i) _ (or_left (list_any (λ n. n == i) (linked g.state.blocks b.env.view)) false is)))
-      by_rest (inr is) = is
-
-      by : (is_mains g.state.blocks i ≡ true)
-          ⊎ ((list_any (λ n. n == i) (linked g.state.blocks b.env.view) || list_any (λ n. n == i) its_level.setting.accepts) ≡ true)
-          → list_any (λ n. n == i) its_level.setting.accepts ≡ true
-      by (inl is) = absurd (unknown (or_left (is_mains g.state.blocks i) _ is))
-      by (inr is) = by_rest (or_cases (list_any (λ n. n == i) (linked g.state.blocks b.env.view)) _ is)
-
-  around_so : (n i : ℕ) → slice_get within_those.around n ≡ Some i
-      → (is_accept b i ≡ true) × (i ≢ a.scope) × (list_any (λ (y : Level). y.scope == i) x.env.view ≡ true)
-  around_so n i there =
-      let one = within_those.others n i there in
-      (subst (λ (y : Block). is_accept y i ≡ true) (sym block_is) one.0, one.1, one.2)
+  of_block = standing.of_block facts m c acting.homes acting.entries acting.alike q its_level shows.under_way.stands shows.offers.own inside processes b x
+      shows.offers.checked a accepts within_those
 
   pub apart : AreApart b a.scope its_level.setting.accepts
-  apart j among =
-      let inside_those : list_any (λ i. i == j) within_those.around ≡ true =
-      only_these within_those.around its_level.setting.accepts j within_those.once
-      (λ n i there. let one = around_so n i there in known_around i one.0 one.2) few among in
-      let there = any_at j within_those.around inside_those in
-      let one = around_so there.0 j there.1 in
-      (one.0, one.1)
+  apart = standing.apart facts m c acting.homes acting.entries acting.alike q its_level shows.under_way.stands shows.offers.own inside processes b x
+      shows.offers.checked a accepts within_those

@@ -1,6 +1,6 @@
 -- What is told of the accepts of a program, and of a run.
-use Rattle.std.specs.Prelude.{ℕ, ◌≡◌, ◌≢◌, ◌<◌, ◌==◌, pos, true, List, [], ◌∷◌, length, get_or, Some, None}
-use Rattle.std.specs.List.{slice_get, list_any}
+use Rattle.std.specs.Prelude.{ℕ, ◌≡◌, ◌≢◌, ◌<◌, pos, true, List, [], ◌∷◌, length, get_or, Some, None}
+use Rattle.std.specs.List.{slice_get}
 use Rattle.pfc_tree.specs.trees.Parts.{ProgramTree}
 use Rattle.pfc_types.specs.Blocks.{process_at}
 use Rattle.pfc_types.specs.rules.Declarations.{name_cells}
@@ -14,13 +14,12 @@ use Rattle.pfc_semantics.specs.Values.{Value, Location, ordinal, points}
 use Rattle.pfc_semantics.specs.Layouts.{is_laid, sub_with}
 use Rattle.pfc_semantics.specs.Processes.{declaration_of, process_block}
 use Rattle.pfc_semantics.specs.Programs.{Block, Program, block_at, program_of}
-use Rattle.pfc_semantics.specs.Remainders.{Accepting, Action, to_accept, meets}
 use Rattle.pfc_semantics.specs.Configurations.{Activation, Config, asking, activity_of}
 use Rattle.pfc_translation.specs.Sites.{is_mains, is_accept}
 use Rattle.pfc_translation.specs.Images.{image_of}
 use Rattle.pfc_call_laws.specs.Calls.{HasNoObjects}
 use Rattle.pfc_meeting_laws.specs.Meetings.{display_of}
-use Rattle.pfc_representation.specs.Levels.{Facts, program_in, LivingLevel}
+use Rattle.pfc_representation.specs.Levels.{Facts, program_in}
 use Rattle.pfc_representation.specs.Hands.{laid_parameters, entry_formals}
 
 -- ## Of a program
@@ -44,19 +43,6 @@ pub record HasProcesses (t : ProgramTree) : Type 0 where
       → (process_at (program_of t).state.blocks n).scope ≡ (process_at (program_of t).state.blocks k).scope → n ≡ k
   pub declared : (q : ℕ) → 0 < q → q < length (image_of t).processes
       → declaration_of (program_of t) q < length (program_of t).state.blocks.processes
-
--- ## Of an accept that comes
-
--- the accepts that are open are accepts of the block, and others than this
-abbrev pub AreApart : Block → ℕ → List ℕ → Type 0
-AreApart b i accepts = (j : ℕ) → list_any (λ n. n == j) accepts ≡ true → (is_accept b j ≡ true) × (j ≢ i)
-
--- An accept as a statement: its scope is that of an accept of the block, and it is not open already, since none is within itself.
-abbrev pub Accepts : LivingLevel → Action → Type 0
-Accepts level (meets x o k) =
-    (a : Accepting) × (o.offer ≡ to_accept a) × (is_accept level.setting.block a.scope ≡ true)
-    × AreApart level.setting.block a.scope level.setting.accepts
-Accepts level n = ⊥
 
 -- ## Of a run
 

@@ -1,4 +1,4 @@
--- What is told, of a run, of a process that waits to accept.
+-- What is told, of a run, of accepts within others.
 use Rattle.std.specs.Prelude.{ℕ, ◌≡◌, ◌≢◌, ◌≤◌, ◌==◌, true, List, length, Some}
 use Rattle.std.specs.List.{slice_get, list_any}
 use Rattle.pfc_types.specs.Scopes.{Level}
@@ -13,8 +13,8 @@ use Rattle.pfc_representation.specs.Levels.{Facts, program_in, is_met_by}
 abbrev pub IsOnce : List ℕ → Type 0
 IsOnce xs = (j k r : ℕ) → slice_get xs j ≡ Some r → slice_get xs k ≡ Some r → j ≡ k
 
--- An accept at which a process waits is one of its block. It stands within as many accepts of the block, all of them in view, as there are callers that wait in
--- meetings with the process; none of them is itself.
+-- An accept that comes, or at which a process waits, is one of its block. It stands within as many accepts of the block, all of them in view, as there are
+-- callers that wait in meetings with the process: each of these meetings goes on in one of them. None of them is itself, since none stands within itself.
 pub record StandsWithin (facts : Facts) (c : Config) (q : ℕ) (x : Context) (a : Accepting) : Type 0 where
   pub of_block : is_accept (process_block (program_in facts) q) a.scope ≡ true
   pub around : List ℕ

@@ -3,7 +3,7 @@ ghost use Rattle.std.specs.Prelude.{◌≡◌, ℕ, false, List, None};
 ghost use Rattle.pfc_world.specs.Partners.{caller, is_accepting};
 ghost use Rattle.pfc_semantics.specs.Configurations.{Config, number_for};
 ghost use Rattle.pfc_semantics.specs.Displays.{Spot};
-ghost use Rattle.pfc_semantics.specs.Remainders.{Accepting, Action, Argument, Context, Open, Remainder, to_accept, to_entry, calls, meets};
+ghost use Rattle.pfc_semantics.specs.Remainders.{Accepting, Argument, Context, Open, Remainder, to_accept, to_entry, calls, meets};
 ghost use Rattle.pfc_machines.specs.declared.machine.Machine.{Machine};
 ghost use Rattle.pfc_representation.specs.Levels.{Facts, program_in, LivingLevel, IsProgram};
 ghost use Rattle.pfc_representation.specs.Acting.{IsActing, HasArrived};
@@ -11,8 +11,8 @@ ghost use Rattle.pfc_representation.specs.Actions.{IsKept, AreKept};
 ghost use Rattle.pfc_tree.specs.trees.Parts.{ProgramTree};
 ghost use Rattle.pfc_kept_meetings.specs.Groups.{EndsAccept};
 ghost use Rattle.pfc_kept_meetings.specs.Owners.{HasTypedEntries, HasSingles};
-ghost use Rattle.pfc_kept_meetings.specs.Accepts.{HasProcesses, KeepsAccepts, Accepts};
-ghost use Rattle.pfc_kept_meetings.specs.Waiting.{KeepsOffers};
+ghost use Rattle.pfc_kept_meetings.specs.Accepts.{HasProcesses, KeepsAccepts};
+ghost use Rattle.pfc_kept_meetings.specs.Waiting.{StandsWithin, KeepsOffers};
 
 /// The end of an accept keeps the representation: the process goes on behind it without the names of the accept, and the caller of the meeting that was begun
 /// last is ready.
@@ -37,20 +37,12 @@ pub fn unmet_accepts_are_kept()
         → IsKept facts m c p choice (meets x o k) }
 {}
 
-/// What rendezvous ask of the processes of a program is so of every checked one: each has a block of its own, which is told by its scope, and each parameter of
-/// an entry has a type.
-pub fn checked_programs_have_processes()
-    ensures processes { (t : ProgramTree) → IsProgram t → HasProcesses t }
-    ensures entries { (t : ProgramTree) → IsProgram t → HasTypedEntries t }
-{}
-
-/// An accept keeps the representation: with the first caller that waits its meeting begins, in which the accept's parameters have the caller's arguments, in the
-/// store and in the cells of the owner, and the caller waits in it; without one the process waits, and offers to accept. The accept is one of its block, and
-/// is not open already.
+/// An accept keeps the representation: with the first caller that waits its meeting begins, in which the accept's parameters have the caller's arguments, in
+/// the store and in the cells of the owner, and the caller waits in it; without one the process waits, and offers to accept.
 pub fn accepts_are_kept()
-    ensures { (facts : Facts) (m : Machine) (c : Config) (p choice : ℕ) (level : LivingLevel) (n : Action)
-        → HasProcesses facts.tree → HasTypedEntries facts.tree → KeepsAccepts facts c → Accepts level n
-        → IsActing facts m c p level → HasArrived facts m c p level n → IsKept facts m c p choice n }
+    ensures { (facts : Facts) (m : Machine) (c : Config) (p choice : ℕ) (level : LivingLevel) (x : Context) (o : Open) (k : Remainder) (a : Accepting)
+        → HasProcesses facts.tree → HasTypedEntries facts.tree → KeepsAccepts facts c → o.offer ≡ to_accept a → StandsWithin facts c p x a
+        → IsActing facts m c p level → HasArrived facts m c p level (meets x o k) → IsKept facts m c p choice (meets x o k) }
 {}
 
 /// A call of an entry keeps the representation. Where the owner is not active it is a fault. Where the owner waits to accept the entry, in a plain accept or at
@@ -62,4 +54,11 @@ pub fn calls_of_entries_are_kept()
         → HasProcesses facts.tree → HasTypedEntries facts.tree → HasSingles facts c → KeepsAccepts facts c → KeepsOffers facts c
         → IsActing facts m c p level → HasArrived facts m c p level (calls x (to_entry v entry k) given)
         → IsKept facts m c p choice (calls x (to_entry v entry k) given) }
+{}
+
+/// What rendezvous ask of the processes of a program is so of every checked one: each has a block of its own, which is told by its scope, and each parameter of
+/// an entry has a type.
+pub fn checked_programs_have_processes()
+    ensures processes { (t : ProgramTree) → IsProgram t → HasProcesses t }
+    ensures entries { (t : ProgramTree) → IsProgram t → HasTypedEntries t }
 {}

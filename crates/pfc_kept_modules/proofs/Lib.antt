@@ -18,3 +18,4 @@ pub mod Replaced
 pub mod Renewed
 pub mod Requeued
 pub mod Requeueing
+pub mod Requeueable

@@ -95,7 +95,8 @@ pub main_unguarded : (t : ProgramTree) → (program_of t).main.guard ≡ None
 main_unguarded t = by t.body
   where
     by : (b : BodyTree)
-        → (block_of 0 0 (env_of_main (finished t)) (1 + parts_scopes t.parts) b (main_layout (finished t).blocks (scope_at (finished t).blocks.scopes 0)) 0 None).guard ≡ None
+        → (let layout = main_layout (finished t).blocks (scope_at (finished t).blocks.scopes 0) in
+        block_of 0 0 (env_of_main (finished t)) (1 + parts_scopes t.parts) b layout 0 None).guard ≡ None
     by (body ss first last) = refl
 
 pub guards_in_resources : (t : ProgramTree) → IsLawful (forget_program t) → (scope : ℕ) (guard : Guard) → (block_at (program_of t) scope).guard ≡ Some guard

@@ -166,14 +166,17 @@ module _ (level : LivingLevel) (view : View) (accepts meetings : List ℕ) where
 equal : (n k : ℕ) → (n == k) ≡ true → n ≡ k
 equal n k h = grind (arith, h)
 
+one_more : (b : Block) (n : ℕ) (accepts : List ℕ) → is_accept b n ≡ true → ((i : ℕ) → list_any (λ j. j == i) accepts ≡ true → is_accept b i ≡ true)
+    → (i : ℕ) → list_any (λ j. j == i) (n ∷ accepts) ≡ true → is_accept b i ≡ true
+one_more b n accepts its old i is_open = by (n == i) refl
+  where
+    by : (c : Bool) → (n == i) ≡ c → is_accept b i ≡ true
+    by true same = ap (λ k. is_accept b k) (sym (equal n i same)) ∙ its
+    by false other = old i (sym (ap (λ (c : Bool). c || list_any (λ j. j == i) accepts) other) ∙ is_open)
+
 pub one_more_own : (t : Trial) (b : Block) (n : ℕ) (accepts : List ℕ) → is_accept b n ≡ true
     → ((i : ℕ) → list_any (λ j. j == i) (own_accepts t accepts) ≡ true → is_accept b i ≡ true)
     → (i : ℕ) → list_any (λ j. j == i) (own_accepts t (n ∷ accepts)) ≡ true → is_accept b i ≡ true
-one_more_own of_own b n accepts its old i is_open = one_more b n accepts its old i is_open (n == i) refl
-  where
-    one_more : (b : Block) (n : ℕ) (accepts : List ℕ) → is_accept b n ≡ true → ((i : ℕ) → list_any (λ j. j == i) accepts ≡ true → is_accept b i ≡ true)
-        → (i : ℕ) → list_any (λ j. j == i) (n ∷ accepts) ≡ true → (c : Bool) → (n == i) ≡ c → is_accept b i ≡ true
-    one_more b n accepts its old i is_open true same = ap (λ k. is_accept b k) (sym (equal n i same)) ∙ its
-    one_more b n accepts its old i is_open false other = old i (sym (ap (λ (c : Bool). c || list_any (λ j. j == i) accepts) other) ∙ is_open)
-one_more_own (of_turn scan back) b n accepts its old i is_open = one_more_own of_own b n accepts its old i is_open
-one_more_own (of_another attempt) b n accepts its old i is_open = old i is_open
+one_more_own of_own b n accepts its old = one_more b n accepts its old
+one_more_own (of_turn scan back) b n accepts its old = one_more b n accepts its old
+one_more_own (of_another attempt) b n accepts its old = old

@@ -4,3 +4,4 @@ pub mod Parameters
 pub mod Programs
 pub mod Views
 pub mod Monitors
+pub mod Scoped

@@ -1,20 +1,19 @@
 -- A monitor among the parts of a program: its names are in view inside it, and nowhere else.
-use Rattle.std.proofs.Common.{◌≡◌, ℕ, zero, suc, ◌+◌, ◌≤◌, ◌<◌, ◌⊎◌, inl, inr, Bool, true, false, List, [], ◌∷◌, ◌++◌, length, get_or, Option, Some, None, refl, sym, ap, subst, arith}
+use Rattle.std.proofs.Common.{◌≡◌, ℕ, zero, suc, ◌+◌, ◌≤◌, ◌<◌, ◌⊎◌, inl, inr, false, [], ◌∷◌, length, get_or, Some, None, refl, sym, ap, subst, arith}
 use Rattle.std.specs.List.{AllByRecursion}
-use Rattle.pfc_tree.specs.trees.Stmts.{BodyTree, body}
+use Rattle.pfc_tree.specs.trees.Stmts.{body}
 use Rattle.pfc_tree.specs.trees.Parts.{PartTree, PartTrees, ModuleTree, consts, types, vars, sub_part, monitor, resource, process_part, no_parts, more_parts, the_module}
 use Rattle.pfc_tree.specs.forget.Parts.{forget_part, forget_parts}
 use Rattle.pfc_tree.specs.lawful.Parts.{of_program, IsLawfulPart, AreLawfulParts}
-use Rattle.pfc_types.specs.Scopes.{Level, all_names, scope_at, here}
+use Rattle.pfc_types.specs.Scopes.{all_names, scope_at, here}
 use Rattle.pfc_types.specs.Blocks.{State, no_module}
 use Rattle.pfc_types.specs.declared.heads.ModuleHead.{ModuleHead}
-use Rattle.pfc_types.specs.rules.Expressions.{Env}
-use Rattle.pfc_types.specs.rules.Bodies.{env_at, around_nothing, passed_part, part_scopes, parts_scopes, module_scopes, level}
-use Rattle.pfc_semantics.specs.Programs.{Block, init_block, module_blocks, part_blocks, parts_blocks, module_inits, part_inits, parts_inits}
+use Rattle.pfc_types.specs.rules.Bodies.{passed_part, part_scopes, module_scopes, level}
+use Rattle.pfc_semantics.specs.Programs.{Block, part_blocks, parts_blocks, module_inits, part_inits, parts_inits}
 use Rattle.pfc_image_laws.specs.Modules.{modules_from}
 use Rattle.pfc_name_laws.specs.Processes.{processes_from}
 use Rattle.pfc_run_invariants.proofs.Lists.{all_append}
-use Rattle.pfc_inside_programs.proofs.Views.{Sees, sees_further, sees_own, IsOut, AreOut, Kept, none_out, more_out, IsPlaced, Beside, first_out, beside_in, part_out, parts_out, parts_in}
+use Rattle.pfc_inside_programs.proofs.Views.{Sees, sees_own, IsOut, Kept, none_out, more_out, IsPlaced, Beside, first_out, part_out, parts_out, parts_in}
 
 opens : (m : ModuleTree) → 0 < module_scopes m
 opens (the_module x exports ps b last p) = omega arith

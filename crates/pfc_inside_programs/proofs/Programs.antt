@@ -27,7 +27,7 @@ use Rattle.pfc_run_invariants.specs.Written.{FitStmts}
 use Rattle.pfc_inside_programs.proofs.Parameters.{stmts_typed}
 use Rattle.pfc_inside_programs.proofs.Bodies.{Away, behind_parts, away_at, HasOwn, HasOwnAlone, body_alone, tops_own, inits_own}
 
-all_at : {X : Type 0} (P : X → Type 0) (xs : List X) (k : ℕ) (x : X) → AllByRecursion P xs → slice_get xs k ≡ Some x → P x
+pub all_at : {X : Type 0} (P : X → Type 0) (xs : List X) (k : ℕ) (x : X) → AllByRecursion P xs → slice_get xs k ≡ Some x → P x
 all_at P [] k x all at = absurd (cc)
 all_at P (y ∷ xs) zero x all at = (let same : y ≡ x = cc in subst P same all.0)
 all_at P (y ∷ xs) (suc k) x all at = all_at P xs k x all.1 at

@@ -1,5 +1,5 @@
 -- Which bodies and guards see the names of a monitor: those inside it, whose scopes follow on its own.
-use Rattle.std.proofs.Common.{◌≡◌, ◌≢◌, ℕ, zero, suc, ◌+◌, ◌≤◌, ◌<◌, ◌==◌, ◌⊎◌, inl, inr, Bool, true, false, ◌||◌, List, [], ◌∷◌, ◌++◌, length, get_or, take, drop, Option, Some, None, refl, sym, ap, ◌∙◌, subst, arith}
+use Rattle.std.proofs.Common.{◌≡◌, ℕ, ◌+◌, ◌≤◌, ◌<◌, ◌==◌, ◌⊎◌, inl, inr, Bool, true, false, ◌||◌, List, [], ◌∷◌, take, drop, Option, Some, None, refl, subst, arith}
 use Rattle.std.proofs.lemmas.Bool.Decides.{nat_tests}
 use Rattle.std.specs.List.{AllByRecursion, list_any}
 use Rattle.pfc_tree.specs.trees.Stmts.{BodyTree, body}
@@ -7,14 +7,12 @@ use Rattle.pfc_tree.specs.trees.Parts.{KindTree, PartTree, PartTrees, SubTree, M
 use Rattle.pfc_tree.specs.forget.Parts.{forget_kind, forget_part, forget_parts, forget_sub}
 use Rattle.pfc_tree.specs.lawful.Parts.{of_other, IsLawfulKind, IsLawfulPart, AreLawfulParts, IsLawfulSub}
 use Rattle.pfc_types.specs.Scopes.{Level, all_names, scope_at, here}
-use Rattle.pfc_types.specs.Blocks.{State, no_module}
-use Rattle.pfc_types.specs.declared.heads.ModuleHead.{ModuleHead}
+use Rattle.pfc_types.specs.Blocks.{State}
 use Rattle.pfc_types.specs.rules.Expressions.{Env}
 use Rattle.pfc_types.specs.rules.Statements.{body_scopes}
-use Rattle.pfc_types.specs.rules.Bodies.{env_at, around_nothing, around_process, around_sub, around_guard, passed, passed_part, passed_groups, passed_entries, part_scopes, parts_scopes, module_scopes, level}
+use Rattle.pfc_types.specs.rules.Bodies.{env_at, around_process, around_sub, around_guard, passed, passed_part, passed_groups, passed_entries, part_scopes, parts_scopes, module_scopes, level}
 use Rattle.pfc_semantics.specs.Layouts.{Layout, sub_layout_at, process_layout}
-use Rattle.pfc_semantics.specs.Programs.{Block, Guard, block_of, guard_of, part_blocks, parts_blocks, sub_blocks, module_blocks, process_blocks, init_block, module_inits, part_inits, parts_inits}
-use Rattle.pfc_image_laws.specs.Modules.{modules_from}
+use Rattle.pfc_semantics.specs.Programs.{Block, Guard, block_of, guard_of, part_blocks, parts_blocks, sub_blocks, module_blocks, process_blocks}
 use Rattle.pfc_run_invariants.proofs.Lists.{all_append, all_push}
 
 -- ## What is in view

@@ -1,9 +1,9 @@
-//! Laws of monitors in the bodies of checked programs. The function does nothing: its contract is the law.
+//! Laws of monitors in checked programs. The functions do nothing: their contracts are the laws.
 //!
-//! It promises that what is asked of the text of a program, so that who performs the text of a monitor is inside it, is so of every checked program. It does not
-//! say that the program is scoped so.
+//! It promises that what is asked of a program, so that who performs the text of a monitor is inside it, is so of every checked program, where names of subs stand
+//! where these are declared. It knows no run.
 #![tactic(auto)]
 
 mod laws;
 
-pub use laws::checked_programs_have_text;
+pub use laws::{checked_programs_are_scoped, checked_programs_have_text};

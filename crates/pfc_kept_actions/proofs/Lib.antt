@@ -1,0 +1,2 @@
+pub mod Creatable
+pub mod Every

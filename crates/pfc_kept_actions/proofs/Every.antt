@@ -63,6 +63,7 @@ use Rattle.pfc_kept_selects.proofs.Deciding.{unmatched_are_kept}
 use Rattle.pfc_kept_selects.proofs.Divided.{divided}
 use Rattle.pfc_kept_selects.proofs.Messages.{messages_are_kept}
 use Rattle.pfc_kept_actions.proofs.Creatable.{are_creatable}
+use Rattle.pfc_kept_actions.proofs.Numbered.{has_singles}
 use Rattle.pfc_kept_actions.specs.Asked.{AskedOfCall, AskedOfMeeting, IsAsked}
 
 -- ## Ends
@@ -124,6 +125,9 @@ module _
     objects : level.setting.number ≡ number_at (objects_of level.setting.program)
     objects = numbered facts.tree same ∙ ap (λ (q : Program). number_at (objects_of q)) (sym same)
 
+    numbers : facts.number ≡ number_at (objects_of g)
+    numbers = sym (has_setting facts m c p level acting).number ∙ numbered facts.tree same
+
     of_call :
         (x : Context) (call : Call) (given : List Argument) → AskedOfCall facts m c p level given call → Arrives (calls x call given)
         → IsChoice choice (choices g c p (calls x call given)) → Kept (calls x call given)
@@ -140,7 +144,7 @@ module _
         (record { creatable = λ t of is. are_creatable t is; objects = objects }) acting arrived picks
     of_call x (to_entry v entry k) given told arrived picks =
         entry_call_kept facts m c p choice level x v entry k given (has_processes facts.tree acting.alike.program)
-        (has_typed_entries facts.tree acting.alike.program) told.0 told.1 told.2 acting arrived
+        (has_typed_entries facts.tree acting.alike.program) (has_singles facts m c p level numbers acting) told.0 told.1 acting arrived
 
     of_meeting :
         (x : Context) (o : Open) (k : Remainder) (offer : Offer) → o.offer ≡ offer → AskedOfMeeting facts c p x offer → Arrives (meets x o k)

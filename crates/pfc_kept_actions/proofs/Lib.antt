@@ -1,2 +1,3 @@
 pub mod Creatable
 pub mod Every
+pub mod Numbered

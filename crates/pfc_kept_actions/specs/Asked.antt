@@ -15,17 +15,15 @@ use Rattle.pfc_views.specs.Views.{block_site}
 use Rattle.pfc_representation.specs.Levels.{Facts, program_in, LivingLevel, IsProgram}
 use Rattle.pfc_representation.specs.Actions.{IsKept}
 use Rattle.pfc_kept_modules.specs.Requeued.{HasFewOperands, IsLasting}
-use Rattle.pfc_kept_meetings.specs.Owners.{HasSingles}
 use Rattle.pfc_kept_meetings.specs.Accepts.{KeepsAccepts}
 use Rattle.pfc_kept_meetings.specs.Waiting.{KeepsOffers, StandsWithin}
 use Rattle.pfc_kept_selects.specs.Groups.{LeadAhead, TakesEntry}
 
--- A requeue passes by reference what outlives the activation that it ends; single processes have their numbers, and of processes that wait to accept or to be
--- accepted it is told what they show.
+-- A requeue passes by reference what outlives the activation that it ends; of processes that wait to accept or to be accepted it is told what they show.
 abbrev pub AskedOfCall : Facts → Machine → Config → ℕ → LivingLevel → List Argument → Call → Type 0
 AskedOfCall facts m c p level given (to_requeue scope) =
     All (IsLasting (block_site level.setting.program level.setting.block)) given × HasFewOperands m p
-AskedOfCall facts m c p level given (to_entry v entry k) = HasSingles facts c × KeepsAccepts facts c × KeepsOffers facts c
+AskedOfCall facts m c p level given (to_entry v entry k) = KeepsAccepts facts c × KeepsOffers facts c
 AskedOfCall facts m c p level given call = Unit {0}
 
 -- An accept stands within as many others as there are callers that are met.

@@ -1,4 +1,8 @@
 pub mod Lists
+pub mod Numbers
+pub mod ExpressionPlaces
+pub mod AlternativePlaces
+pub mod StatementPlaces
 pub mod Each
 pub mod Communications
 pub mod Effects

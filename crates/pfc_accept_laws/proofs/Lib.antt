@@ -3,6 +3,7 @@ pub mod Numbers
 pub mod ExpressionPlaces
 pub mod AlternativePlaces
 pub mod StatementPlaces
+pub mod NextPlaces
 pub mod Each
 pub mod Communications
 pub mod Effects

@@ -1,12 +1,11 @@
 -- What comes next in the alternatives of a select is placed.
-use Rattle.std.proofs.Common.{ℕ, ◌+◌, pos, Bool, true, false, if◌then◌else◌, List, [], ◌∷◌, Option, Some, None}
+use Rattle.std.proofs.Common.{ℕ, ◌+◌, pos, Bool, List, [], ◌∷◌, Option, Some, None}
 use Rattle.std.specs.Prelude.{int_lt}
 use Rattle.pfc_base.specs.declared.faults.RunFault.TheVariants.{Below}
 use Rattle.pfc_tree.specs.declared.tree.Spread.{Spread}
 use Rattle.pfc_tree.specs.trees.Exprs.{ExprTree, DesigTree}
 use Rattle.pfc_tree.specs.trees.Stmts.{StmtTrees, AcceptTree, AltTrees, CommTree, accept, accept_do, AltTree, alt, no_alts, more_alts, comm_accept, comm_send, comm_receive, timeout, terminate}
-use Rattle.pfc_types.specs.rules.Expressions.{as_desig}
-use Rattle.pfc_types.specs.rules.Statements.{names_any, comm_scopes, alt_scopes}
+use Rattle.pfc_types.specs.rules.Statements.{comm_scopes, alt_scopes}
 use Rattle.pfc_values.specs.Numbers.{is_true}
 use Rattle.pfc_semantics.specs.Values.{Value, ordinal_of}
 use Rattle.pfc_semantics.specs.Displays.{Spot}

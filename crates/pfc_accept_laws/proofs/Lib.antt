@@ -4,6 +4,7 @@ pub mod ExpressionPlaces
 pub mod AlternativePlaces
 pub mod StatementPlaces
 pub mod NextPlaces
+pub mod Meetings
 pub mod Each
 pub mod Communications
 pub mod Effects

@@ -1,5 +1,5 @@
 -- The action that comes next is placed.
-use Rattle.std.proofs.Common.{ℕ, refl, ◌+◌, if◌then◌else◌, [], ◌∷◌, ◌++◌, Option, Some}
+use Rattle.std.proofs.Common.{◌+◌, if◌then◌else◌, [], ◌∷◌, ◌++◌, Some}
 use Rattle.pfc_tree.specs.trees.Stmts.{while_do, repeat_until}
 use Rattle.pfc_types.specs.rules.Expressions.{Env}
 use Rattle.pfc_types.specs.rules.Statements.{scopes_in}

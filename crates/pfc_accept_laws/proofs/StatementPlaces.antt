@@ -4,13 +4,13 @@ use Rattle.std.specs.Ordering.{int_eq}
 use Rattle.pfc_base.specs.declared.places.Place.{Place}
 use Rattle.pfc_base.specs.declared.faults.RunFault.{RunFault}
 use Rattle.pfc_tree.specs.Symbols.{Text}
-use Rattle.pfc_tree.specs.trees.Exprs.{ExprTree, DesigTree, SelectorTrees, ActualTree, ActualTrees, plain, sum, no_summands, product, no_multipliers, applied as used, desig, no_selectors, more_selectors, actual, actual_width, no_actuals, more_actuals}
+use Rattle.pfc_tree.specs.trees.Exprs.{ExprTree, DesigTree, SelectorTrees, ActualTree, ActualTrees, desig, no_selectors, actual, actual_width, no_actuals, more_actuals}
 use Rattle.pfc_tree.specs.trees.Stmts.{StmtTree, StmtTrees, ArmTrees, empty, null, block, if_then, if_then_else, case_of, while_do, repeat_until, repeat_forever, for_do, cobegin, accepting, requeue, select, select_else, assign, send, receive, call, no_stmts, more_stmts, body, arm, no_arms, more_arms}
 use Rattle.pfc_types.specs.Scopes.{meaning_of, meaning_in, scope_at}
 use Rattle.pfc_types.specs.Blocks.{sub_at, module_at, process_at, entry_at}
 use Rattle.pfc_types.specs.rules.Expressions.{Env, find, as_desig, expr_type, desig_type, selected}
 use Rattle.pfc_types.specs.rules.Calls.{last_field, before_last}
-use Rattle.pfc_types.specs.rules.Statements.{scopes_in, arm_scopes, alts_scopes, names_any}
+use Rattle.pfc_types.specs.rules.Statements.{scopes_in, arm_scopes, alts_scopes}
 use Rattle.pfc_types.specs.declared.scope.Meaning.{Meaning}
 use Rattle.pfc_types.specs.declared.scope.Meaning.TheVariants.{Variable, Sub, Module, Process, Entry, Predeclared}
 use Rattle.pfc_types.specs.declared.heads.Formal.{Formal}
@@ -25,7 +25,7 @@ use Rattle.pfc_semantics.specs.Remainders.{Context, Count, Otherwise, Remainder,
 use Rattle.pfc_semantics.specs.Expressions.{spot_of, from_expr, from_args}
 use Rattle.pfc_semantics.specs.Alternatives.{context, alternatives, select_begun, message_of, receiver_of}
 use Rattle.pfc_semantics.specs.Statements.{behind, from_assign, as_string, from_piece, from_width, shown_as, from_string, from_wide_string, from_item, from_writes, item_of, from_input, from_reads, expr_of, behind_first, from_initial, from_delay, from_procedure, from_activation, from_entry_call, from_entry, name_in_process, process_of_type, from_process, from_field, from_called_variable, from_called_process, from_exported, from_module, from_called, from_call, from_requeue, plain_open, from_sent, from_send, from_received, from_receive, is_past, counting, next_count, begin_pass, from_bounds, from_pass, again, from_until, are_labels, from_stmt, from_stmts, from_arms}
-use Rattle.pfc_types.specs.rules.Statements.{stmts_scopes, arms_scopes, accept_scopes}
+use Rattle.pfc_types.specs.rules.Statements.{stmts_scopes, arms_scopes}
 use Rattle.pfc_accept_laws.specs.Places.{IsPlaced, PlacesStmts, PlacesCount, PlacesRemainder, PlacesAction}
 use Rattle.pfc_accept_laws.proofs.Numbers.{front, back, before_others, placed_stmts}
 use Rattle.pfc_accept_laws.proofs.ExpressionPlaces.{either, expr_places, desig_places, args_place, selectors_place, argument_places, reference_places}

@@ -1,4 +1,10 @@
 pub mod Lists
+pub mod Numbers
+pub mod ExpressionPlaces
+pub mod AlternativePlaces
+pub mod StatementPlaces
+pub mod NextPlaces
+pub mod Meetings
 pub mod Each
 pub mod Communications
 pub mod Effects

@@ -1,5 +1,6 @@
--- A list with another element in one place.
-use Rattle.std.proofs.Common.{◌≡◌, ◌≢◌, ℕ, zero, suc, List, [], ◌∷◌, get_or, set, refl, ap, arith}
+-- A list with another element in one place, and what holds of each element of a list.
+use Rattle.std.proofs.Common.{◌≡◌, ◌≢◌, ℕ, zero, suc, List, [], ◌∷◌, ◌++◌, map, get_or, set, refl, ap, arith}
+use Rattle.std.specs.List.{AllByRecursion}
 
 never : (n : ℕ) → suc n ≡ zero → ⊥
 never n is = grind (arith, is)
@@ -19,3 +20,15 @@ set_changes P d (y ∷ xs) zero (suc q) x one other nowhere = other (never q)
 set_changes P d (y ∷ xs) (suc p) zero x one other nowhere = other (never_back p)
 set_changes P d (y ∷ xs) (suc p) (suc q) x one other nowhere =
     set_changes P d xs p q x (λ is. one (ap suc is)) (λ off. other (λ is. off (less_one q p is))) nowhere
+
+module _ {X : Type 0} (P : X → Type 0) where
+  pub all_append : (xs ys : List X) → AllByRecursion P xs → AllByRecursion P ys → AllByRecursion P (xs ++ ys)
+  all_append [] ys first second = second
+  all_append (x ∷ xs) ys first second = (first.0, all_append xs ys first.1 second)
+
+  pub all_push : (xs : List X) (x : X) → AllByRecursion P xs → P x → AllByRecursion P (xs ++ x ∷ [])
+  all_push xs x all one = all_append xs (x ∷ []) all (one, tt)
+
+  pub all_map : {Y : Type 0} (f : Y → X) → ((y : Y) → P (f y)) → (ys : List Y) → AllByRecursion P (map f ys)
+  all_map f each [] = tt
+  all_map f each (y ∷ ys) = (each y, all_map f each ys)

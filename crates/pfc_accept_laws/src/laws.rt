@@ -1,13 +1,18 @@
 //! The laws. The functions do nothing: their contracts are the laws.
 ghost use Rattle.std.specs.Prelude.{◌≡◌, ◌≢◌, ◌⊎◌, ◌<◌, ℕ, List, [], ◌∷◌};
 ghost use Rattle.pfc_semantics.specs.Values.{Value};
-ghost use Rattle.pfc_semantics.specs.Programs.{Program};
+ghost use Rattle.pfc_semantics.specs.Programs.{Block, Program};
 ghost use Rattle.pfc_semantics.specs.Processes.{process_block};
-ghost use Rattle.pfc_semantics.specs.Remainders.{Argument, Context, Open, Remainder};
-ghost use Rattle.pfc_semantics.specs.Configurations.{Activation, Config, activity_of, all_passed, start};
+ghost use Rattle.pfc_semantics.specs.Remainders.{Accepting, Argument, Context, Open, Remainder, to_accept};
+ghost use Rattle.pfc_semantics.specs.Configurations.{Activation, Config, activity_of, all_passed, body_of, start};
+ghost use Rattle.pfc_types.specs.rules.Statements.{stmts_scopes};
+ghost use Rattle.pfc_semantics.specs.Channels.{behind_open};
+ghost use Rattle.pfc_semantics.specs.Rendezvous.{meeting_of};
+ghost use Rattle.pfc_semantics.specs.Rewriting.{Doing, next};
 ghost use Rattle.pfc_semantics.specs.Events.{step};
 ghost use Rattle.pfc_semantics.specs.Time.{settled_config};
 ghost use Rattle.pfc_accept_laws.specs.Displays.{first_display, AllGoBack, RequeuesInside};
+ghost use Rattle.pfc_accept_laws.specs.Places.{IsBefore, IsLow, IsOfBlock, PlacesOpen, PlacesRemainder, PlacesAction, PlacesDoing};
 ghost use Rattle.pfc_accept_laws.specs.Shown.{ShowsOpen, IsToOffer, ShowsArguments, IsToAsk, ArePassed, AllPass, Passes, TakesVariables};
 
 /// From the start on, while it settles, and behind each step of a process that has living activations, displays go back to those with which processes began. A
@@ -52,4 +57,18 @@ pub fn callers_pass_locations()
     ensures start { (g : Program) (input : List ℕ) (seed : ℕ) → AllPass g (start g input seed) }
     ensures settles { (g : Program) (c : Config) → AllPass g c → AllPass g (settled_config c) }
     ensures steps { (g : Program) (c : Config) (p choice : ℕ) → AllPass g c → Passes g c p → AllPass g (step g c p choice).config }
+{}
+
+/// What a process has still to do is placed where its statements stand before the scopes that they declare, and all that is left behind them has no such scope in
+/// view. So a process begins, so is its next action, and so is what it goes on with behind what it has offered; and an accept that comes is one of the block, and
+/// its parameters are in view neither there nor in what is left behind it.
+pub fn accepts_stand_once()
+    ensures begins { (b : Block) → IsBefore b.next b.env → stmts_scopes b.stmts ≡ b.accepts → PlacesRemainder b b.env (body_of b) }
+    ensures next { (b : Block) (doing : Doing) → PlacesDoing b doing → PlacesAction b (next doing) }
+    ensures behind { (b : Block) (x : Context) (o : Open) (k : Remainder) → PlacesOpen b x.env k o → PlacesRemainder b x.env k
+        → PlacesRemainder b x.env (behind_open o k) }
+    ensures meeting { (b : Block) (x : Context) (a : Accepting) (o : Open) (caller : ℕ) (k : Remainder) → o.offer ≡ to_accept a → PlacesOpen b x.env k o
+        → PlacesRemainder b x.env k → PlacesRemainder b x.env (meeting_of x a o caller k) }
+    ensures stands { (b : Block) (x : Context) (o : Open) (a : Accepting) (k : Remainder) → o.offer ≡ to_accept a → PlacesOpen b x.env k o
+        → IsOfBlock b a.scope × IsBefore a.scope x.env × IsLow a.scope k }
 {}

@@ -1,5 +1,5 @@
 -- A meeting with a caller that waits may begin: there is room for it, the caller has the arguments, and there are the cells of the parameters.
-use Rattle.std.proofs.Common.{◌≡◌, ℕ, ◌+◌, ◌^◌, ◌<◌, ◌≤◌, ℤ, true, List, [], length, slice_get, Some, sym, ap, ◌∙◌, subst, arith}
+use Rattle.std.proofs.Common.{◌≡◌, ℕ, ◌+◌, ◌^◌, ◌<◌, ◌≤◌, true, [], length, slice_get, Some, sym, ap, ◌∙◌, subst, arith}
 use Rattle.pfc_state.specs.Stands.{Is_idle}
 use Rattle.pfc_world.specs.Partners.{caller}
 use Rattle.pfc_world.specs.Tables.{at}
@@ -17,7 +17,7 @@ use Rattle.pfc_meeting_actions.specs.Meetings.{parameter_cell, CanMeet}
 use Rattle.pfc_standing_code.specs.Settings.{of_own, site_of}
 use Rattle.pfc_standing_code.specs.TypedStatements.{AcceptsEntry}
 use Rattle.pfc_standing_code.specs.Words.{IsChecked}
-use Rattle.pfc_representation.specs.Levels.{Facts, program_in, LivingLevel, is_met_by}
+use Rattle.pfc_representation.specs.Levels.{Facts, LivingLevel, is_met_by}
 use Rattle.pfc_representation.specs.Rooms.{process_count}
 use Rattle.pfc_representation.specs.Acting.{IsActing}
 use Rattle.pfc_kept_object_actions.proofs.Change.{within_rows}

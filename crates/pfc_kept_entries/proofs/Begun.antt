@@ -1,5 +1,5 @@
 -- A process that offers nothing begins a meeting with a caller that waits, and goes on at the accept's statement: both sides come to the same.
-use Rattle.std.proofs.Common.{◌≡◌, ℕ, ◌+◌, ◌<◌, ◌≤◌, ℤ, true, List, [], length, drop, reverse, set, Option, Some, Ok, sym, ap, ap₂, ◌∙◌, subst}
+use Rattle.std.proofs.Common.{◌≡◌, ℕ, ◌≤◌, ℤ, true, List, [], length, reverse, set, Option, Some, Ok, sym, ap, ap₂, ◌∙◌, subst}
 use Rattle.std.proofs.lemmas.List.{reverse-reverse}
 use Rattle.pfc_world.specs.Partners.{caller}
 use Rattle.pfc_world.specs.Rendezvous as table
@@ -14,7 +14,7 @@ use Rattle.pfc_semantics.specs.Store.{Store, values_in, with_values}
 use Rattle.pfc_semantics.specs.Configurations.{Config, Hand, activity_of, with_table}
 use Rattle.pfc_translation.specs.Sites.{is_accept}
 use Rattle.pfc_translation.specs.Selects.{accept_cell, accept_cells}
-use Rattle.pfc_stacks.specs.Stacks.{Stack, Stacks, stack_of, operands_of, written}
+use Rattle.pfc_stacks.specs.Stacks.{Stacks, stack_of, operands_of, written}
 use Rattle.pfc_machines.specs.declared.machine.Machine.{Machine}
 use Rattle.pfc_machines.specs.declared.descriptors.Descriptor.{Descriptor}
 use Rattle.pfc_machines.specs.Descriptors.{descriptor_of, meeting}

@@ -1,5 +1,5 @@
 -- A decision that takes an alternative which accepts an entry keeps the representation.
-use Rattle.std.proofs.Common.{◌≡◌, ℕ, zero, suc, ◌<◌, ◌≤◌, Bool, true, false, if◌then◌else◌, ℤ, List, [], length, set, slice_get, Option, Some, Ok, refl}
+use Rattle.std.proofs.Common.{◌≡◌, ℕ, ◌<◌, ◌≤◌, Bool, true, false, if◌then◌else◌, ℤ, List, [], length, set, slice_get, Option, Some, Ok, refl}
 use Rattle.std.proofs.Common.{sym, ap, ◌∙◌, subst, arith}
 use Rattle.pfc_code.specs.declared.instructions.Instr.{Instr}
 use Rattle.pfc_code.specs.declared.instructions.Instr.TheVariants.{ARMA}
@@ -18,8 +18,7 @@ use Rattle.pfc_semantics.specs.Selects as text
 use Rattle.pfc_semantics.specs.Selects.{decides_at}
 use Rattle.pfc_translation.specs.Sites.{is_accept}
 use Rattle.pfc_translation.specs.Selects.{accept_cell, accept_cells}
-use Rattle.pfc_stacks.specs.Refs.{word_of}
-use Rattle.pfc_stacks.specs.Stacks.{Stacks, stack_of, operands_of, last_activation}
+use Rattle.pfc_stacks.specs.Stacks.{Stacks, stack_of, operands_of}
 use Rattle.pfc_machines.specs.declared.machine.Machine.{Machine}
 use Rattle.pfc_machines.specs.declared.descriptors.Descriptor.{Descriptor}
 use Rattle.pfc_machines.specs.declared.alternatives.Alternative.{Alternative}
@@ -27,7 +26,6 @@ use Rattle.pfc_machines.specs.declared.alternatives.KeptAlternative.{KeptAlterna
 use Rattle.pfc_machines.specs.declared.alternatives.Offer.{Offer as MachineOffer}
 use Rattle.pfc_machines.specs.declared.alternatives.Offer.TheVariants.{Accept as AcceptOffer}
 use Rattle.pfc_machines.specs.Actions.{Effect as MachineEffect}
-use Rattle.pfc_machines.specs.Communications.{Communicating}
 use Rattle.pfc_machines.specs.Descriptors.{descriptor_of, meeting}
 use Rattle.pfc_machines.specs.Offers.{communications, without}
 use Rattle.pfc_meeting_actions.specs.Meetings.{begins_meeting, arguments_taken}
@@ -52,7 +50,7 @@ use Rattle.pfc_kept_meetings.specs.Accepts.{HasProcesses, KeepsAccepts}
 use Rattle.pfc_kept_meetings.specs.Waiting.{StandsWithin}
 use Rattle.pfc_kept_meetings.proofs.Apart.{AreApart}
 use Rattle.pfc_kept_meetings.proofs.Standing as standing
-use Rattle.pfc_kept_selects.specs.Groups.{IsEntryOffer, IsEntry, TakesEntry}
+use Rattle.pfc_kept_selects.specs.Groups.{IsEntry, TakesEntry}
 use Rattle.pfc_kept_selects.proofs.Both as both
 use Rattle.pfc_kept_selects.proofs.Chosen as the
 use Rattle.pfc_kept_selects.proofs.Chosen.{IsChosen, chosen, which}

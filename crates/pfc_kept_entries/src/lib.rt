@@ -6,4 +6,4 @@
 
 mod laws;
 
-pub use laws::{entries_of_selects_are_kept};
+pub use laws::entries_of_selects_are_kept;

@@ -54,6 +54,7 @@ use Rattle.pfc_kept_scans.proofs.Passing.{passes_kept}
 use Rattle.pfc_kept_scans.proofs.Scanning as scanning
 use Rattle.pfc_kept_lives.proofs.Creating.{creations_kept}
 use Rattle.pfc_kept_lives.proofs.Ending as lives
+use Rattle.pfc_kept_meetings.specs.Accepts.{KeepsAccepts}
 use Rattle.pfc_kept_meetings.proofs.Calling.{entry_call_kept}
 use Rattle.pfc_kept_meetings.proofs.Joining.{accept_is_kept}
 use Rattle.pfc_kept_meetings.proofs.Parts as meetings
@@ -62,6 +63,8 @@ use Rattle.pfc_kept_selects.specs.Groups.{LeadAhead, TakesMessage, TakesEntry}
 use Rattle.pfc_kept_selects.proofs.Deciding.{unmatched_are_kept}
 use Rattle.pfc_kept_selects.proofs.Divided.{divided}
 use Rattle.pfc_kept_selects.proofs.Messages.{messages_are_kept}
+use Rattle.pfc_kept_entries.specs.Selects.{StandWithin}
+use Rattle.pfc_kept_entries.proofs.Entered.{entries_are_kept}
 use Rattle.pfc_kept_actions.proofs.Creatable.{are_creatable}
 use Rattle.pfc_kept_actions.proofs.Numbered.{has_singles}
 use Rattle.pfc_kept_actions.specs.Asked.{AskedOfCall, AskedOfMeeting, IsAsked}
@@ -164,12 +167,16 @@ module _
         absurd (subst (λ (y : Offer). MeetsBy level.setting b x (stack_of m.stacks p).at (operands_of m.stacks p) o y k) is by.1.1)
 
     of_decision :
-        (x : Context) (sel : Selecting) (k : Remainder) → LeadAhead (stack_of m.stacks p).at level.arms → (TakesEntry g c p sel choice → Kept (decides x sel k))
+        (x : Context) (sel : Selecting) (k : Remainder) → LeadAhead (stack_of m.stacks p).at level.arms
+        → (TakesEntry g c p sel choice → KeepsAccepts facts c × StandWithin facts c p x sel.offered)
         → Arrives (decides x sel k) → (matched_places g c p sel ≡ []) ⊎ (TakesMessage g c p sel choice ⊎ TakesEntry g c p sel choice)
         → Kept (decides x sel k)
-    of_decision x sel k ahead entry arrived (inl none) = unmatched_are_kept facts m c p choice level x sel k ahead none acting arrived
-    of_decision x sel k ahead entry arrived (inr (inl message)) = messages_are_kept facts m c p choice level x sel k message acting arrived
-    of_decision x sel k ahead entry arrived (inr (inr takes)) = entry takes
+    of_decision x sel k ahead told arrived (inl none) = unmatched_are_kept facts m c p choice level x sel k ahead none acting arrived
+    of_decision x sel k ahead told arrived (inr (inl message)) = messages_are_kept facts m c p choice level x sel k message acting arrived
+    of_decision x sel k ahead told arrived (inr (inr takes)) =
+        let (accepts, within) = told takes in
+        entries_are_kept facts m c p choice level x sel k takes (has_processes facts.tree acting.alike.program)
+        (has_typed_entries facts.tree acting.alike.program) accepts within acting arrived
 
     of_end :
         (line : ℕ) → IsAsked facts m c p choice level (finishes line) → Arrives (finishes line) → IsChoice choice (choices g c p (finishes line))

@@ -26,58 +26,58 @@ module _
     (facts : Facts) (m : Machine) (c : Config) (p : ℕ) (level : LivingLevel) (numbered : facts.number ≡ number_at (objects_of (program_in facts)))
     (acting : IsActing facts m c p level)
   where
-  abbrev g : Program
-  g = program_in facts
+    abbrev g : Program
+    g = program_in facts
 
-  module _ (k n : ℕ) (there : slice_get (block_at g 0).layout k ≡ Some (Process n)) where
-    its_own : Location
-    its_own = record { activation = 0; variable = k; selectors = [] }
+    module _ (k n : ℕ) (there : slice_get (block_at g 0).layout k ≡ Some (Process n)) where
+      its_own : Location
+      its_own = record { activation = 0; variable = k; selectors = [] }
 
-    of_main : block_at g 0 ≡ g.main
-    of_main = main_found facts.tree acting.alike.program.lawful
+      of_main : block_at g 0 ≡ g.main
+      of_main = main_found facts.tree acting.alike.program.lawful
 
-    in_main : slice_get g.main.layout k ≡ Some (Process n)
-    in_main = subst (λ (z : Block). slice_get z.layout k ≡ Some (Process n)) of_main there
+      in_main : slice_get g.main.layout k ≡ Some (Process n)
+      in_main = subst (λ (z : Block). slice_get z.layout k ≡ Some (Process n)) of_main there
 
-    cell : Ref
-    cell = record {
-      process = (first_home 0 0).process;
-      cell = (first_home 0 0).cell + own_cells + cells_before g.state.forms (layout_at g (first_home 0 0)) k + 0;
+      cell : Ref
+      cell = record {
+        process = (first_home 0 0).process;
+        cell = (first_home 0 0).cell + own_cells + cells_before g.state.forms (layout_at g (first_home 0 0)) k + 0;
+      }
+
+      lies : Lies g acting.homes its_own None cell
+      lies = record {
+        home = first_home 0 0;
+        behind = 0;
+        is = record { at = acting.alike.holds.main; meaning = Process n; laid = there; variable = refl; own = refl; path = here None };
+        place = refl;
+      }
+
+      abbrev single : (i : ℕ)
+          × (number_at (objects_of g) (pos (own_cells + cells_before g.state.forms g.main.layout k)) ≡ Some (pos i)) × (1 ≤ i)
+          × (i < length (image_of facts.tree).processes) × (declaration_of g i ≡ n)
+      single = singles_numbered facts.tree acting.alike.program.lawful k n in_main
+
+      word : word_of cell ≡ pos (own_cells + cells_before g.state.forms g.main.layout k)
+      word =
+          ap (λ (z : Block). pos (0 * 2 ^ 32 + (0 + own_cells + cells_before g.state.forms z.layout k + 0))) of_main
+          ∙ ap pos (plain (cells_before g.state.forms g.main.layout k))
+        where
+          plain : (j : ℕ) → 0 * 2 ^ 32 + (0 + own_cells + j + 0) ≡ own_cells + j
+          plain j = omega arith
+
+      number : facts.number (word_of cell) ≡ Some (pos single.0)
+      number = ap (λ (f : ℤ → Option ℤ). f (word_of cell)) numbered ∙ ap (number_at (objects_of g)) word ∙ single.1
+
+      value : variable c.store its_own ≡ ordinal (pos single.0)
+      value =
+          let (i, known, is) = acting.alike.holds.objects.known its_own None cell lies refl in
+          let same : i ≡ pos single.0 = (let both : Some i ≡ Some (pos single.0) = sym known ∙ number in cc) in
+          is ∙ ap (λ (j : ℤ). ordinal j) same
+
+    pub has_singles : HasSingles facts c
+    has_singles = record {
+      numbers = λ k n there.
+          let one = single k n there in
+          (one.0, value k n there, subst (λ l. one.0 < l) (sym acting.alike.words.processes) one.3, one.4);
     }
-
-    lies : Lies g acting.homes its_own None cell
-    lies = record {
-      home = first_home 0 0;
-      behind = 0;
-      is = record { at = acting.alike.holds.main; meaning = Process n; laid = there; variable = refl; own = refl; path = here None };
-      place = refl;
-    }
-
-    abbrev single : (i : ℕ)
-        × (number_at (objects_of g) (pos (own_cells + cells_before g.state.forms g.main.layout k)) ≡ Some (pos i)) × (1 ≤ i)
-        × (i < length (image_of facts.tree).processes) × (declaration_of g i ≡ n)
-    single = singles_numbered facts.tree acting.alike.program.lawful k n in_main
-
-    word : word_of cell ≡ pos (own_cells + cells_before g.state.forms g.main.layout k)
-    word =
-        ap (λ (z : Block). pos (0 * 2 ^ 32 + (0 + own_cells + cells_before g.state.forms z.layout k + 0))) of_main
-        ∙ ap pos (plain (cells_before g.state.forms g.main.layout k))
-      where
-        plain : (j : ℕ) → 0 * 2 ^ 32 + (0 + own_cells + j + 0) ≡ own_cells + j
-        plain j = omega arith
-
-    number : facts.number (word_of cell) ≡ Some (pos single.0)
-    number = ap (λ (f : ℤ → Option ℤ). f (word_of cell)) numbered ∙ ap (number_at (objects_of g)) word ∙ single.1
-
-    value : variable c.store its_own ≡ ordinal (pos single.0)
-    value =
-        let (i, known, is) = acting.alike.holds.objects.known its_own None cell lies refl in
-        let same : i ≡ pos single.0 = (let both : Some i ≡ Some (pos single.0) = sym known ∙ number in cc) in
-        is ∙ ap (λ (j : ℤ). ordinal j) same
-
-  pub has_singles : HasSingles facts c
-  has_singles = record {
-    numbers = λ k n there.
-        let one = single k n there in
-        (one.0, value k n there, subst (λ l. one.0 < l) (sym acting.alike.words.processes) one.3, one.4);
-  }

@@ -13,11 +13,11 @@ use Rattle.pfc_machines.specs.declared.machine.Machine.{Machine}
 use Rattle.pfc_standing_code.specs.Settings.{of_own}
 use Rattle.pfc_views.specs.Views.{block_site}
 use Rattle.pfc_representation.specs.Levels.{Facts, program_in, LivingLevel, IsProgram}
-use Rattle.pfc_representation.specs.Actions.{IsKept}
 use Rattle.pfc_kept_modules.specs.Requeued.{HasFewOperands, IsLasting}
 use Rattle.pfc_kept_meetings.specs.Accepts.{KeepsAccepts}
 use Rattle.pfc_kept_meetings.specs.Waiting.{KeepsOffers, StandsWithin}
 use Rattle.pfc_kept_selects.specs.Groups.{LeadAhead, TakesEntry}
+use Rattle.pfc_kept_entries.specs.Selects.{StandWithin}
 
 -- A requeue passes by reference what outlives the activation that it ends; of processes that wait to accept or to be accepted it is told what they show.
 abbrev pub AskedOfCall : Facts → Machine → Config → ℕ → LivingLevel → List Argument → Call → Type 0
@@ -31,8 +31,8 @@ abbrev pub AskedOfMeeting : Facts → Config → ℕ → Context → Offer → T
 AskedOfMeeting facts c p x (to_accept a) = KeepsAccepts facts c × StandsWithin facts c p x a
 AskedOfMeeting facts c p x offer = Unit {0}
 
--- The guard of another reads variables of its resource alone, and has no select. Branches of a select stand behind its decision, and an alternative that accepts
--- is kept.
+-- The guard of another reads variables of its resource alone, and has no select. Branches of a select stand behind its decision, and of an alternative that
+-- accepts the same is told as of a plain accept.
 abbrev pub IsAsked : Facts → Machine → Config → ℕ → ℕ → LivingLevel → Action → Type 0
 IsAsked facts m c p choice level (reads x v u) = (level.setting.trial ≡ of_own) ⊎ (is_mains level.setting.program.state.blocks v.scope ≡ true)
 IsAsked facts m c p choice level (faults x f) = (level.setting.trial ≡ of_own) ⊎ (f ≡ Below → ⊥)
@@ -42,5 +42,5 @@ IsAsked facts m c p choice level (finishes line) =
 IsAsked facts m c p choice level (meets x o k) = AskedOfMeeting facts c p x o.offer
 IsAsked facts m c p choice level (decides x sel k) =
     LeadAhead (stack_of m.stacks p).at level.arms
-    × (TakesEntry (program_in facts) c p sel choice → IsKept facts m c p choice (decides x sel k))
+    × (TakesEntry (program_in facts) c p sel choice → KeepsAccepts facts c × StandWithin facts c p x sel.offered)
 IsAsked facts m c p choice level n = Unit {0}

@@ -22,7 +22,7 @@ use Rattle.pfc_machine_acts.specs.Quietly.{quietly}
 use Rattle.pfc_representation.specs.Levels.{Facts, program_in, LivingLevel, HasSetting}
 use Rattle.pfc_representation.specs.Machines.{Represents}
 use Rattle.pfc_representation.specs.Actions.{IsChoice, ComeToSame, IsKept}
-use Rattle.pfc_arrivals.specs.Arrivals.{IsAboutToAct, ComesToAction, ActsAsItsSource, AreNumbered, IsNumbered, AreAllKept}
+use Rattle.pfc_arrivals.specs.Arrivals.{IsAboutToAct, ComesToAction, ActsAsItsSource, AreNumbered, IsNumbered, IsNextKept}
 use Rattle.pfc_arrivals.proofs.Arriving.{comes_to_action}
 use Rattle.pfc_arrivals.proofs.Standing.{has_setting}
 
@@ -41,7 +41,7 @@ numbered_at facts level numbered has = λ t same.
     has.number ∙ numbered
     ∙ ap (λ (g : Program). number_at (objects_of g)) (sym has.image.program ∙ same)
 
-module _ (facts : Facts) (m : Machine) (c : Config) (p : ℕ) (picking : Picking) (kept : AreAllKept)
+module _ (facts : Facts) (m : Machine) (c : Config) (p : ℕ) (picking : Picking) (kept : IsNextKept facts c p)
     (numbered : AreNumbered facts) (is : Represents facts m c) (about : IsAboutToAct facts m c p) where
   abbrev n : Action
   n = next_of (program_in facts) c p
@@ -75,7 +75,7 @@ module _ (facts : Facts) (m : Machine) (c : Config) (p : ℕ) (picking : Picking
     alike : ActsAsItsSource facts m c p picking
     alike =
         by_kept
-        (kept facts come.before c p choice come.level n
+        (kept come.before choice come.level
         (numbered_at facts come.level numbered (has_setting facts come.before c p come.level come.acting)) about.rules come.acting come.arrived
         (choice_is picking (choices (program_in facts) c p n)))
 

@@ -7,7 +7,6 @@ use Rattle.pfc_world.specs.Tables.{at}
 use Rattle.pfc_world.specs.Transitions.{begun}
 use Rattle.pfc_sched.specs.Picks.{Picking}
 use Rattle.pfc_semantics.specs.Configurations.{Config}
-use Rattle.pfc_semantics.specs.Remainders.{Action}
 use Rattle.pfc_semantics.specs.Programs.{program_of}
 use Rattle.pfc_semantics.specs.Events.{step}
 use Rattle.pfc_semantics.specs.Selects.{choices}
@@ -78,10 +77,11 @@ AreNumbered facts = facts.number ≡ number_at (image_of facts.tree).objects
 abbrev pub IsNumbered : LivingLevel → Type 0
 IsNumbered level = (t : ProgramTree) → level.setting.program ≡ program_of t → level.setting.number ≡ number_at (image_of t).objects
 
--- ## All actions
+-- ## The next action
 
--- Every action is kept, wherever a run keeps to the rules, of a program whose objects are numbered so.
-abbrev pub AreAllKept : Type 0
-AreAllKept =
-    (facts : Facts) (m : Machine) (c : Config) (p choice : ℕ) (level : LivingLevel) (n : Action) → IsNumbered level → KeepsToRules (program_in facts) c p
-    → IsActing facts m c p level → HasArrived facts m c p level n → IsChoice choice (choices (program_in facts) c p n) → IsKept facts m c p choice n
+-- What a process does next is kept, on every machine whose code has arrived there, where the objects are numbered so and the run keeps to the rules.
+abbrev pub IsNextKept : Facts → Config → ℕ → Type 0
+IsNextKept facts c p =
+    let n = next_of (program_in facts) c p in
+    (m : Machine) (choice : ℕ) (level : LivingLevel) → IsNumbered level → KeepsToRules (program_in facts) c p → IsActing facts m c p level
+    → HasArrived facts m c p level n → IsChoice choice (choices (program_in facts) c p n) → IsKept facts m c p choice n

@@ -10,7 +10,7 @@ ghost use Rattle.pfc_machine_acts.specs.Acting.{IsActed, choice_among};
 ghost use Rattle.pfc_machine_acts.specs.Performing.{choices_for};
 ghost use Rattle.pfc_representation.specs.Levels.{Facts};
 ghost use Rattle.pfc_representation.specs.Machines.{Represents};
-ghost use Rattle.pfc_arrivals.specs.Arrivals.{IsAboutToAct, ComesToAction, ActsAsItsSource, HasAgreed, AreNumbered, AreAllKept};
+ghost use Rattle.pfc_arrivals.specs.Arrivals.{IsAboutToAct, ComesToAction, ActsAsItsSource, HasAgreed, AreNumbered, IsNextKept};
 
 /// Where the machine represents a configuration, the code of a process that is ready goes by quiet instructions to the action that comes next in its source
 /// text.
@@ -18,11 +18,11 @@ pub fn code_comes_to_actions()
     ensures { (facts : Facts) (m : Machine) (c : Config) (p : ℕ) → Represents facts m c → IsAboutToAct facts m c p → ComesToAction facts m c p }
 {}
 
-/// Where all actions are kept in a program whose objects have the numbers of its image, such a process may act, and does on the machine what it does in the
-/// source text.
+/// Where its next action is kept, in a program whose objects have the numbers of its image, such a process may act, and does on the machine what it does in
+/// the source text.
 pub fn who_is_picked_may_act()
     ensures { (facts : Facts) (m : Machine) (c : Config) (p : ℕ) (picking : Picking)
-        → AreAllKept → AreNumbered facts → Represents facts m c → IsAboutToAct facts m c p
+        → IsNextKept facts c p → AreNumbered facts → Represents facts m c → IsAboutToAct facts m c p
         → ActsAsItsSource facts m c p picking }
 {}
 

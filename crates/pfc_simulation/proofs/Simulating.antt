@@ -28,7 +28,7 @@ use Rattle.pfc_representation.specs.Machines.{Represents, Reports, Agrees, goes_
 use Rattle.pfc_representation.specs.Actions.{ComeToSame}
 use Rattle.pfc_settling_laws.proofs.Reported.{agreeing_reports, still_represented}
 use Rattle.pfc_settling_laws.proofs.Settled.{agrees_settled}
-use Rattle.pfc_arrivals.specs.Arrivals.{IsAboutToAct, ActsAsItsSource, AreNumbered, AreAllKept}
+use Rattle.pfc_arrivals.specs.Arrivals.{IsAboutToAct, ActsAsItsSource, AreNumbered}
 use Rattle.pfc_arrivals.proofs.Picked.{acts_alike}
 use Rattle.pfc_sessions.specs.Courses.{IsCourse}
 use Rattle.pfc_sessions.specs.Runs.{IsPicked, step_of, run_from}
@@ -39,7 +39,7 @@ use Rattle.pfc_run_agreement.specs.Courses.{IsSourceCourse}
 use Rattle.pfc_run_agreement.proofs.Agreeing.{same_ending, settled_output, settled_fault, same_runs}
 use Rattle.pfc_run_agreement.proofs.Coursing.{same_course}
 use Rattle.pfc_run_agreement.proofs.Keeping.{kept_agrees}
-use Rattle.pfc_simulation.specs.Reached.{IsReached, at_first, one_further, RunKeepsToRules}
+use Rattle.pfc_simulation.specs.Reached.{IsReached, at_first, one_further, RunKeepsToRules, IsRunKept}
 use Rattle.pfc_simulation.proofs.Communications.{Keeps}
 use Rattle.pfc_simulation.proofs.Effects.{effect_keeps}
 use Rattle.pfc_simulation.proofs.Resting.{Rests, effect_rests}
@@ -122,7 +122,7 @@ few_of n h = grind (arith, h)
 -- ## An action
 
 module _
-    (facts : Facts) (first : Config) (kept : AreAllKept) (numbered : AreNumbered facts) (numbers : RunKeepsToRules (program_in facts) first) (picking : Picking) (m : Machine)
+    (facts : Facts) (first : Config) (kept : IsRunKept facts first) (numbered : AreNumbered facts) (numbers : RunKeepsToRules (program_in facts) first) (picking : Picking) (m : Machine)
     (c : Config) (p : ℕ) (so : Relates facts first m c) (pick : IsPicked picking (machine_settled m) p)
   where
     abbrev pub image : PlainImage
@@ -175,7 +175,7 @@ module _
         }
 
     acts : ActsAsItsSource facts s d p behind
-    acts = acts_alike facts s d p behind kept numbered represents about
+    acts = acts_alike facts s d p behind (kept c p so.reached about.ready) numbered represents about
 
     -- as the machine acts
     module _ (does : ActsAsItsSource facts s d p behind) where
@@ -248,7 +248,8 @@ module _
 -- ## Any number of actions
 
 pub goes_on_agreeing :
-    (facts : Facts) (left : ℕ) (picking : Picking) (m : Machine) (c : Config) → AreAllKept → AreNumbered facts → RunKeepsToRules (program_in facts) c
+    (facts : Facts) (left : ℕ) (picking : Picking) (m : Machine) (c : Config) → IsRunKept facts c → AreNumbered facts
+    → RunKeepsToRules (program_in facts) c
     → Represents facts m c → Agree (image_of facts.tree) (program_in facts) left picking m c
 goes_on_agreeing facts left picking m c kept numbered numbers is =
     kept_agrees (image_of facts.tree) (program_in facts) (Relates facts c) (agrees_here facts c)
@@ -258,7 +259,8 @@ goes_on_agreeing facts left picking m c kept numbered numbers is =
 -- ## Whole runs
 
 module _
-    (facts : Facts) (input : List ℕ) (seed limit : ℕ) (picking : Picking) (m : Machine) (kept : AreAllKept) (numbered : AreNumbered facts)
+    (facts : Facts) (input : List ℕ) (seed limit : ℕ) (picking : Picking) (m : Machine)
+    (kept : IsRunKept facts (start (program_in facts) input seed)) (numbered : AreNumbered facts)
     (numbers : RunKeepsToRules (program_in facts) (start (program_in facts) input seed)) (is : Represents facts m (start (program_in facts) input seed))
   where
     abbrev first : Config
@@ -272,7 +274,7 @@ module _
 
 pub session_alike :
     (facts : Facts) (input : List ℕ) (seed limit : ℕ) (picking : Picking) (m new : Machine) (ending : Ending) (before after : Option (List ℕ))
-    → AreAllKept → AreNumbered facts → RunKeepsToRules (program_in facts) (start (program_in facts) input seed)
+    → IsRunKept facts (start (program_in facts) input seed) → AreNumbered facts → RunKeepsToRules (program_in facts) (start (program_in facts) input seed)
     → Represents facts m (start (program_in facts) input seed)
     → IsCourse (image_of facts.tree) limit (run_from (image_of facts.tree) limit limit picking m) (first_stage picking m) new ending before after
     → IsSourceCourse (runs.run facts.tree input seed picking limit) (start (program_in facts) input seed) new ending before after

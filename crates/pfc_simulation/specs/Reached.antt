@@ -11,6 +11,8 @@ use Rattle.pfc_semantics.specs.Steps.{next_of}
 use Rattle.pfc_semantics.specs.Time.{settled_config}
 use Rattle.pfc_representation.specs.Acting.{TakesNumber}
 use Rattle.pfc_run_rules.specs.Rules.{KeepsToRules}
+use Rattle.pfc_representation.specs.Levels.{Facts, program_in}
+use Rattle.pfc_arrivals.specs.Arrivals.{IsNextKept}
 use Rattle.pfc_run_agreement.specs.Agreement.{behind_action}
 
 -- A run from the first configuration comes to this one, whoever picks in each action.
@@ -25,3 +27,8 @@ abbrev pub RunKeepsToRules : Program → Config → Type 0
 RunKeepsToRules g first =
     (c : Config) (p : ℕ) → IsReached g first c → at (settled_config c).table.rows p ≡ Is_ready
     → TakesNumber (next_of g (settled_config c) p) × KeepsToRules g (settled_config c) p
+
+-- Wherever a run from there comes, what a process that is ready does next is kept.
+abbrev pub IsRunKept : Facts → Config → Type 0
+IsRunKept facts first =
+    (c : Config) (p : ℕ) → IsReached (program_in facts) first c → at (settled_config c).table.rows p ≡ Is_ready → IsNextKept facts (settled_config c) p

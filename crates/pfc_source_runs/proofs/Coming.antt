@@ -17,10 +17,10 @@ use Rattle.pfc_sessions.specs.Stages as stages
 use Rattle.pfc_sessions.specs.Stages.{Stage, first_stage, behind_action, next_stage, stage_after}
 use Rattle.pfc_sessions.specs.Steps.{Step}
 use Rattle.pfc_run_agreement.specs.Agreement.{ActsAlike}
-use Rattle.pfc_simulation.specs.Reached.{RunKeepsToRules, at_first}
+use Rattle.pfc_simulation.specs.Reached.{RunKeepsToRules, IsRunKept, at_first}
 use Rattle.pfc_simulation.proofs.Simulating.{Relates, acts_alike_so, goes, picks}
 use Rattle.pfc_source_runs.specs.Points.{Point, first_point, point_behind, by_process, next_point, point_after, Passes}
-use Rattle.pfc_arrivals.specs.Arrivals.{AreNumbered, AreAllKept}
+use Rattle.pfc_arrivals.specs.Arrivals.{AreNumbered}
 
 -- The machine's stage is at the point: it agrees with the configuration, the same picks, and what was printed is the same.
 pub record IsAt (facts : Facts) (c : Config) (s : Stage) (t : Point) : Type 0 where
@@ -28,7 +28,7 @@ pub record IsAt (facts : Facts) (c : Config) (s : Stage) (t : Point) : Type 0 wh
   pub picks : s.picking ≡ t.picking
   pub printed : t.config.output ≡ c.output ++ s.printed
 
-module _ (facts : Facts) (c : Config) (kept : AreAllKept) (numbered : AreNumbered facts) (numbers : RunKeepsToRules (program_in facts) c) where
+module _ (facts : Facts) (c : Config) (kept : IsRunKept facts c) (numbered : AreNumbered facts) (numbers : RunKeepsToRules (program_in facts) c) where
   abbrev image : PlainImage
   image = image_of facts.tree
 

@@ -22,7 +22,7 @@ use Rattle.pfc_sessions.specs.Stages as stages
 use Rattle.pfc_sessions.specs.Stages.{Stage, first_stage, stage_after}
 use Rattle.pfc_run_agreement.specs.Agreement.{AreRunsAlike}
 use Rattle.pfc_run_agreement.proofs.Agreeing.{same_runs}
-use Rattle.pfc_simulation.specs.Reached.{RunKeepsToRules}
+use Rattle.pfc_simulation.specs.Reached.{RunKeepsToRules, IsRunKept}
 use Rattle.pfc_simulation.proofs.Simulating.{goes_on_agreeing}
 use Rattle.pfc_source_runs.specs.Points.{Point, first_point, point_after}
 use Rattle.pfc_source_runs.specs.Standing.{IsUntried, StandsFor, behind_action, settled, before_action, IsBrokenOff, IsCut, on_the_way, at_the_end, uncounted, IsWanting, refused, worn_out, NamesOneOf, IsAtEnd, IsStanding, StandsIn, passing, ended}
@@ -31,10 +31,10 @@ use Rattle.pfc_source_runs.proofs.Ending.{Ends, agreeing, uncounted as not_count
 use Rattle.pfc_source_runs.proofs.Turns.{ends_so}
 use Rattle.pfc_source_runs.proofs.Untried.{is_untried}
 use Rattle.pfc_source_runs.proofs.Ways.{way_to}
-use Rattle.pfc_arrivals.specs.Arrivals.{AreNumbered, AreAllKept}
+use Rattle.pfc_arrivals.specs.Arrivals.{AreNumbered}
 
 module _
-    (facts : Facts) (c : Config) (kept : AreAllKept) (numbered : AreNumbered facts) (numbers : RunKeepsToRules (program_in facts) c) (limit : ℕ) (picking : Picking)
+    (facts : Facts) (c : Config) (kept : IsRunKept facts c) (numbered : AreNumbered facts) (numbers : RunKeepsToRules (program_in facts) c) (limit : ℕ) (picking : Picking)
     (m : Machine) (is : Represents facts m c) (new : Machine) (before after : Option (List ℕ))
   where
     abbrev image : PlainImage
@@ -57,7 +57,7 @@ module _
 
     ends : Ends facts limit first f h []
     ends =
-        ends_so facts kept numbered limit first numbers limit 0 (first_stage picking m) (omega arith) (λ k low. absurd (omega (arith, low)))
+        ends_so facts numbered limit first kept numbers limit 0 (first_stage picking m) (omega arith) (λ k low. absurd (omega (arith, low)))
         (starts_at facts c kept numbered numbers picking m is)
 
     alike : AreRunsAlike f h c

@@ -28,14 +28,15 @@ use Rattle.pfc_sessions.specs.Steps.{FaultAt, Step}
 use Rattle.pfc_run_agreement.specs.Agreement.{fault_of, picking_behind, choices_of, ActsAlike}
 use Rattle.pfc_run_agreement.specs.Agreement as agreement
 use Rattle.pfc_run_agreement.proofs.Agreeing.{same_ending, settled_fault}
-use Rattle.pfc_simulation.specs.Reached.{RunKeepsToRules}
+use Rattle.pfc_simulation.specs.Reached.{RunKeepsToRules, IsRunKept}
 use Rattle.pfc_simulation.proofs.Simulating.{Relates, agrees_then, agrees_here, acts_alike_so, agrees_behind, represents, about}
 use Rattle.pfc_source_runs.specs.Points.{Point, by_process, point_behind, next_point, point_after, Passes}
 use Rattle.pfc_source_runs.proofs.Coming.{IsAt, picks_so, passes_so, comes_so}
 use Rattle.pfc_source_runs.proofs.Ending.{Ends, agreeing, uncounted, along, plain_ending, plain_deadlock, plain_limit, plain_script, plain_fault, fault_process, faulty_run}
-use Rattle.pfc_arrivals.specs.Arrivals.{AreNumbered, AreAllKept}
+use Rattle.pfc_arrivals.specs.Arrivals.{AreNumbered}
 
-module _ (facts : Facts) (kept : AreAllKept) (numbered : AreNumbered facts) (limit : ℕ) (first : Point) (numbers : RunKeepsToRules (program_in facts) first.config) where
+module _ (facts : Facts) (numbered : AreNumbered facts) (limit : ℕ) (first : Point) (kept : IsRunKept facts first.config)
+    (numbers : RunKeepsToRules (program_in facts) first.config) where
   abbrev image : PlainImage
   image = image_of facts.tree
 

@@ -20,13 +20,13 @@ use Rattle.pfc_arrivals.proofs.Arriving.{comes_to_action}
 use Rattle.pfc_sessions.specs.Stages as stages
 use Rattle.pfc_sessions.specs.Stages.{Stage}
 use Rattle.pfc_sessions.specs.Steps.{begins, before_action}
-use Rattle.pfc_simulation.specs.Reached.{RunKeepsToRules}
+use Rattle.pfc_simulation.specs.Reached.{RunKeepsToRules, IsRunKept}
 use Rattle.pfc_simulation.proofs.Simulating.{represents, about}
 use Rattle.pfc_simulation.proofs.Steps.{quiet_leads}
 use Rattle.pfc_source_runs.specs.Points.{Point}
 use Rattle.pfc_source_runs.specs.Standing.{IsUntried}
 use Rattle.pfc_source_runs.proofs.Coming.{IsAt, picks_so}
-use Rattle.pfc_arrivals.specs.Arrivals.{AreNumbered, AreAllKept}
+use Rattle.pfc_arrivals.specs.Arrivals.{AreNumbered, IsNextKept}
 use Rattle.pfc_arrivals.proofs.Picked.{numbered_at}
 use Rattle.pfc_arrivals.proofs.Standing.{has_setting}
 
@@ -36,7 +36,8 @@ first_choice (suc n) = grind arith
 
 -- ## Where quiet instructions lead
 
-module _ (facts : Facts) (kept : AreAllKept) (numbered : AreNumbered facts) (m : Machine) (c : Config) (p : ℕ) (rules : KeepsToRules (program_in facts) c p) (come : ComesToAction facts m c p) where
+module _ (facts : Facts) (numbered : AreNumbered facts) (m : Machine) (c : Config) (p : ℕ) (kept : IsNextKept facts c p)
+    (rules : KeepsToRules (program_in facts) c p) (come : ComesToAction facts m c p) where
   abbrev image : PlainImage
   image = image_of facts.tree
 
@@ -49,11 +50,11 @@ module _ (facts : Facts) (kept : AreAllKept) (numbered : AreNumbered facts) (m :
       (record { run = come.run; few = come.few; is = k.is; can = k.can_step; no_move = k.no_move })
 
   stands_before : before_action image p m ≡ come.before
-  stands_before = stands_by (kept facts come.before c p 0 come.level next (numbered_at facts come.level numbered (has_setting facts come.before c p come.level come.acting)) rules come.acting come.arrived (first_choice (choices (program_in facts) c p next)))
+  stands_before = stands_by (kept come.before 0 come.level (numbered_at facts come.level numbered (has_setting facts come.before c p come.level come.acting)) rules come.acting come.arrived (first_choice (choices (program_in facts) c p next)))
 
 -- ## At a stage
 
-module _ (facts : Facts) (c : Config) (kept : AreAllKept) (numbered : AreNumbered facts) (numbers : RunKeepsToRules (program_in facts) c) (s : Stage) (t : Point)
+module _ (facts : Facts) (c : Config) (kept : IsRunKept facts c) (numbered : AreNumbered facts) (numbers : RunKeepsToRules (program_in facts) c) (s : Stage) (t : Point)
     (so : IsAt facts c s t) (new : Machine) (is : stages.IsUntried (image_of facts.tree) s new) where
   abbrev m : Machine
   m = machine_settled s.machine
@@ -75,7 +76,7 @@ module _ (facts : Facts) (c : Config) (kept : AreAllKept) (numbered : AreNumbere
     before = come.before;
     acting = come.acting;
     arrived = come.arrived;
-    machine = is.machine ∙ ap at_rest (stands_before facts kept numbered m d is.process ready.rules come);
+    machine = is.machine ∙ ap at_rest (stands_before facts numbered m d is.process (kept t.config is.process so.relates.reached ready.ready) ready.rules come);
   }
 
   pub is_untried : IsUntried facts new t

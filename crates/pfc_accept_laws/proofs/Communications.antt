@@ -179,7 +179,8 @@ module _ (t : Told) (told : IsTold t) where
         → Each t (accepts_from g c p x a o caller k)
     accepts_so a o caller k may =
         let args = asked (activity_of g c caller).hand in
-        it_shows t told (met_by g c p x a o caller args k) caller empty_hand (met_so c p x a o caller args k all may) (told.emptied caller)
+        let d = met_by g c p x a o caller args k in
+        it_shows t told d caller empty_hand (acts_of t d caller) refl (met_so c p x a o caller args k all may) (λ b is so. told.emptied caller b so)
 
     -- ## With a partner
 
@@ -204,12 +205,12 @@ module _ (t : Told) (told : IsTold t) where
 
     meets_or_waits_so :
         (o : Open) (k : Remainder) (q : Option ℕ) → OpenSo t p (acts_of t c p) x k o → t.does p (acts_of t c p) (going x.env k)
-        → MayShow t p (offering x (o ∷ []) k) → Each t (meets_or_waits g c p x o k q)
+        → MayShow t p (acts_of t c p) (offering x (o ∷ []) k) → Each t (meets_or_waits g c p x o k q)
     meets_or_waits_so o k (Some q) one left may = by_so o k q o.offer (arm_of g c p o.offer) refl one
-    meets_or_waits_so o k None one left may = it_shows t told (goes_on g c p x k) p (offering x (o ∷ []) k) (it_goes t told c p x k all left) may
+    meets_or_waits_so o k None one left may = it_shows t told (goes_on g c p x k) p (offering x (o ∷ []) k) (acts_of t c p) (acts_stay t c p (going x.env k) p) (it_goes t told c p x k all left) may
 
     pub meets_so :
-        (o : Open) (k : Remainder) → OpenSo t p (acts_of t c p) x k o → t.does p (acts_of t c p) (going x.env k) → MayShow t p (offering x (o ∷ []) k)
+        (o : Open) (k : Remainder) → OpenSo t p (acts_of t c p) x k o → t.does p (acts_of t c p) (going x.env k) → MayShow t p (acts_of t c p) (offering x (o ∷ []) k)
         → EachIn t (meets_at g c p x o k)
     meets_so o k one left may = meets_or_waits_so o k (partner_at c p (arm_of g c p o.offer)) one left may
 
@@ -219,9 +220,9 @@ module _ (t : Told) (told : IsTold t) where
     takes_so k None one = all
     takes_so k (Some o) one = communicates_so o k (partner_at c p (arm_of g c p o.offer)) one
 
-    module _ (s : Selecting) (k : Remainder) (select : SelectSo t p (acts_of t c p) x s k) (may : MayShow t p (offering x s.offered k)) where
+    module _ (s : Selecting) (k : Remainder) (select : SelectSo t p (acts_of t c p) x s k) (may : MayShow t p (acts_of t c p) (offering x s.offered k)) where
       waits_so : (due : Option ℕ) (end : Remainder) → t.does p (acts_of t c p) (going x.env end) → Each t (waits_until g c p x s k due end)
-      waits_so due end ending = it_shows t told (goes_on g c p x end) p (offering x s.offered k) (it_goes t told c p x end all ending) may
+      waits_so due end ending = it_shows t told (goes_on g c p x end) p (offering x s.offered k) (acts_of t c p) (acts_stay t c p (going x.env end) p) (it_goes t told c p x end all ending) may
 
       closed_so : (timeout : Option Timeout) (os : List Open) → TimeoutSo p (acts_of t c p) x k timeout → EachIn t (waits_or_closed g c p x s k timeout os)
       closed_so None [] at = tt

@@ -94,8 +94,8 @@ module _ (t : Told) where
   EachIn (Err f) = Unit {0}
 
   -- it stays so when the process shows this
-  abbrev pub MayShow : ℕ → Hand → Type 0
-  MayShow p hand = (a : Activity) → t.so p a → t.so p (record a { hand = hand })
+  abbrev pub MayShow : ℕ → List Activation → Hand → Type 0
+  MayShow p l hand = (a : Activity) → a.activations ≡ l → t.so p a → t.so p (record a { hand = hand })
 
   pub effect_either : (b : Bool) (d e : Effect) → EachIn d → EachIn e → EachIn (if b then d else e)
   effect_either true d e first second = first
@@ -109,8 +109,9 @@ module _ (t : Told) where
     each_with c p a all one q =
         set_changes (t.so q) (nobody t.program) c.activities p q a (λ is. subst (λ (n : ℕ). t.so n a) (sym is) one) (λ off. all q) (told.nobody q)
 
-    pub it_shows : (c : Config) (p : ℕ) (hand : Hand) → Each c → MayShow p hand → Each (showing t.program c p hand)
-    it_shows c p hand all may = each_with c p _ all (may (activity_of t.program c p) (all p))
+    pub it_shows :
+        (c : Config) (p : ℕ) (hand : Hand) (l : List Activation) → acts_of c p ≡ l → Each c → MayShow p l hand → Each (showing t.program c p hand)
+    it_shows c p hand l is all may = each_with c p _ all (may (activity_of t.program c p) is (all p))
 
     pub it_does : (c : Config) (p : ℕ) (doing : Doing) → Each c → t.does p (acts_of c p) doing → Each (doing_next t.program c p doing)
     it_does c p doing all may = each_with c p _ all (told.works p (activity_of t.program c p) doing may (all p))
@@ -121,3 +122,10 @@ module _ (t : Told) where
     pub it_holds :
         (c : Config) (p : ℕ) (x : Context) (v : Value) (u : AwaitsValue) → Each c → t.does p (acts_of c p) (holding x v u) → Each (holds t.program c p x v u)
     it_holds c p x v u all may = it_does c p (holding x v u) all may
+
+-- where nothing is asked of what is done, all may be
+pub any_open :
+    (t : Told) → ((q : ℕ) (l : List Activation) (doing : Doing) → t.does q l doing) → (q : ℕ) (l : List Activation) (x : Context) (k : Remainder)
+    (os : List Open) → AllByRecursion (OpenSo t q l x k) os
+any_open t any q l x k [] = tt
+any_open t any q l x k (o ∷ os) = ((any q l _, λ a is caller. any q l _), any_open t any q l x k os)

@@ -1,5 +1,5 @@
 -- What is told of each process is so behind every action.
-use Rattle.std.proofs.Common.{◌≡◌, ℕ, ℤ, pos, negsuc, zero, suc, ◌+◌, Bool, true, false, nat_le, if◌then◌else◌, List, [], ◌∷◌, ◌++◌, Option, Some, None, Result, Ok, Err, ◌≢◌, refl, ap, sym, ◌∙◌, subst}
+use Rattle.std.proofs.Common.{◌≡◌, ℕ, ℤ, pos, negsuc, zero, suc, ◌+◌, Bool, true, false, nat_le, if◌then◌else◌, List, [], ◌∷◌, ◌++◌, Option, Some, None, Result, Ok, Err, ◌≢◌, ◌⊎◌, inl, inr, refl, ap, sym, ◌∙◌, subst}
 use Rattle.std.specs.Prelude.{◌*◌, ◌/◌}
 use Rattle.rand_pcg.specs.Lcg.{Lcg}
 use Rattle.pfc_base.specs.declared.faults.RunFault.{RunFault}
@@ -39,29 +39,34 @@ use Rattle.pfc_semantics.specs.Selects.{latest, matched_places}
 use Rattle.pfc_semantics.specs.Time.{slept, sleeps_for, clocked}
 use Rattle.pfc_semantics.specs.Steps.{enters_module, calls_by, returns_to, ends_for, ends_body, read_in, skipped_in, drawn_in, effect}
 use Rattle.pfc_accept_laws.proofs.Lists.{set_apart}
-use Rattle.pfc_accept_laws.proofs.Each.{Told, OpenSo, IsTold, Each, acts_of, EachIn, MayShow, effect_either, unless_full_so, each_with, it_shows, it_goes, it_holds}
+use Rattle.pfc_accept_laws.proofs.Each.{Told, OpenSo, IsTold, Each, acts_of, acts_stay, EachIn, MayShow, effect_either, unless_full_so, each_with, it_shows, it_goes, it_holds}
 use Rattle.pfc_accept_laws.proofs.Communications.{SelectSo, side_so, side_on, called_at_so, meets_so, decides_so}
 
 module _ (t : Told) where
   -- ## What an action may show, and who may requeue
 
   abbrev pub CallsSo : Config → ℕ → Call → List Argument → Type 0
-  CallsSo c p (to_entry s entry k) given = MayShow t p (asking (all_passed t.program c p given))
+  CallsSo c p (to_entry s entry k) given = MayShow t p (acts_of t c p) (asking (all_passed t.program c p given))
   CallsSo c p (to_requeue scope) given =
       (top : Activation) (below : List Activation) → (activity_of t.program c p).activations ≡ top ∷ below → t.requeues top.mark
   CallsSo c p call given = Unit {0}
 
-  abbrev pub ShowsWay : ℕ → Way → Type 0
-  ShowsWay p leave = Unit {0}
-  ShowsWay p (trying b) = MayShow t p (barred_at b)
+  abbrev pub ShowsWay : ℕ → List Activation → Way → Type 0
+  ShowsWay p l leave = Unit {0}
+  ShowsWay p l (trying b) = MayShow t p l (barred_at b)
 
   abbrev pub ActsSo : Config → ℕ → Action → Type 0
   ActsSo c p (calls x call given) = CallsSo c p call given
-  ActsSo c p (meets x o k) = MayShow t p (offering x (o ∷ []) k)
-  ActsSo c p (decides x s k) = MayShow t p (offering x s.offered k)
-  ActsSo c p (bars x b k) = MayShow t p (barred_at b)
-  ActsSo c p (passes x w s k) = ShowsWay p s.way
+  ActsSo c p (meets x o k) = MayShow t p (acts_of t c p) (offering x (o ∷ []) k)
+  ActsSo c p (decides x s k) = MayShow t p (acts_of t c p) (offering x s.offered k)
+  ActsSo c p (bars x b k) = MayShow t p (acts_of t c p) (barred_at b)
+  ActsSo c p (passes x w s k) = ShowsWay p (acts_of t c p) s.way
   ActsSo c p n = Unit {0}
+
+  -- who acts is not created anew, or nothing is asked of what is done
+  abbrev pub ActsApart : Config → ℕ → Type 0
+  ActsApart c p =
+      ((n : ℕ) → is_unfinished (at c.table.rows n) ≡ false → p ≢ n) ⊎ ((q : ℕ) (l : List Activation) (doing : Doing) → t.does q l doing)
 
   -- ## What comes behind it, in the activations of who acts
 
@@ -117,7 +122,7 @@ module _ (t : Told) where
 
     pub enters_so :
         (c : Config) (p : ℕ) (x : Context) (s : Spot) (entry : ℕ) (args : List Argument) (k : Remainder) → Each t c → t.does p (acts_of t c p) (going x.env k)
-        → MayShow t p (asking (all_passed g c p args)) → EachIn t (enters g c p x s entry args k)
+        → MayShow t p (acts_of t c p) (asking (all_passed g c p args)) → EachIn t (enters g c p x s entry args k)
     enters_so c p x s entry args k all left may =
         let q : ℕ = number_for g c p s in
         let values : List Value = all_passed g c p args in
@@ -129,7 +134,7 @@ module _ (t : Told) where
         (effect_either t accepting met shown
         (called_at_so t told waiting p q values (side_of g c q (Entry entry)) (it_goes t told c p x k all left)
         (side_on t told c p x k q (side_of g c q (Entry entry)) (side_so t told c q (Entry entry) all)))
-        (it_shows t told waiting p (asking values) (it_goes t told c p x k all left) may))
+        (it_shows t told waiting p (asking values) (acts_of t c p) (acts_stay t c p (going x.env k) p) (it_goes t told c p x k all left) may))
 
     module _ (c : Config) (all : Each t c) (p : ℕ) where
       abbrev l : List Activation
@@ -140,7 +145,7 @@ module _ (t : Told) where
 
       -- ## Calls
 
-      module _ (ready : is_unfinished (at c.table.rows p) ≡ true) where
+      module _ (ready : ActsApart c p) where
         creates_so : (x : Context) (s : Spot) (args : List Argument) (k : Remainder) → On p l x k → EachIn t (creates g c p x s args k)
         creates_so x s args k left = by (is_unfinished (at c.table.rows n)) refl
           where
@@ -161,22 +166,19 @@ module _ (t : Told) where
                   table = placed c.table n Is_created;
                 }) n _ all (told.created c n (activity_of g c n) (all n))
 
-            apart : is_unfinished (at c.table.rows n) ≡ false → p ≢ n
-            apart idle same = never (sym (ap (λ (i : ℕ). is_unfinished (at c.table.rows i)) same ∙ idle) ∙ ready)
-              where
-                never : false ≡ true → ⊥
-                never e = cc
-
             stays : p ≢ n → activity_of g new p ≡ activity_of g c p
             stays off = set_apart (nobody g) c.activities n p _ off
+
+            left_now : ActsApart c p → is_unfinished (at c.table.rows n) ≡ false → t.does p (acts_of t new p) (going x.env k)
+            left_now (inl apart) idle = subst (λ (a : Activity). t.does p a.activations (going x.env k)) (sym (stays (apart n idle))) left
+            left_now (inr any) idle = any p (acts_of t new p) (going x.env k)
 
             by : (z : Bool) → is_unfinished (at c.table.rows n) ≡ z
                 → EachIn t (if z then Err Active else unless_full n (cells_above [] b) (goes_on g new p x k))
             by true e = tt
             by false e =
                 unless_full_so t n (cells_above [] b) (goes_on g new p x k)
-                (it_goes t told new p x k new_so
-                (subst (λ (a : Activity). t.does p a.activations (going x.env k)) (sym (stays (apart e))) left))
+                (it_goes t told new p x k new_so (left_now ready e))
 
       module _ (alive : t.alive (activity_of g c p).activations) where
         activated_so :
@@ -217,7 +219,7 @@ module _ (t : Told) where
             (told.requeued c p (activity_of g c p) a below b _ is (may a below refl) (all p)))
 
         calls_so :
-            is_unfinished (at c.table.rows p) ≡ true → (x : Context) (call : Call) (args : List Argument) → CallsSo c p call args → CallOn p l x call
+            ActsApart c p → (x : Context) (call : Call) (args : List Argument) → CallsSo c p call args → CallOn p l x call
             → EachIn t (calls_by g c p x call args)
         calls_so ready x (to_procedure scope k) args so next = called_so (block_at g scope) (of_remainder x.env k) args next
         calls_so ready x (to_function scope u) args so next = called_so (block_at g scope) (of_value x u) args next
@@ -312,17 +314,17 @@ module _ (t : Told) where
           scanned_so s None guard other = all_scanned s s.way guard
           scanned_so s (Some w) guard other = on x (try_other w s k) (other w)
 
-          barred_so : (b : Bar) → MayShow t p (barred_at b) → Each t (showing g (goes_on g c p x k) p (barred_at b))
-          barred_so b may = it_shows t told (goes_on g c p x k) p (barred_at b) (on x k left) may
+          barred_so : (b : Bar) → MayShow t p l (barred_at b) → Each t (showing g (goes_on g c p x k) p (barred_at b))
+          barred_so b may = it_shows t told (goes_on g c p x k) p (barred_at b) l (acts_stay t c p (going x.env k) p) (on x k left) may
 
-          passed_so : (w : Tried) (r : ℕ) (way : Way) → ShowsWay p way → Each t (passed_by g c p x w k r way)
+          passed_so : (w : Tried) (r : ℕ) (way : Way) → ShowsWay p l way → Each t (passed_by g c p x w k r way)
           passed_so w r leave may = on x k left
           passed_so w r (trying b) may = barred_so b may
 
       -- ## Every action
 
       pub effect_so :
-          is_unfinished (at c.table.rows p) ≡ true → t.alive (activity_of g c p).activations → (choice : ℕ) (n : Action) → ActsSo c p n → GoesOn p l n
+          ActsApart c p → t.alive (activity_of g c p).activations → (choice : ℕ) (n : Action) → ActsSo c p n → GoesOn p l n
           → EachIn t (effect g c p choice n)
       effect_so ready alive choice (reads x s u) so next = it_holds t told c p x (value_for g c p s) u all (next (value_for g c p s))
       effect_so ready alive choice (writes x s v k) so next = it_goes t told (written_for g c p s v) p x k all next

@@ -17,7 +17,7 @@ use Rattle.pfc_semantics.specs.Rendezvous.{parameters_taken, meeting_of, met_by,
 use Rattle.pfc_semantics.specs.Selects.{communicates_by, communicates, partner_at, meets_or_waits, meets_at, matched_places, place_taken, open_at, takes, Timeout, timeout_at, or_timeout, open_timeout, latest, waits_until, waits_or_closed, times_out, goes_otherwise, decides_by}
 use Rattle.pfc_accept_laws.proofs.Each.{Told, OpenSo, IsTold, Each, acts_of, acts_stay, EachIn, MayShow, effect_either, it_goes, it_shows}
 
-abbrev OthersSo : Told → ℕ → List Activation → Context → Remainder → Option Otherwise → Type 0
+abbrev pub OthersSo : Told → ℕ → List Activation → Context → Remainder → Option Otherwise → Type 0
 OthersSo t q l x k None = Unit {0}
 OthersSo t q l x k (Some other) = t.does q l (going x.env (behind other.next other.stmts k))
 

@@ -25,7 +25,7 @@ use Rattle.pfc_semantics.specs.Objects.{module_number}
 use Rattle.pfc_semantics.specs.Operators.{simple_of}
 use Rattle.pfc_semantics.specs.Displays.{Spot}
 use Rattle.pfc_semantics.specs.Programs.{Block, Program, block_at}
-use Rattle.pfc_semantics.specs.Remainders.{Context, Argument, Bar, Call, Remainder, AwaitsValue, Scan, Tried, Way, leave, own as trying, in_names, scan_on, try_guard, try_other, to_procedure, to_function, to_module, to_requeue, to_process, to_entry, Action, reads, writes, turns, calls, finishes, prints, inputs, skips, asks_eof, asks_eoln, asks_clock, asks_empty, draws, joins, initials, waits, signals, delays, resumes, sleeps, meets, decides, parts, scans, bars, passes, faults}
+use Rattle.pfc_semantics.specs.Remainders.{Context, Argument, Bar, Call, Otherwise, Remainder, AwaitsValue, Scan, Tried, Way, leave, own as trying, in_names, scan_on, try_guard, try_other, to_procedure, to_function, to_module, to_requeue, to_process, to_entry, Action, reads, writes, turns, calls, finishes, prints, inputs, skips, asks_eof, asks_eoln, asks_clock, asks_empty, draws, joins, initials, waits, signals, delays, resumes, sleeps, meets, decides, parts, scans, bars, passes, faults}
 use Rattle.pfc_semantics.specs.Rewriting.{Doing, going, holding}
 use Rattle.pfc_semantics.specs.Configurations.{nobody, Mark, plain, of_monitor, of_resource, Caller, of_nobody, of_remainder, of_value, Activation, Activity, offering, asking, barred_at, Config, Effect, activity_of, goes_on, showing, value_for, number_for, written_for, all_passed, with_table, counted, with_counted, monitors_held, with_monitors, resources_held, with_resources, body_of}
 use Rattle.pfc_semantics.specs.Calls.{cells_above, new_number, new_values, activated, left_by, result_in, unless_full}
@@ -39,8 +39,8 @@ use Rattle.pfc_semantics.specs.Selects.{latest, matched_places}
 use Rattle.pfc_semantics.specs.Time.{slept, sleeps_for, clocked}
 use Rattle.pfc_semantics.specs.Steps.{enters_module, calls_by, returns_to, ends_for, ends_body, read_in, skipped_in, drawn_in, effect}
 use Rattle.pfc_accept_laws.proofs.Lists.{set_apart}
-use Rattle.pfc_accept_laws.proofs.Each.{Told, OpenSo, IsTold, Each, acts_of, acts_stay, EachIn, MayShow, effect_either, unless_full_so, each_with, it_shows, it_goes, it_holds}
-use Rattle.pfc_accept_laws.proofs.Communications.{SelectSo, side_so, side_on, called_at_so, meets_so, decides_so}
+use Rattle.pfc_accept_laws.proofs.Each.{Told, OpenSo, any_open, IsTold, Each, acts_of, acts_stay, EachIn, MayShow, effect_either, unless_full_so, each_with, it_shows, it_goes, it_holds}
+use Rattle.pfc_accept_laws.proofs.Communications.{SelectSo, OthersSo, side_so, side_on, called_at_so, meets_so, decides_so}
 
 module _ (t : Told) where
   -- ## What an action may show, and who may requeue
@@ -355,3 +355,50 @@ module _ (t : Told) where
       effect_so ready alive choice (bars x b k) so next = barred_so x k next b so
       effect_so ready alive choice (passes x w s k) so next = passed_so x k next w s.resource s.way so
       effect_so ready alive choice (faults x f) so next = tt
+
+-- where nothing is asked of what is done, or waits, anything may come
+any_call : (t : Told) → ((q : ℕ) (l : List Activation) (doing : Doing) → t.does q l doing)
+    → ((q : ℕ) (l : List Activation) (caller : Caller) → t.waits q l caller) → (p : ℕ) (l : List Activation) (x : Context) (call : Call)
+    → CallOn t p l x call
+any_call t any waiting p l x (to_procedure scope k) = waiting p l _
+any_call t any waiting p l x (to_function scope u) = waiting p l _
+any_call t any waiting p l x (to_module n scope k) = waiting p l _
+any_call t any waiting p l x (to_requeue scope) = tt
+any_call t any waiting p l x (to_process s k) = any p l _
+any_call t any waiting p l x (to_entry s entry k) = any p l _
+
+any_others : (t : Told) → ((q : ℕ) (l : List Activation) (doing : Doing) → t.does q l doing) → (p : ℕ) (l : List Activation) (x : Context) (k : Remainder)
+    (other : Option Otherwise) → OthersSo t p l x k other
+any_others t any p l x k None = tt
+any_others t any p l x k (Some other) = any p l _
+
+pub any_next : (t : Told) → ((q : ℕ) (l : List Activation) (doing : Doing) → t.does q l doing)
+    → ((q : ℕ) (l : List Activation) (caller : Caller) → t.waits q l caller) → (p : ℕ) (l : List Activation) (n : Action) → GoesOn t p l n
+any_next t any waiting p l (calls x call given) = any_call t any waiting p l x call
+any_next t any waiting p l (meets x o k) = ((any p l _, λ a is caller. any p l _), any p l _)
+any_next t any waiting p l (decides x s k) =
+    record { offered = any_open t any p l x k s.offered; otherwise = any_others t any p l x k s.otherwise; left = any p l _ }
+any_next t any waiting p l (scans x s k) = (any p l _, λ bar. any p l _, λ w. any p l _)
+any_next t any waiting p l (faults x f) = tt
+any_next t any waiting p l (reads x s u) = λ v. any p l _
+any_next t any waiting p l (writes x s v k) = any p l _
+any_next t any waiting p l (turns x k) = any p l _
+any_next t any waiting p l (finishes line) = tt
+any_next t any waiting p l (prints x bytes k) = any p l _
+any_next t any waiting p l (inputs x ty s k) = any p l _
+any_next t any waiting p l (skips x k) = any p l _
+any_next t any waiting p l (asks_eof x u) = λ v. any p l _
+any_next t any waiting p l (asks_eoln x u) = λ v. any p l _
+any_next t any waiting p l (asks_clock x u) = λ v. any p l _
+any_next t any waiting p l (asks_empty x s u) = λ v. any p l _
+any_next t any waiting p l (draws x n u) = λ v. any p l _
+any_next t any waiting p l (joins x k) = any p l _
+any_next t any waiting p l (initials x s n k) = any p l _
+any_next t any waiting p l (waits x s k) = any p l _
+any_next t any waiting p l (signals x s k) = any p l _
+any_next t any waiting p l (delays x s n k) = any p l _
+any_next t any waiting p l (resumes x s k) = any p l _
+any_next t any waiting p l (sleeps x n k) = any p l _
+any_next t any waiting p l (parts x caller k) = any p l _
+any_next t any waiting p l (bars x bar k) = any p l _
+any_next t any waiting p l (passes x w s k) = any p l _

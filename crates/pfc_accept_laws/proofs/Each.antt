@@ -1,5 +1,5 @@
 -- What is told of each process, and kept by all that actions and settling do to one.
-use Rattle.std.proofs.Common.{◌≡◌, ◌≢◌, ℕ, zero, suc, Bool, true, false, nat_le, if◌then◌else◌, List, [], ◌∷◌, get_or, set, Ok, Err, refl, sym, subst}
+use Rattle.std.proofs.Common.{◌≡◌, ℕ, zero, suc, Bool, true, false, nat_le, if◌then◌else◌, List, [], ◌∷◌, get_or, set, Ok, Err, refl, sym, subst}
 use Rattle.std.specs.List.{AllByRecursion}
 use Rattle.pfc_base.specs.declared.faults.RunFault.TheVariants.{Stack}
 use Rattle.pfc_types.specs.rules.Expressions.{Env}

@@ -14,3 +14,4 @@ pub mod Rows
 pub mod Waits
 pub mod Offered
 pub mod Asked
+pub mod Placed

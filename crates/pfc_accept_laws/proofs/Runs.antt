@@ -1,7 +1,7 @@
 -- What is told of each process is so from the start on, while it settles, and behind each step.
-use Rattle.std.proofs.Common.{◌≡◌, ℕ, zero, suc, Bool, true, false, if◌then◌else◌, List, [], ◌∷◌, get_or, map, Some, Ok, Err}
-use Rattle.pfc_state.specs.Stands.{Stand, is_unfinished, may_end}
-use Rattle.pfc_world.specs.Tables.{Table, at}
+use Rattle.std.proofs.Common.{ℕ, zero, suc, Bool, true, false, if◌then◌else◌, List, [], ◌∷◌, get_or, map, Some, Ok, Err}
+use Rattle.pfc_state.specs.Stands.{Stand, may_end}
+use Rattle.pfc_world.specs.Tables.{Table}
 use Rattle.pfc_world.specs.Transitions.{ticked}
 use Rattle.pfc_world.specs.Settling.{may_all_end, settled}
 use Rattle.pfc_semantics.specs.Programs.{Program}

@@ -15,3 +15,4 @@ pub mod Waits
 pub mod Offered
 pub mod Asked
 pub mod Placed
+pub mod PlacedSteps

@@ -82,7 +82,7 @@ module _ (g : Program) where
   scan_first None env s k may = tt
   scan_first (Some b) env s k may = λ e. may
 
-  any_nothing : (q : ℕ) (l : List Activation) (x : Context) (k : Remainder) (os : List Open) → block_in g q l ≡ None
+  pub any_nothing : (q : ℕ) (l : List Activation) (x : Context) (k : Remainder) (os : List Open) → block_in g q l ≡ None
       → AllByRecursion (OpenSo places q l x k) os
   any_nothing q l x k [] is = tt
   any_nothing q l x k (o ∷ os) is = ((may _, λ a same caller. may _), any_nothing q l x k os is)
@@ -90,7 +90,7 @@ module _ (g : Program) where
       may : (doing : Doing) → DoesIn (block_in g q l) doing
       may doing = subst (λ (w : Option Block). DoesIn w doing) (sym is) tt
 
-  all_placed : (q : ℕ) (l : List Activation) (b : Block) (x : Context) (k : Remainder) (os : List Open) → block_in g q l ≡ Some b
+  pub all_placed : (q : ℕ) (l : List Activation) (b : Block) (x : Context) (k : Remainder) (os : List Open) → block_in g q l ≡ Some b
       → AllByRecursion (PlacesOpen b x.env k) os → PlacesRemainder b x.env k → AllByRecursion (OpenSo places q l x k) os
   all_placed q l b x k [] is all left = tt
   all_placed q l b x k (o ∷ os) is all left = (

@@ -95,9 +95,9 @@ module _ (g : Program) where
 
     pub step_goes_back :
         (choice : ℕ) → AllGoBack g c → (activity_of g c p).activations ≢ [] → RequeuesInside g c p → AllGoBack g (step g c p choice).config
-    step_goes_back choice all alive inside = 
-            step_so displays displays_told c p choice all (inr (λ q l doing. tt)) alive (acts_so (next_of g c p) refl inside)
-            (any_next displays (λ q l doing. tt) (λ q l caller. tt) p (activity_of g c p).activations (next_of g c p))
+    step_goes_back choice all alive inside =
+        step_so displays displays_told c p choice all (inr (λ q l doing. tt)) alive (acts_so (next_of g c p) refl inside)
+        (any_next displays (λ q l doing. tt) (λ q l caller. tt) p (activity_of g c p).activations (next_of g c p))
 
   pub first_is :
       (c : Config) (q : ℕ) (a : Activation) → AllGoBack g c → 0 < q → (activity_of g c q).activations ≡ a ∷ []

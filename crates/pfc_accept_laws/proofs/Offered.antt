@@ -91,6 +91,6 @@ module _ (offers : ℕ → Context → List Open → Remainder → Type 0) (g : 
       (c : Config) (p choice : ℕ) → AreOffered c → ((x : Context) (os : List Open) (k : Remainder) → IsToOffer g c p x os k → offers p x os k)
       → AreOffered (step g c p choice).config
   step_offered c p choice so about =
-      as_asked (step g c p choice).config 
+      as_asked (step g c p choice).config
       (step_so shown shown_told c p choice (each_so c so) (inr (λ q l doing. tt)) tt (acts_so c p about (next_of g c p) refl)
       (any_next shown (λ q l doing. tt) (λ q l caller. tt) p (activity_of g c p).activations (next_of g c p)))

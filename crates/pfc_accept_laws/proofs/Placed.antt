@@ -2,72 +2,26 @@
 use Rattle.std.proofs.Common.{◌≡◌, ◌≢◌, ◌<◌, ℕ, zero, suc, List, [], ◌∷◌, Option, Some, None, refl, sym, subst, arith}
 use Rattle.std.specs.List.{AllByRecursion}
 use Rattle.pfc_types.specs.rules.Expressions.{Env}
-use Rattle.pfc_types.specs.rules.Statements.{stmts_scopes}
-use Rattle.pfc_semantics.specs.Values.{Value}
 use Rattle.pfc_semantics.specs.Programs.{Block, Program}
 use Rattle.pfc_semantics.specs.Remainders.{Context, Open, Scan, Remainder, in_names, scan_on}
-use Rattle.pfc_semantics.specs.Rewriting.{Doing, going, holding}
+use Rattle.pfc_semantics.specs.Rewriting.{Doing, going}
 use Rattle.pfc_semantics.specs.Displays.{Display}
 use Rattle.pfc_semantics.specs.Calls.{new_number, new_display, new_activation, cells_above}
 use Rattle.pfc_semantics.specs.Processes.{process_block}
 use Rattle.pfc_semantics.specs.Time.{settled_config}
-use Rattle.pfc_semantics.specs.Configurations.{plain, Caller, of_nobody, of_remainder, of_value, Activation, Activity, Hand, empty_hand, offering, Config, body_of, start}
-use Rattle.pfc_accept_laws.specs.Places.{IsBefore, PlacesOpen, PlacesRemainder, PlacesDoing}
+use Rattle.pfc_semantics.specs.Configurations.{plain, Caller, Activation, Activity, Hand, empty_hand, offering, Config, body_of, start}
+use Rattle.pfc_accept_laws.specs.Places.{PlacesOpen, PlacesRemainder, PlacesDoing}
 use Rattle.pfc_accept_laws.proofs.Each.{Told, OpenSo, IsTold, Each}
 use Rattle.pfc_accept_laws.proofs.Runs.{start_so, settled_so}
 use Rattle.pfc_accept_laws.proofs.Meetings.{open_behind, meeting_places, body_places}
-
--- ## By block
-
--- the block of a process in its first activation
-abbrev of_process : Program → ℕ → Option Block
-of_process g zero = None
-of_process g (suc q) = Some (process_block g (suc q))
-
-abbrev pub block_in : Program → ℕ → List Activation → Option Block
-block_in g q [] = None
-block_in g q (a ∷ []) = of_process g q
-block_in g q (a ∷ (b ∷ below)) = None
-
-abbrev pub DoesIn : Option Block → Doing → Type 0
-DoesIn None doing = Unit {0}
-DoesIn (Some b) doing = PlacesDoing b doing
-
-abbrev pub CallerIn : Option Block → Caller → Type 0
-CallerIn w of_nobody = Unit {0}
-CallerIn w (of_remainder env k) = DoesIn w (going env k)
-CallerIn w (of_value x u) = (v : Value) → DoesIn w (holding x v u)
-
-abbrev OffersIn : Block → Hand → Type 0
-OffersIn b (offering x os k) = AllByRecursion (PlacesOpen b x.env k) os × PlacesRemainder b x.env k
-OffersIn b hand = Unit {0}
-
-abbrev pub HandIn : Option Block → Hand → Type 0
-HandIn None hand = Unit {0}
-HandIn (Some b) hand = OffersIn b hand
+use Rattle.pfc_accept_laws.specs.Placed.{of_process, block_in, DoesIn, CallerIn, HandIn, WaitingIn, FirstIsPlain, IsPlacedIn, HasPlaces}
 
 module _ (g : Program) where
-  abbrev pub WaitingIn : ℕ → List Activation → Type 0
-  WaitingIn q [] = Unit {0}
-  WaitingIn q (a ∷ below) = CallerIn (block_in g q below) a.caller × WaitingIn q below
-
-  -- the first was entered by nothing
-  abbrev pub FirstIsPlain : List Activation → Type 0
-  FirstIsPlain [] = Unit {0}
-  FirstIsPlain (a ∷ []) = a.mark ≡ plain
-  FirstIsPlain (a ∷ (b ∷ below)) = FirstIsPlain (b ∷ below)
-
-  pub record IsPlacedIn (q : ℕ) (a : Activity) : Type 0 where
-    pub doing : DoesIn (block_in g q a.activations) a.doing
-    pub waiting : WaitingIn q a.activations
-    pub hand : HandIn (block_in g q a.activations) a.hand
-    pub first : FirstIsPlain a.activations
-
   abbrev pub places : Told
   places =
       record {
         program = g;
-        so = IsPlacedIn;
+        so = IsPlacedIn g;
         alive = λ activations. activations ≢ [];
         requeues = λ mark. mark ≢ plain;
         does = λ q l doing. DoesIn (block_in g q l) doing;
@@ -110,16 +64,16 @@ module _ (g : Program) where
   plain_below a [] first = tt
   plain_below a (b ∷ below) first = first
 
-  over : (q : ℕ) (a : Activity) (new : Activation) (l : List Activation) (doing : Doing) (display : Display) (line : ℕ) → l ≢ [] → WaitingIn q l
+  over : (q : ℕ) (a : Activity) (new : Activation) (l : List Activation) (doing : Doing) (display : Display) (line : ℕ) → l ≢ [] → WaitingIn g q l
       → CallerIn (block_in g q l) new.caller → FirstIsPlain l
-      → IsPlacedIn q (record { doing = doing; display = display; activations = new ∷ l; hand = empty_hand; line = line })
+      → IsPlacedIn g q (record { doing = doing; display = display; activations = new ∷ l; hand = empty_hand; line = line })
   over q a new [] doing display line some waiting caller first = absurd (some refl)
   over q a new (b ∷ below) doing display line some waiting caller first =
       record { doing = tt; waiting = (caller, waiting); hand = tt; first = first }
 
   instead : (q : ℕ) (top new : Activation) (below : List Activation) (doing : Doing) (display : Display) (line : ℕ) → top.mark ≢ plain
-      → new.caller ≡ top.caller → WaitingIn q (top ∷ below) → FirstIsPlain (top ∷ below)
-      → IsPlacedIn q (record { doing = doing; display = display; activations = new ∷ below; hand = empty_hand; line = line })
+      → new.caller ≡ top.caller → WaitingIn g q (top ∷ below) → FirstIsPlain (top ∷ below)
+      → IsPlacedIn g q (record { doing = doing; display = display; activations = new ∷ below; hand = empty_hand; line = line })
   instead q top new [] doing display line marked same waiting first = absurd (marked first)
   instead q top new (b ∷ below) doing display line marked same waiting first =
       record {
@@ -129,12 +83,7 @@ module _ (g : Program) where
         first = first;
       }
 
-  -- each process has its statements where their numbers say, and so many accepts as its body has scopes
-  abbrev pub HasPlaces : Type 0
-  HasPlaces = (q : ℕ) → 0 < q → IsBefore (process_block g q).next (process_block g q).env
-      × (stmts_scopes (process_block g q).stmts ≡ (process_block g q).accepts)
-
-  module _ (program : HasPlaces) where
+  module _ (program : HasPlaces g) where
     begins : (q : ℕ) → DoesIn (of_process g q) (going (process_block g q).env (body_of (process_block g q)))
     begins zero = tt
     begins (suc q) = let p = program (suc q) (above q) in body_places (process_block g (suc q)) p.0 p.1
@@ -158,17 +107,17 @@ module _ (g : Program) where
           left = λ q a top below doing is may so.
               record {
                 doing = may;
-                waiting = (subst (λ (l : List Activation). WaitingIn q l) is so.waiting).1;
+                waiting = (subst (λ (l : List Activation). WaitingIn g q l) is so.waiting).1;
                 hand = none_shown (block_in g q below);
                 first = plain_below top below (subst FirstIsPlain is so.first);
               };
           requeued = λ c q a top below b doing is marked so.
               instead q top (record top { number = new_number c; scope = b.scope; cells = cells_above below b }) below doing (new_display c b a.display) a.line
-              marked refl (subst (λ (l : List Activation). WaitingIn q l) is so.waiting) (subst FirstIsPlain is so.first);
+              marked refl (subst (λ (l : List Activation). WaitingIn g q l) is so.waiting) (subst FirstIsPlain is so.first);
           back = λ q a top below env k is by so.
-              subst (λ (c : Caller). CallerIn (block_in g q below) c) by (subst (λ (l : List Activation). WaitingIn q l) is so.waiting).0;
+              subst (λ (c : Caller). CallerIn (block_in g q below) c) by (subst (λ (l : List Activation). WaitingIn g q l) is so.waiting).0;
           result = λ q a top below x u v is by so.
-              (subst (λ (c : Caller). CallerIn (block_in g q below) c) by (subst (λ (l : List Activation). WaitingIn q l) is so.waiting).0) v;
+              (subst (λ (c : Caller). CallerIn (block_in g q below) c) by (subst (λ (l : List Activation). WaitingIn g q l) is so.waiting).0) v;
           scanned = λ q l env s k may. scan_first (block_in g q l) env s k may;
           offered = λ q a x os k is so.
               offered_so q a.activations x os k (block_in g q a.activations) refl

@@ -1,11 +1,11 @@
 -- Behind each step of a process all processes are placed.
-use Rattle.std.proofs.Common.{◌≡◌, ◌≢◌, ◌⊎◌, inl, ℕ, false, List, [], ◌∷◌, Option, Some, None, refl, sym, subst}
+use Rattle.std.proofs.Common.{◌≡◌, ◌≢◌, inl, ℕ, false, List, [], ◌∷◌, Option, Some, None, refl, sym, subst}
 use Rattle.pfc_state.specs.Stands.{is_unfinished}
 use Rattle.pfc_world.specs.Tables.{at}
 use Rattle.pfc_semantics.specs.Programs.{Block, Program}
 use Rattle.pfc_semantics.specs.Remainders.{Context, Argument, Call, Open, Otherwise, Selecting, Remainder, Way, Action, leave, own as trying, to_procedure, to_function, to_module, to_requeue, to_process, to_entry, reads, writes, turns, calls, finishes, prints, inputs, skips, asks_eof, asks_eoln, asks_clock, asks_empty, draws, joins, initials, waits, signals, delays, resumes, sleeps, meets, decides, parts, scans, bars, passes, faults}
-use Rattle.pfc_semantics.specs.Rewriting.{Doing, going, holding, next}
-use Rattle.pfc_semantics.specs.Configurations.{Activation, Activity, Hand, offering, asking, barred_at, Config, activity_of}
+use Rattle.pfc_semantics.specs.Rewriting.{Doing, going, next}
+use Rattle.pfc_semantics.specs.Configurations.{Activation, Hand, offering, asking, barred_at, Config, activity_of}
 use Rattle.pfc_semantics.specs.Events.{step}
 use Rattle.pfc_semantics.specs.Steps.{next_of}
 use Rattle.pfc_accept_laws.specs.Displays.{RequeuesInside}
@@ -18,7 +18,8 @@ use Rattle.pfc_accept_laws.proofs.StatementPlaces.{behind_places}
 use Rattle.pfc_accept_laws.proofs.Numbers.{placed_stmts}
 use Rattle.pfc_accept_laws.proofs.Meetings.{open_behind, meeting_places}
 use Rattle.pfc_accept_laws.proofs.NextPlaces.{next_places}
-use Rattle.pfc_accept_laws.proofs.Placed.{block_in, DoesIn, HandIn, HasPlaces, IsPlacedIn, places, places_told, all_placed, any_nothing}
+use Rattle.pfc_accept_laws.specs.Placed.{block_in, DoesIn, HandIn, HasPlaces}
+use Rattle.pfc_accept_laws.proofs.Placed.{places, places_told, all_placed, any_nothing}
 
 abbrev ActionIn : Option Block → Action → Type 0
 ActionIn None n = Unit {0}

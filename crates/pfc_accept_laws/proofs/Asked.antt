@@ -21,9 +21,9 @@ use Rattle.pfc_semantics.specs.Steps.{next_of, line_of, effect}
 use Rattle.pfc_semantics.specs.Time.{settled_config}
 use Rattle.pfc_accept_laws.specs.Shown.{ShowsArguments, IsToAsk}
 use Rattle.pfc_accept_laws.proofs.Lists.{set_changes}
-use Rattle.pfc_accept_laws.proofs.Each.{Told, IsTold, Each, it_shows}
-use Rattle.pfc_accept_laws.proofs.Communications.{called_at_so}
-use Rattle.pfc_accept_laws.proofs.Effects.{ShowsWay, ActsSo, effect_so}
+use Rattle.pfc_accept_laws.proofs.Each.{Told, any_open, IsTold, Each, it_shows}
+use Rattle.pfc_accept_laws.proofs.Communications.{SideSo, side_on, called_at_so}
+use Rattle.pfc_accept_laws.proofs.Effects.{ShowsWay, ActsSo, any_next, effect_so}
 use Rattle.pfc_accept_laws.proofs.Runs.{start_so, settled_so, done_so, after_so}
 use Rattle.pfc_accept_laws.proofs.Rows.{IsNoCall, wholly_so}
 use Rattle.pfc_accept_laws.proofs.Waits.{IsElse, after_rows, effect_rows}
@@ -106,22 +106,26 @@ module _ (asks : ℕ → ℕ → ℕ → ℕ → List Value → Type 0) (g : Pro
   AsksIn rows q hand = Unit {0}
 
   abbrev shown : List Stand → Told
-  shown rows = record { program = g; so = λ q a. AsksIn rows q a.hand; alive = λ activations. Unit {0}; requeues = λ mark. Unit {0} }
+  shown rows = record { program = g; so = λ q a. AsksIn rows q a.hand; alive = λ activations. Unit {0}; requeues = λ mark. Unit {0}; does = λ q l doing. Unit {0}; waits = λ q l caller. Unit {0} }
 
   told : (rows : List Stand) → IsTold (shown rows)
   told rows =
       record {
-        works = λ q a doing so. tt;
+        works = λ q a doing may so. tt;
         lined = λ q a line so. so;
         emptied = λ q a so. tt;
         ended = λ q a so. tt;
-        created = λ c q a doing so. tt;
-        called = λ c q a b mark caller doing some so. tt;
-        left = λ q a top below doing is so. tt;
+        created = λ c q a so. tt;
+        called = λ c q a b mark caller doing some waiting so. tt;
+        left = λ q a top below doing is may so. tt;
         requeued = λ c q a top below b doing is marked so. tt;
         main = tt;
         idle = λ q n. tt;
         nobody = λ q. tt;
+        back = λ q a top below env k is by so. tt;
+        result = λ q a top below x u v is by so. tt;
+        scanned = λ q l env s k so. tt;
+        offered = λ q a x os k is so. any_open (shown rows) (λ q l doing. tt) q a.activations x k os;
       }
 
   -- ## In a configuration
@@ -163,9 +167,9 @@ module _ (asks : ℕ → ℕ → ℕ → ℕ → List Value → Type 0) (g : Pro
   module _ (c : Config) (p choice : ℕ) (so : AreAsked c)
       (about : (owner entry ticket : ℕ) (values : List Value) → IsToAsk g c p owner entry values → asks p owner entry ticket values) where
     module _ (rows : List Stand) where
-      way_so : (way : Way) → ShowsWay (shown rows) p way
+      way_so : (way : Way) → ShowsWay (shown rows) p (activity_of g c p).activations way
       way_so leave = tt
-      way_so (own b) = λ a old. tt
+      way_so (own b) = λ a same old. tt
 
       acts_so : (n : Action) → IsElse n → ActsSo (shown rows) c p n
       acts_so (calls x (to_entry s entry k) given) other = absurd other
@@ -174,9 +178,9 @@ module _ (asks : ℕ → ℕ → ℕ → ℕ → List Value → Type 0) (g : Pro
       acts_so (calls x (to_function scope u) given) other = tt
       acts_so (calls x (to_module n scope k) given) other = tt
       acts_so (calls x (to_process s k) given) other = tt
-      acts_so (meets x o k) other = λ a old. tt
-      acts_so (decides x s k) other = λ a old. tt
-      acts_so (bars x b k) other = λ a old. tt
+      acts_so (meets x o k) other = λ a same old. tt
+      acts_so (decides x s k) other = λ a same old. tt
+      acts_so (bars x b k) other = λ a same old. tt
       acts_so (passes x w s k) other = way_so s.way
       acts_so n other = tt
 
@@ -189,7 +193,8 @@ module _ (asks : ℕ → ℕ → ℕ → ℕ → List Value → Type 0) (g : Pro
         let all : Each (shown rows) c = each_so c rows so same in
         as_asked d
         (after_so (shown rows) (told rows) c p (line_of n) (effect g c p choice n) all
-        (effect_so (shown rows) (told rows) c all p tt choice n (acts_so rows n other)))
+        (effect_so (shown rows) (told rows) c all p (inr (λ q l doing. tt)) tt choice n (acts_so rows n other)
+        (any_next (shown rows) (λ q l doing. tt) (λ q l caller. tt) p (activity_of g c p).activations n)))
 
     -- ## A call of an entry
 
@@ -233,6 +238,10 @@ module _ (asks : ℕ → ℕ → ℕ → ℕ → List Value → Type 0) (g : Pro
           as_asked (after g c p line (Err NotActive))
           (after_so (shown rows) (told rows) c p line (Err NotActive) (each_so c rows so (alike rows)) tt)
 
+      any_side : (rows : List Stand) (side : Option Side) → SideSo (shown rows) (told rows) q (activity_of g c q).activations side
+      any_side rows None = tt
+      any_side rows (Some side) = (tt, λ a is caller. tt)
+
       met_asked : AreAsked (done_at g (called_at g waiting p q values (side_of g c q (Entry entry))) p line)
       met_asked =
           let side : Option Side = side_of g c q (Entry entry) in
@@ -240,7 +249,8 @@ module _ (asks : ℕ → ℕ → ℕ → ℕ → List Value → Type 0) (g : Pro
           let rows : List Stand = d.table.rows in
           let now : Now rows = called_table g (λ (w : Table). Now w.rows) waiting p q values side (called_now c.table p q entry) in
           as_asked (done_at g d p line)
-          (done_so (shown rows) (told rows) d p line (called_at_so (shown rows) (told rows) waiting p q values side (on rows now)))
+          (done_so (shown rows) (told rows) d p line (called_at_so (shown rows) (told rows) waiting p q values side (on rows now)
+          (side_on (shown rows) (told rows) c p x k q side (any_side rows side))))
 
       waits_asked : AreAsked (done_at g (showing g waiting p (asking values)) p line)
       waits_asked =
@@ -248,7 +258,7 @@ module _ (asks : ℕ → ℕ → ℕ → ℕ → List Value → Type 0) (g : Pro
           let now : Now rows = called_now c.table p q entry in
           as_asked (done_at g (showing g waiting p (asking values)) p line)
           (done_so (shown rows) (told rows) (showing g waiting p (asking values)) p line
-          (it_shows (shown rows) (told rows) waiting p (asking values) (on rows now) (λ a old. new_so rows now)))
+          (it_shows (shown rows) (told rows) waiting p (asking values) (activity_of g waiting p).activations refl (on rows now) (λ a same old. new_so rows now)))
 
       entry_asked : AreAsked (after g c p line (enters g c p x s entry given k))
       entry_asked = by (is_uncalled c.table q) (is_accepting c.table.rows q entry)

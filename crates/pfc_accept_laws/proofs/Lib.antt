@@ -14,3 +14,5 @@ pub mod Rows
 pub mod Waits
 pub mod Offered
 pub mod Asked
+pub mod Placed
+pub mod PlacedSteps

@@ -32,3 +32,10 @@ module _ {X : Type 0} (P : X → Type 0) where
   pub all_map : {Y : Type 0} (f : Y → X) → ((y : Y) → P (f y)) → (ys : List Y) → AllByRecursion P (map f ys)
   all_map f each [] = tt
   all_map f each (y ∷ ys) = (each y, all_map f each ys)
+
+pub set_apart : {X : Type 0} (d : X) (xs : List X) (p q : ℕ) (x : X) → q ≢ p → get_or (set xs p x) q d ≡ get_or xs q d
+set_apart d [] p q x off = refl
+set_apart d (y ∷ xs) zero zero x off = absurd (off refl)
+set_apart d (y ∷ xs) zero (suc q) x off = refl
+set_apart d (y ∷ xs) (suc p) zero x off = refl
+set_apart d (y ∷ xs) (suc p) (suc q) x off = set_apart d xs p q x (λ same. off (ap suc same))

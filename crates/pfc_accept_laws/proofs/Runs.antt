@@ -10,8 +10,8 @@ use Rattle.pfc_semantics.specs.Processes.{ended_activity}
 use Rattle.pfc_semantics.specs.Time.{ended_children, terminated_over, settled_config}
 use Rattle.pfc_semantics.specs.Events.{step}
 use Rattle.pfc_semantics.specs.Steps.{next_of, line_of, effect}
-use Rattle.pfc_accept_laws.proofs.Each.{Told, IsTold, Each, EachIn, each_with}
-use Rattle.pfc_accept_laws.proofs.Effects.{ActsSo, effect_so}
+use Rattle.pfc_accept_laws.proofs.Each.{Told, IsTold, Each, acts_of, EachIn, each_with}
+use Rattle.pfc_accept_laws.proofs.Effects.{ActsApart, ActsSo, GoesOn, effect_so}
 
 module _ (t : Told) (told : IsTold t) where
   abbrev g : Program
@@ -59,6 +59,8 @@ module _ (t : Told) (told : IsTold t) where
   after_so c p line (Err f) all so = done_so (record c { fault = Some (record { process = p; line = line; fault = f }) }) p line all
 
   pub step_so :
-      (c : Config) (p choice : ℕ) → Each t c → t.alive (activity_of g c p).activations → ActsSo t c p (next_of g c p) → Each t (step g c p choice).config
-  step_so c p choice all alive acts =
-      after_so c p (line_of (next_of g c p)) (effect g c p choice (next_of g c p)) all (effect_so t told c all p alive choice (next_of g c p) acts)
+      (c : Config) (p choice : ℕ) → Each t c → ActsApart t c p → t.alive (activity_of g c p).activations
+      → ActsSo t c p (next_of g c p) → GoesOn t p (acts_of t c p) (next_of g c p) → Each t (step g c p choice).config
+  step_so c p choice all ready alive acts next =
+      after_so c p (line_of (next_of g c p)) (effect g c p choice (next_of g c p)) all
+      (effect_so t told c all p ready alive choice (next_of g c p) acts next)

@@ -1,3 +1,4 @@
 pub mod Displays
 pub mod Shown
 pub mod Places
+pub mod Placed

@@ -1,5 +1,5 @@
 //! The laws. The functions do nothing: their contracts are the laws.
-ghost use Rattle.std.specs.Prelude.{◌≡◌, ◌≢◌, ◌⊎◌, ◌<◌, ℕ, List, [], ◌∷◌};
+ghost use Rattle.std.specs.Prelude.{true, ◌≡◌, ◌≢◌, ◌⊎◌, ◌<◌, ℕ, List, [], ◌∷◌};
 ghost use Rattle.pfc_semantics.specs.Values.{Value};
 ghost use Rattle.pfc_semantics.specs.Programs.{Block, Program};
 ghost use Rattle.pfc_semantics.specs.Processes.{process_block};
@@ -13,6 +13,9 @@ ghost use Rattle.pfc_semantics.specs.Events.{step};
 ghost use Rattle.pfc_semantics.specs.Time.{settled_config};
 ghost use Rattle.pfc_accept_laws.specs.Displays.{first_display, AllGoBack, RequeuesInside};
 ghost use Rattle.pfc_accept_laws.specs.Places.{IsBefore, IsLow, IsOfBlock, PlacesOpen, PlacesRemainder, PlacesAction, PlacesDoing};
+ghost use Rattle.pfc_state.specs.Stands.{is_unfinished};
+ghost use Rattle.pfc_world.specs.Tables.{at};
+ghost use Rattle.pfc_accept_laws.specs.Placed.{AllPlaced, HasPlaces};
 ghost use Rattle.pfc_accept_laws.specs.Shown.{ShowsOpen, IsToOffer, ShowsArguments, IsToAsk, ArePassed, AllPass, Passes, TakesVariables};
 
 /// From the start on, while it settles, and behind each step of a process that has living activations, displays go back to those with which processes began. A
@@ -71,4 +74,13 @@ pub fn accepts_stand_once()
         → PlacesRemainder b x.env k → PlacesRemainder b x.env (meeting_of x a o caller k) }
     ensures stands { (b : Block) (x : Context) (o : Open) (a : Accepting) (k : Remainder) → o.offer ≡ to_accept a → PlacesOpen b x.env k o
         → IsOfBlock b a.scope × IsBefore a.scope x.env × IsLow a.scope k }
+{}
+
+/// From the start on, while it settles, and behind each step of a process that has living activations and is not created anew, all processes are placed, where
+/// the program has its statements so.
+pub fn processes_stay_placed()
+    ensures start { (g : Program) (input : List ℕ) (seed : ℕ) → HasPlaces g → AllPlaced g (start g input seed) }
+    ensures settles { (g : Program) (c : Config) → HasPlaces g → AllPlaced g c → AllPlaced g (settled_config c) }
+    ensures steps { (g : Program) (c : Config) (p choice : ℕ) → HasPlaces g → AllPlaced g c → is_unfinished (at c.table.rows p) ≡ true
+        → (activity_of g c p).activations ≢ [] → RequeuesInside g c p → AllPlaced g (step g c p choice).config }
 {}

@@ -58,10 +58,10 @@ module _ (facts : Facts) (m : Machine) (c : Config) (p : ℕ) (level : LivingLev
   abbrev ops : List ℤ
   ops = operands_of m.stacks p
 
-  abbrev pub cell : ℕ
+  abbrev cell : ℕ
   cell = accept_cell (site_of level.setting b x) acc.scope
 
-  abbrev pub size : ℕ
+  abbrev size : ℕ
   size = accept_cells (site_of level.setting b x) acc.scope
 
   abbrev words : List ℤ
@@ -144,6 +144,7 @@ module _ (facts : Facts) (m : Machine) (c : Config) (p : ℕ) (level : LivingLev
       (Ok (with_table (accepts_from g c p x acc o q k) (table.taken c.table p q)))
   begun_same =
       subst
-      (λ (ss : Stacks). ComeToSame facts m c p line (silent (Ok (machine_then ss))) (Ok (with_table (accepts_from g c p x acc o q k) (table.taken c.table p q))))
+      (λ (ss : Stacks). ComeToSame facts m c p line (silent (Ok (machine_then ss)))
+      (Ok (with_table (accepts_from g c p x acc o q k) (table.taken c.table p q))))
       (sym stacks_are)
       (subst (λ (s : Store). ComeToSame facts m c p line (silent (Ok (machine_then new_stacks))) (Ok (source_then s))) (sym store_is) both)

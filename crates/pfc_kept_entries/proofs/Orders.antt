@@ -65,15 +65,15 @@ module _ (stacks : Stacks) (p q to cell : ℕ) (words below : List ℤ) (off : q
   both = set (set stacks p then_both) q r
 
   -- the owner has the arguments, and the caller is without them
-  abbrev pub taken : Stacks
+  abbrev taken : Stacks
   taken = let wrote = written stacks place words in set wrote q (record (stack_of wrote q) { operands = below })
 
   -- then the owner goes to its branch
-  abbrev pub taken_first : Stacks
+  abbrev taken_first : Stacks
   taken_first = set taken p (record (stack_of taken p) { at = to })
 
   -- or it is there before
-  abbrev pub gone_first : Stacks
+  abbrev gone_first : Stacks
   gone_first =
       let wrote = written (moved stacks p to (operands_of stacks p)) place words in set wrote q (record (stack_of wrote q) { operands = below })
 

@@ -30,7 +30,7 @@ module _
     g = program_in facts
 
     module _ (k n : ℕ) (there : slice_get (block_at g 0).layout k ≡ Some (Process n)) where
-      its_own : Location
+      abbrev its_own : Location
       its_own = record { activation = 0; variable = k; selectors = [] }
 
       of_main : block_at g 0 ≡ g.main
@@ -39,7 +39,7 @@ module _
       in_main : slice_get g.main.layout k ≡ Some (Process n)
       in_main = subst (λ (z : Block). slice_get z.layout k ≡ Some (Process n)) of_main there
 
-      cell : Ref
+      abbrev cell : Ref
       cell = record {
         process = (first_home 0 0).process;
         cell = (first_home 0 0).cell + own_cells + cells_before g.state.forms (layout_at g (first_home 0 0)) k + 0;

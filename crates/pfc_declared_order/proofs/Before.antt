@@ -1,5 +1,5 @@
 -- What was named before a part of a program was declared before it.
-use Rattle.std.proofs.Common.{◌≡◌, ℕ, zero, suc, ◌+◌, ◌<◌, ◌≤◌, Bool, true, false, if◌then◌else◌, nat_lt, List, [], ◌∷◌, ◌++◌, length, length-append, get_or, map, bytes_eq, Option, Some, None, refl, sym, ap, ◌∙◌, subst, arith}
+use Rattle.std.proofs.Common.{◌≡◌, ℕ, zero, suc, ◌+◌, ◌<◌, Bool, true, false, if◌then◌else◌, nat_lt, List, [], ◌∷◌, ◌++◌, length, length-append, get_or, map, bytes_eq, Option, Some, None, refl, sym, ap, ◌∙◌, subst, arith}
 use Rattle.std.specs.Option.{IfSome}
 use Rattle.std.proofs.lemmas.Map.Entries.{All-lookup}
 use Rattle.std.proofs.Math.ListN.{get_or-append}
@@ -9,15 +9,15 @@ use Rattle.pfc_tree.specs.forget.Parts.{forget_parts, forget_program}
 use Rattle.pfc_tree.specs.lawful.Parts.{of_program, AreLawfulParts, IsLawful}
 use Rattle.pfc_types.specs.Growing.{Begins}
 use Rattle.pfc_types.specs.Scopes.{Names, Level, scope_at, here, meaning_in, position_in, within, meaning_of}
-use Rattle.pfc_types.specs.Blocks.{State, no_sub, no_module, sub_at, module_at}
+use Rattle.pfc_types.specs.Blocks.{State, no_sub, no_module, module_at}
 use Rattle.pfc_types.specs.declared.scope.Meaning.{Meaning}
 use Rattle.pfc_types.specs.declared.scope.Meaning.TheVariants.{Sub, Module}
 use Rattle.pfc_types.specs.declared.heads.SubHead.{SubHead}
 use Rattle.pfc_types.specs.declared.heads.ModuleHead.{ModuleHead}
-use Rattle.pfc_types.specs.rules.Bodies.{level, passed_part, part_scopes, parts_scopes}
-use Rattle.pfc_types.specs.rules.Declarations.{in_program, body_state, cells_rule, part_state, parts_state}
+use Rattle.pfc_types.specs.rules.Bodies.{level, part_scopes}
+use Rattle.pfc_types.specs.rules.Declarations.{in_program, cells_rule, part_state, parts_state}
 use Rattle.pfc_types.specs.rules.Whole.{begun, declared_parts, declared_all, main_cells, finished}
-use Rattle.pfc_types.proofs.Prefixes.{begins_same, begins_trans, begins_length, found_alike}
+use Rattle.pfc_types.proofs.Prefixes.{begins_same, begins_trans, found_alike}
 use Rattle.pfc_types.proofs.Walking.{held, note_kept}
 use Rattle.pfc_types.proofs.WalkStatements.{body_opened}
 use Rattle.pfc_types.proofs.WalkParts.{part_walked, parts_walked}

@@ -3,7 +3,7 @@ use Rattle.std.proofs.Common.{◌≡◌, ℕ, Bool, true, false, List, [], ◌�
 use Rattle.pfc_tree.specs.trees.Parts.{PartTree, PartTrees, ModuleTree, ProcessTree, consts, types, vars, sub_part, monitor, resource, process_part, no_parts, more_parts, the_module, process}
 use Rattle.pfc_tree.specs.forget.Parts.{forget_part, forget_parts, forget_module, forget_process}
 use Rattle.pfc_tree.specs.lawful.Parts.{Home, of_program, of_resource, of_other, HoldsModules, IsLawfulPart, AreLawfulParts, IsLawfulModule, IsLawfulProcess}
-use Rattle.pfc_types.specs.Scopes.{Level, scope_at, here}
+use Rattle.pfc_types.specs.Scopes.{Level, here}
 use Rattle.pfc_types.specs.Blocks.{State, add_module, open_scope}
 use Rattle.pfc_types.specs.declared.heads.ModuleHead.{ModuleHead}
 use Rattle.pfc_types.specs.declared.scope.Meaning.TheVariants.{Module}

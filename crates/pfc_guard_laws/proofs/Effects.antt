@@ -38,7 +38,7 @@ use Rattle.pfc_semantics.specs.Rendezvous.{called_at, enters}
 use Rattle.pfc_semantics.specs.Selects.{latest, matched_places}
 use Rattle.pfc_semantics.specs.Time.{slept, sleeps_for, clocked}
 use Rattle.pfc_semantics.specs.Steps.{enters_module, calls_by, returns_to, ends_for, ends_body, read_in, skipped_in, drawn_in, effect}
-use Rattle.pfc_guard_laws.specs.Tops.{Tops, Standing, standing_at, Beside, IsOrdered, Lives}
+use Rattle.pfc_guard_laws.specs.Tops.{Tops, standing_at, Beside, IsOrdered, Lives}
 use Rattle.pfc_guard_laws.specs.Written.{IsCalled, IsEntered, IsOfModule, RequeuesFrom, MayRequeue, SuitStmts}
 use Rattle.pfc_guard_laws.specs.Remainders.{SuitsBar, SuitsWay, SuitsScan, SuitsRemainder, SuitsAwaiting, SuitsCalling, SuitsAction}
 use Rattle.pfc_guard_laws.specs.Configurations.{SuitsInOrder, mark_in, scope_in, standing_in, StandsOn, SuitsCaller, SuitActivations, SuitsHand, SuitsConfig}

@@ -1,5 +1,5 @@
 -- Where whoever acts has an activation the activations of each process are in order, and it returns once from what it has entered.
-use Rattle.std.proofs.Common.{◌≡◌, ◌≢◌, ℕ, List, [], ◌∷◌, Some, Ok}
+use Rattle.std.proofs.Common.{ℕ, List, [], ◌∷◌, Some, Ok}
 use Rattle.pfc_semantics.specs.Programs.{Program}
 use Rattle.pfc_semantics.specs.Configurations.{main_activation, Config, activity_of, start}
 use Rattle.pfc_semantics.specs.Time.{settled_config}

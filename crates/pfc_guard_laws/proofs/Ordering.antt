@@ -1,9 +1,9 @@
 -- Calls, ends and requeues keep the order of activations.
-use Rattle.std.proofs.Common.{◌≡◌, ◌≢◌, ℕ, List, [], ◌∷◌, Option, Some, None, refl, sym, ◌∙◌, subst}
+use Rattle.std.proofs.Common.{◌≡◌, ℕ, List, [], ◌∷◌, Option, Some, None, refl, sym, ◌∙◌, subst}
 use Rattle.pfc_types.specs.rules.Expressions.{Env}
 use Rattle.pfc_semantics.specs.Remainders.{Remainder}
-use Rattle.pfc_semantics.specs.Configurations.{Mark, plain, Caller, of_nobody, of_remainder, Activation}
-use Rattle.pfc_guard_laws.specs.Tops.{Tops, StandsIn, ComesBefore, AreOrdered, Comes, Beside, IsOrdered, Lives}
+use Rattle.pfc_semantics.specs.Configurations.{Mark, plain, of_nobody, of_remainder, Activation}
+use Rattle.pfc_guard_laws.specs.Tops.{Tops, StandsIn, ComesBefore, Comes, Beside, IsOrdered, Lives}
 use Rattle.pfc_guard_laws.specs.Configurations.{StandsOn, scope_in}
 
 pub none_ordered : (tops : Option Tops) → IsOrdered tops []

@@ -1,11 +1,17 @@
 -- A sub that is named is declared in a scope in view.
-use Rattle.std.proofs.Common.{◌≡◌, ℕ, ◌⊎◌, inl, inr, Bool, true, false, ◌&&◌, cond, nat_lt, if◌then◌else◌, List, [], ◌∷◌, bytes_eq, option_map, Option, Some, None, refl, sym, ap, ◌∙◌}
+use Rattle.std.proofs.Common.{◌≡◌, ℕ, ◌⊎◌, inl, inr, Bool, true, false, ◌&&◌, cond, nat_lt, if◌then◌else◌, List, [], ◌∷◌, bytes_eq, option_map, Option, Some, None, refl, sym, ap, ◌∙◌, subst}
 use Rattle.std.specs.Option.{option_or}
 use Rattle.pfc_tree.specs.Symbols.{Text}
-use Rattle.pfc_types.specs.Scopes.{Names, Level, meaning_in, scope_at, position_in, predeclared_names, within, found_in, meaning_of}
+use Rattle.pfc_types.specs.Scopes.{Names, Level, all_names, meaning_in, scope_at, position_in, predeclared_names, within, found_in, meaning_of}
 use Rattle.pfc_types.specs.declared.view.Found.{Found}
 use Rattle.pfc_types.specs.declared.scope.Meaning.{Meaning}
-use Rattle.pfc_types.specs.declared.scope.Meaning.TheVariants.{Sub}
+use Rattle.pfc_types.specs.declared.scope.Meaning.TheVariants.{Sub, Module}
+use Rattle.pfc_types.specs.Blocks.{State}
+use Rattle.pfc_types.specs.rules.Expressions.{Env, find}
+use Rattle.pfc_types.specs.rules.Statements.{within_accept}
+use Rattle.pfc_semantics.specs.Programs.{Program}
+use Rattle.pfc_guard_laws.specs.Tops.{Tops}
+use Rattle.pfc_checked_guards.specs.Order.{InOrder, IsForParameters}
 use Rattle.pfc_image_numbers.proofs.Rules.{and_left, and_right}
 
 abbrev is_no_sub : Meaning → Bool
@@ -56,3 +62,39 @@ sub_named scopes (level ∷ view) x n e =
             → IsNamed scopes x n (level ∷ view)
         seen true e = inl (h ∙ e)
         seen false e = inr (rest e)
+
+-- what stands for no name of an accept's scope stands in view around it
+pub behind_accept :
+    (env : Env) (i : ℕ) (m : Meaning) → ((x : Text) → meaning_in (scope_at env.state.blocks.scopes i) x ≡ Some m → ⊥) → (x : Text)
+    → meaning_of (find (within_accept env i) x) ≡ Some m → meaning_of (find env x) ≡ Some m
+behind_accept env i m none x e = by (position_in (scope_at env.state.blocks.scopes i) x) (meaning_in (scope_at env.state.blocks.scopes i) x) refl e
+  where
+    own : Level
+    own = all_names env.state.blocks.scopes i
+
+    by : (k : Option ℕ) (o : Option Meaning) → meaning_in (scope_at env.state.blocks.scopes i) x ≡ o
+        → meaning_of (option_or (within own k o) (find env x)) ≡ Some m → meaning_of (find env x) ≡ Some m
+    by None o h e = e
+    by (Some k) None h e = e
+    by (Some k) (Some n) h e = seen (nat_lt k own.count) e
+      where
+        seen : (b : Bool)
+            → meaning_of (option_or (if b then Some (record { scope = Some own.scope; place = k; meaning = n }) else None) (find env x)) ≡ Some m
+            → meaning_of (find env x) ≡ Some m
+        seen true e = absurd (none x (h ∙ e))
+        seen false e = e
+
+-- So names are in order in an accept where they are so around it.
+pub within_order :
+    (g : Program) (tops : Option Tops) (i : ℕ) (env : Env) (n : ℕ) → env.state ≡ g.state → InOrder g tops i env → IsForParameters g n
+    → InOrder g tops i (within_accept env n)
+within_order g tops i env n same order own =
+    record {
+      called = λ x k e.
+          order.called x k
+          (behind_accept env n (Sub k) (λ y h. own.subs y k (subst (λ (s : State). meaning_in (scope_at s.blocks.scopes n) y ≡ Some (Sub k)) same h)) x e);
+      entered = λ x y j k e exported.
+          order.entered x y j k
+          (behind_accept env n (Module j) (λ z h. own.modules z j (subst (λ (s : State). meaning_in (scope_at s.blocks.scopes n) z ≡ Some (Module j)) same h)) x e)
+          exported;
+    }

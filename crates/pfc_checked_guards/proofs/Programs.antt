@@ -6,13 +6,13 @@ use Rattle.pfc_tree.specs.trees.Stmts.{BodyTree, StmtTrees, body}
 use Rattle.pfc_tree.specs.trees.Parts.{KindTree, PartTree, PartTrees, SubTree, ModuleTree, ProcessTree, ProgramTree, procedure, function, guarded, consts, types, vars, sub_part, monitor, resource, process_part, no_parts, more_parts, sub, the_module, process}
 use Rattle.pfc_tree.specs.forget.Parts.{forget_parts, forget_part, forget_sub, forget_module, forget_process, forget_kind, forget_program}
 use Rattle.pfc_tree.specs.lawful.Parts.{Home, of_program, of_resource as in_resource, of_other, HoldsModules, HoldsGuarded, IsLawfulKind, IsLawfulPart, AreLawfulParts, IsLawfulSub, IsLawfulModule, IsLawfulProcess, IsLawful}
-use Rattle.pfc_types.specs.Scopes.{Level, meaning_in, scope_at, here}
+use Rattle.pfc_types.specs.Scopes.{Level, meaning_of, meaning_in, scope_at, here}
 use Rattle.pfc_types.specs.Blocks.{Blocks, State, sub_at, module_at}
 use Rattle.pfc_types.specs.declared.heads.SubSort.TheVariants.{Guarded}
 use Rattle.pfc_types.specs.declared.scope.Meaning.TheVariants.{Sub}
 use Rattle.pfc_types.specs.declared.view.Around.{Around}
-use Rattle.pfc_types.specs.rules.Expressions.{Env}
-use Rattle.pfc_types.specs.rules.Statements.{broken_stmts, broken_body}
+use Rattle.pfc_types.specs.rules.Expressions.{Env, find}
+use Rattle.pfc_types.specs.rules.Statements.{within_accept, stmts_scopes, broken_stmts, broken_body}
 use Rattle.pfc_types.specs.rules.Bodies.{env_at, around_main, around_nothing, around_process, around_sub, around_guard, passed, passed_part, passed_groups, passed_entries, part_scopes, parts_scopes, level, broken_when, broken_init, broken_part, broken_parts, broken_sub, broken_module, broken_process}
 use Rattle.pfc_types.specs.rules.Whole.{finished, broken, faults_in}
 use Rattle.pfc_semantics.specs.Layouts.{Layout, main_layout, sub_layout_at}
@@ -23,12 +23,15 @@ use Rattle.pfc_translation.specs.Sites.{module_of}
 use Rattle.pfc_translation.specs.Calls.{number_or_none, resource_of}
 use Rattle.pfc_translation.specs.Images.{site_in}
 use Rattle.pfc_image_numbers.proofs.Rules.{IsClean, clean_of}
-use Rattle.pfc_guard_laws.specs.Written.{IsInResource, IsOfModule, IsEntered, MayRequeue, SuitsExpr, SuitStmts}
-use Rattle.pfc_guard_laws.specs.Configurations.{SuitsBody, SuitsBlock, SuitsProgram}
+use Rattle.pfc_guard_laws.specs.Tops.{Tops, Standing, standing_at, Beside}
+use Rattle.pfc_guard_laws.specs.Written.{IsInResource, RequeuesFrom, SuitsExpr, SuitStmts}
+use Rattle.pfc_guard_laws.specs.Configurations.{SuitsBody, SuitsBlock, SuitsInOrder, SuitsProgram}
 use Rattle.pfc_guard_laws.proofs.Lists.{all_append, all_push}
 use Rattle.pfc_checked_guards.specs.Subs.{SubsStand, ModulesStand}
-use Rattle.pfc_checked_guards.proofs.Names.{IsNamed, sub_named}
+use Rattle.pfc_checked_guards.specs.Order.{scope_of_sub, InOrder, Along, IsInOrder, IsForParameters, ProgramInOrder}
+use Rattle.pfc_checked_guards.proofs.Names.{IsNamed, sub_named, within_order}
 use Rattle.pfc_checked_guards.proofs.Expressions.{expr_called}
+use Rattle.pfc_checked_guards.proofs.Calls.{IsExported}
 use Rattle.pfc_checked_guards.proofs.Statements.{IsPlace, stmts_called}
 
 -- Guarded procedures stand in a scope in the program's.
@@ -52,7 +55,12 @@ none_some n e = cc
 false_true : false ≡ true → ⊥
 false_true e = cc
 
-module _ (t : ProgramTree) (subs : SubsStand (program_of t) (finished t).blocks) (modules : ModulesStand (program_of t) (finished t).blocks) where
+none_there : (i : ℕ) → Some i ≡ None → ⊥
+none_there i e = cc
+
+module _ (t : ProgramTree) (subs : SubsStand (program_of t) (finished t).blocks) (modules : ModulesStand (program_of t) (finished t).blocks)
+    (tops : Option Tops) (P : ℕ → Type 0)
+    (within : (i : ℕ) (env : Env) (n : ℕ) → env.state ≡ finished t → InOrder (program_of t) tops i env → P n → InOrder (program_of t) tops i (within_accept env n)) where
   abbrev g : Program
   g = program_of t
 
@@ -68,8 +76,9 @@ module _ (t : ProgramTree) (subs : SubsStand (program_of t) (finished t).blocks)
   number_of callee i n outer there =
       sym (ap (λ (j : ℕ). number_or_none bs (module_of bs j)) outer ∙ ap (λ (o : Option ℕ). number_or_none bs o) there)
 
-  entered : (n p : ℕ) (x : Text) → meaning_in (scope_at bs.scopes (module_at bs n).scope) x ≡ Some (Sub p) → IsEntered g n (sub_at bs p).scope
-  entered n p x e = by (module_at bs n).resource refl
+  exported : (n p : ℕ) (x : Text) → meaning_in (scope_at bs.scopes (module_at bs n).scope) x ≡ Some (Sub p)
+      → IsExported g (module_at bs n).resource (module_number bs n) (sub_at bs p).scope
+  exported n p x e = by (module_at bs n).resource refl
     where
       outer : (block_at g (sub_at bs p).scope).outer ≡ (module_at bs n).scope
       outer = subs.declared p (module_at bs n).scope x e
@@ -82,7 +91,7 @@ module _ (t : ProgramTree) (subs : SubsStand (program_of t) (finished t).blocks)
           let same = modules.modules n there.0 (ap (λ (j : ℕ). module_of bs j) (sym outer) ∙ there.1) in
           absurd (false_true (sym kind ∙ ap (λ (k : ℕ). (module_at bs k).resource) (sym same) ∙ there.2))
 
-      by : (r : Bool) → (module_at bs n).resource ≡ r → IsOfModule g r (module_number bs n) (sub_at bs p).scope
+      by : (r : Bool) → (module_at bs n).resource ≡ r → IsExported g r (module_number bs n) (sub_at bs p).scope
       by true kind = number_of (sub_at bs p).scope (module_at bs n).scope n outer (modules.resources n kind)
       by false kind = unguarded (block_at g (sub_at bs p).scope).guard refl kind
 
@@ -92,7 +101,7 @@ module _ (t : ProgramTree) (subs : SubsStand (program_of t) (finished t).blocks)
   same_resource :
       (own around main : Level) (x : Text) (n : ℕ) → module_of bs own.scope ≡ None → main.scope ≡ 0
       → IsNamed bs.scopes x n (own ∷ around ∷ main ∷ []) → (sub_at bs n).sort ≡ Guarded
-      → MayRequeue g (of_resource (number_or_none bs (module_of bs around.scope))) (sub_at bs n).scope
+      → RequeuesFrom g (of_resource (number_or_none bs (module_of bs around.scope))) (sub_at bs n).scope
   same_resource own around main x n apart program named sort = (by named, subs.guarded n sort)
     where
       callee : Block
@@ -117,36 +126,51 @@ module _ (t : ProgramTree) (subs : SubsStand (program_of t) (finished t).blocks)
   -- ## Bodies
 
   -- no requeue stands where no guarded procedure is around
-  free_place : (mark : Mark) (view : List Level) (a : Around) → a.guarded ≡ false → IsPlace g mark (env_at s view a) a
-  free_place mark view a free =
+  free_place : (mark : Mark) (i : ℕ) (view : List Level) (a : Around) → a.guarded ≡ false → InOrder g tops i (env_at s view a)
+      → IsPlace g (standing_at tops mark i) (env_at s view a) a
+  free_place mark i view a free order =
       record {
         subs = subs;
-        entered = entered;
+        exported = exported;
+        state = refl;
+        order = order;
         guarded_sub = λ h. absurd (false_true (sym free ∙ h));
         requeues = λ h x n e sort. absurd (false_true (sym free ∙ h));
       }
 
-  free_body : (mark : Mark) (view : List Level) (a : Around) (next : ℕ) (ss : StmtTrees) → a.guarded ≡ false
-      → IsClean (broken_stmts (env_at s view a) next ss) → SuitStmts g mark (env_at s view a) next ss
-  free_body mark view a next ss free h = stmts_called g mark (env_at s view a) a (free_place mark view a free) next ss h
+  free_body :
+      (mark : Mark) (i : ℕ) (view : List Level) (a : Around) (next : ℕ) (ss : StmtTrees) → a.guarded ≡ false → InOrder g tops i (env_at s view a)
+      → Along P next (stmts_scopes ss) → IsClean (broken_stmts (env_at s view a) next ss)
+      → SuitStmts g (standing_at tops mark i) (env_at s view a) next ss
+  free_body mark i view a next ss free order own h =
+      stmts_called g (standing_at tops mark i) P (within i) (env_at s view a) a (free_place mark i view a free order) next ss h own
 
   guarded_place :
-      (own around main : Level) (view : List Level) (a : Around) → view ≡ own ∷ around ∷ main ∷ [] → module_of bs own.scope ≡ None → main.scope ≡ 0
-      → a.sub ≡ true → IsPlace g (of_resource (number_or_none bs (module_of bs around.scope))) (env_at s view a) a
-  guarded_place own around main view a is apart program inside =
+      (own around main : Level) (i : ℕ) (view : List Level) (a : Around) → view ≡ own ∷ around ∷ main ∷ [] → module_of bs own.scope ≡ None → main.scope ≡ 0
+      → a.sub ≡ true → InOrder g tops i (env_at s view a)
+      → ((x : Text) (n : ℕ) → meaning_of (find (env_at s view a) x) ≡ Some (Sub n) → (sub_at bs n).sort ≡ Guarded → Beside tops (scope_of_sub g bs n) i)
+      → IsPlace g (standing_at tops (of_resource (number_or_none bs (module_of bs around.scope))) i) (env_at s view a) a
+  guarded_place own around main i view a is apart program inside order beside =
       record {
         subs = subs;
-        entered = entered;
+        exported = exported;
+        state = refl;
+        order = order;
         guarded_sub = λ h. inside;
-        requeues = λ h x n e sort.
-            same_resource own around main x n apart program (subst (λ (v : List Level). IsNamed bs.scopes x n v) is (sub_named bs.scopes view x n e)) sort;
+        requeues = λ h x n e sort. (
+          same_resource own around main x n apart program
+              (subst (λ (v : List Level). IsNamed bs.scopes x n v) is (sub_named bs.scopes view x n e)) sort,
+          beside x n e sort,
+        );
       }
 
   -- a body, once it is known that its scope is that of no module
   abbrev HalfBody : Block → Option Guard → Type 0
-  HalfBody b None = (mark : Mark) → SuitStmts g mark b.env b.next b.stmts
+  HalfBody b None = IsInOrder g tops P b.scope b → (mark : Mark) → SuitStmts g (standing_at tops mark b.scope) b.env b.next b.stmts
   HalfBody b (Some guard) =
-      (module_of bs b.scope ≡ None → SuitStmts g (of_resource (resource_of (site_in g b))) b.env b.next b.stmts) × SuitsExpr g guard.env guard.test
+      (IsInOrder g tops P b.scope b → module_of bs b.scope ≡ None
+      → SuitStmts g (standing_at tops (of_resource (resource_of (site_in g b))) b.scope) b.env b.next b.stmts)
+      × ((standing : Standing) → standing.tops ≡ tops → SuitsExpr g standing guard.env guard.test)
 
   abbrev Half : Block → Type 0
   Half b = HalfBody b b.guard
@@ -159,11 +183,15 @@ module _ (t : ProgramTree) (subs : SubsStand (program_of t) (finished t).blocks)
       → Half (block_of next i (env_at s (here bs.scopes next (around ∷ outer)) (around_sub in_process kind)) behind b layout 0
       (guard_of (env_at s (level next c ∷ level i n ∷ outer) (around_guard i)) kind))
   sub_half h in_process i n c next behind around outer procedure (body ss first last) layout at main lawful guard clean =
-      λ mark. free_body mark (here bs.scopes next (around ∷ outer)) (around_sub in_process procedure) behind ss refl clean
+      λ so mark. free_body mark next (here bs.scopes next (around ∷ outer)) (around_sub in_process procedure) behind ss refl so.names so.own clean
   sub_half h in_process i n c next behind around outer (function x p) (body ss first last) layout at main lawful guard clean =
-      λ mark. free_body mark (here bs.scopes next (around ∷ outer)) (around_sub in_process (function x p)) behind ss refl clean
-  sub_half h in_process i n c next behind around outer (guarded e p) (body ss first last) layout at main lawful guard clean =
-      (λ apart. by apart (main lawful.0), expr_called g (env_at s (level next c ∷ level i n ∷ outer) (around_guard i)) (around_guard i) subs e guard.0)
+      λ so mark. free_body mark next (here bs.scopes next (around ∷ outer)) (around_sub in_process (function x p)) behind ss refl so.names so.own clean
+  sub_half h in_process i n c next behind around outer (guarded e p) (body ss first last) layout at main lawful guard clean = (
+    λ so apart. by apart (main lawful.0) so.names so.own (λ x n e sort. so.requeues refl x n e sort),
+    λ standing same.
+        expr_called g standing (env_at s (level next c ∷ level i n ∷ outer) (around_guard i)) (around_guard i) subs
+        (λ x k none named. absurd (none_there i none)) e guard.0,
+  )
     where
       a : Around
       a = around_sub in_process (guarded e p)
@@ -171,20 +199,24 @@ module _ (t : ProgramTree) (subs : SubsStand (program_of t) (finished t).blocks)
       view : List Level
       view = here bs.scopes next (around ∷ outer)
 
-      by : module_of bs next ≡ None → (m : ℕ) × (outer ≡ level 0 m ∷ [])
-          → SuitStmts g (of_resource (number_or_none bs (module_of bs i))) (env_at s view a) behind ss
-      by apart top =
+      by : module_of bs next ≡ None → (m : ℕ) × (outer ≡ level 0 m ∷ []) → InOrder g tops next (env_at s view a) → Along P behind (stmts_scopes ss)
+          → ((x : Text) (n : ℕ) → meaning_of (find (env_at s view a) x) ≡ Some (Sub n) → (sub_at bs n).sort ≡ Guarded → Beside tops (scope_of_sub g bs n) next)
+          → SuitStmts g (standing_at tops (of_resource (number_or_none bs (module_of bs i))) next) (env_at s view a) behind ss
+      by apart top order along beside =
           let own : Level = record { scope = next; count = length (scope_at bs.scopes next) } in
           let is : view ≡ own ∷ around ∷ level 0 top.0 ∷ [] = ap (λ (l : List Level). here bs.scopes next (around ∷ l)) top.1 in
-          let place = guarded_place own around (level 0 top.0) view a is apart refl refl in
-          subst (λ (j : ℕ). SuitStmts g (of_resource (number_or_none bs (module_of bs j))) (env_at s view a) behind ss) at
-          (stmts_called g (of_resource (number_or_none bs (module_of bs around.scope))) (env_at s view a) a place behind ss clean)
+          let place = guarded_place own around (level 0 top.0) next view a is apart refl refl order beside in
+          subst (λ (j : ℕ). SuitStmts g (standing_at tops (of_resource (number_or_none bs (module_of bs j))) next) (env_at s view a) behind ss) at
+          (stmts_called g (standing_at tops (of_resource (number_or_none bs (module_of bs around.scope))) next) P (within next) (env_at s view a) a place behind
+          ss clean along)
 
   free_half :
-      (scope outer next : ℕ) (view : List Level) (a : Around) (b : BodyTree) (layout : Layout) (accepts : ℕ) → a.guarded ≡ false
-      → IsClean (broken_stmts (env_at s view a) next (stmts_in b)) → (mark : Mark)
-      → (let x = block_of scope outer (env_at s view a) next b layout accepts None in SuitStmts g mark x.env x.next x.stmts)
-  free_half scope outer next view a (body ss first last) layout accepts free clean mark = free_body mark view a next ss free clean
+      (at scope outer next : ℕ) (view : List Level) (a : Around) (b : BodyTree) (layout : Layout) (accepts : ℕ) → a.guarded ≡ false
+      → IsClean (broken_stmts (env_at s view a) next (stmts_in b))
+      → (let x = block_of scope outer (env_at s view a) next b layout accepts None in
+      IsInOrder g tops P at x → (mark : Mark) → SuitStmts g (standing_at tops mark at) x.env x.next x.stmts)
+  free_half at scope outer next view a (body ss first last) layout accepts free clean so mark =
+      free_body mark at view a next ss free so.names so.own clean
 
   -- ## Declarations
 
@@ -243,18 +275,18 @@ module _ (t : ProgramTree) (subs : SubsStand (program_of t) (finished t).blocks)
         let around = level i (passed (scope_at bs.scopes i) n x) ∷ outer in
         all_push Half (parts_blocks s true next count around (next + 1) ps) _
         (parts_half of_other true next count around (next + 1) ps (λ none. absurd none) (λ none. absurd none) lawful.2 clean.0)
-        (λ mark. free_body mark (here bs.scopes next around) around_process (next + 1 + parts_scopes ps) ss refl clean.1)
+        (λ so mark. free_body mark next (here bs.scopes next around) around_process (next + 1 + parts_scopes ps) ss refl so.names so.own clean.1)
 
   -- ## Initialising bodies
 
   abbrev Init : Block → Type 0
-  Init b = SuitStmts g plain b.env b.next b.stmts
+  Init b = IsInOrder g tops P 0 b → SuitStmts g (standing_at tops plain 0) b.env b.next b.stmts
 
   init_suits :
       (scope : ℕ) (view : List Level) (next : ℕ) (b : Option BodyTree) → IsClean (broken_init s view next b)
       → AllByRecursion Init (init_block s scope view next b)
   init_suits scope view next None clean = tt
-  init_suits scope view next (Some (body ss first last)) clean = (free_body plain view around_nothing next ss refl clean, tt)
+  init_suits scope view next (Some (body ss first last)) clean = (λ so. free_body plain 0 view around_nothing next ss refl so.names so.own clean, tt)
 
   module_inits_suit :
       (n next : ℕ) (m : ModuleTree) → IsClean (broken_module s 0 n [] next m) → AllByRecursion Init (module_inits s n next m)
@@ -278,27 +310,69 @@ module _ (t : ProgramTree) (subs : SubsStand (program_of t) (finished t).blocks)
 
   -- ## The whole
 
-  whole_body : (b : Block) (o : Option Guard) → HalfBody b o → module_of bs b.scope ≡ None → SuitsBody g b o
-  whole_body b None half apart = half
-  whole_body b (Some guard) half apart = (half.0 apart, half.1)
+  whole_body : (b : Block) (o : Option Guard) → HalfBody b o → IsInOrder g tops P b.scope b → module_of bs b.scope ≡ None → SuitsBody g tops b o
+  whole_body b None half so apart = half so
+  whole_body b (Some guard) half so apart = (half.0 so apart, half.1)
 
-  all_whole : (xs : List Block) → AllByRecursion Half xs → AllByRecursion (λ (x : Block). module_of bs x.scope ≡ None) xs → AllByRecursion (SuitsBlock g) xs
-  all_whole [] half apart = tt
-  all_whole (b ∷ xs) half apart = (whole_body b b.guard half.0 apart.0, all_whole xs half.1 apart.1)
+  all_whole :
+      (xs : List Block) → AllByRecursion Half xs → AllByRecursion (λ (x : Block). IsInOrder g tops P x.scope x) xs
+      → AllByRecursion (λ (x : Block). module_of bs x.scope ≡ None) xs → AllByRecursion (SuitsBlock g tops) xs
+  all_whole [] half so apart = tt
+  all_whole (b ∷ xs) half so apart = (whole_body b b.guard half.0 so.0 apart.0, all_whole xs half.1 so.1 apart.1)
 
-  pub program_suits : IsLawful (forget_program t) → broken t ≡ [] → SuitsProgram g
-  program_suits lawful whole =
+  all_inits :
+      (xs : List Block) → AllByRecursion Init xs → AllByRecursion (λ (x : Block). IsInOrder g tops P 0 x) xs
+      → AllByRecursion (λ (b : Block). SuitStmts g (standing_at tops plain 0) b.env b.next b.stmts) xs
+  all_inits [] half so = tt
+  all_inits (b ∷ xs) half so = (half.0 so.0, all_inits xs half.1 so.1)
+
+  no_guard_in_main : (b : BodyTree)
+      → (let x = block_of 0 0 (env_of_main s) (1 + parts_scopes t.parts) b (main_layout bs (scope_at bs.scopes 0)) 0 None in
+      (x.guard ≡ None) × (x.scope ≡ 0))
+  no_guard_in_main (body ss first last) = (refl, refl)
+
+  pub program_whole :
+      AllByRecursion (λ (x : Block). IsInOrder g tops P x.scope x) g.blocks → AllByRecursion (λ (x : Block). IsInOrder g tops P 0 x) g.modules
+      → IsInOrder g tops P 0 g.main → IsLawful (forget_program t) → broken t ≡ [] → SuitsInOrder g tops
+  program_whole blocks inits main lawful whole =
       let clean = (clean_of (faults_in (finished t) t) whole).1 in
       record {
         blocks =
-            all_whole g.blocks (parts_half of_program false 0 0 [] 1 t.parts (λ top. (refl, refl)) (λ none. absurd none) lawful.0 clean.0) modules.bodies;
-        modules = inits_suit 0 1 t.parts clean.0;
-        main = free_half 0 0 (1 + parts_scopes t.parts) (here bs.scopes 0 []) around_main t.body _ 0 refl
-            (body_clean (env_of_main s) (1 + parts_scopes t.parts) t.body clean.1);
-        main_unguarded = no_guard_in_main t.body;
+            all_whole g.blocks (parts_half of_program false 0 0 [] 1 t.parts (λ top. (refl, refl)) (λ none. absurd none) lawful.0 clean.0) blocks
+            modules.bodies;
+        modules = all_inits g.modules (inits_suit 0 1 t.parts clean.0) inits;
+        main = free_half 0 0 0 (1 + parts_scopes t.parts) (here bs.scopes 0 []) around_main t.body _ 0 refl
+            (body_clean (env_of_main s) (1 + parts_scopes t.parts) t.body clean.1) main;
+        main_unguarded = (no_guard_in_main t.body).0;
+        main_scope = (no_guard_in_main t.body).1;
         processes_unguarded = modules.processes;
       }
-    where
-      no_guard_in_main : (b : BodyTree)
-          → (block_of 0 0 (env_of_main s) (1 + parts_scopes t.parts) b (main_layout bs (scope_at bs.scopes 0)) 0 None).guard ≡ None
-      no_guard_in_main (body ss first last) = refl
+
+-- where what is named comes in order
+pub program_in_order :
+    (t : ProgramTree) → SubsStand (program_of t) (finished t).blocks → ModulesStand (program_of t) (finished t).blocks → (tops : Option Tops)
+    → ProgramInOrder (program_of t) tops → IsLawful (forget_program t) → broken t ≡ [] → SuitsInOrder (program_of t) tops
+program_in_order t subs modules tops order lawful whole =
+    program_whole t subs modules tops (IsForParameters (program_of t)) (λ i env n same so own. within_order (program_of t) tops i env n same so own)
+    order.blocks order.modules order.main lawful whole
+
+-- ## Without an order
+
+module _ (g : Program) where
+  names_alone : (i : ℕ) (env : Env) → InOrder g None i env
+  names_alone i env = record { called = λ x n e. tt; entered = λ x y j n e f. tt }
+
+  block_alone : (i : ℕ) (b : Block) → IsInOrder g None (λ n. Unit {0}) i b
+  block_alone i b = record { names = names_alone i b.env; own = λ n low high. tt; requeues = λ some x n e sort. tt }
+
+  all_alone : (at : Block → ℕ) (xs : List Block) → AllByRecursion (λ (x : Block). IsInOrder g None (λ n. Unit {0}) (at x) x) xs
+  all_alone at [] = tt
+  all_alone at (b ∷ xs) = (block_alone (at b) b, all_alone at xs)
+
+pub program_suits :
+    (t : ProgramTree) → SubsStand (program_of t) (finished t).blocks → ModulesStand (program_of t) (finished t).blocks → IsLawful (forget_program t)
+    → broken t ≡ [] → SuitsProgram (program_of t)
+program_suits t subs modules lawful whole =
+    let g = program_of t in
+    program_whole t subs modules None (λ n. Unit {0}) (λ i env n same so own. names_alone g i (within_accept env n)) (all_alone g (λ b. b.scope) g.blocks)
+    (all_alone g (λ b. 0) g.modules) (block_alone g 0 g.main) lawful whole

@@ -1,1 +1,2 @@
 pub mod Subs
+pub mod Order

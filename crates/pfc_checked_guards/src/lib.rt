@@ -6,4 +6,4 @@
 
 mod laws;
 
-pub use laws::checked_programs_call_as_asked;
+pub use laws::{checked_programs_call_as_asked, checked_programs_call_in_order};

@@ -1,5 +1,5 @@
 -- A run keeps to all rules where it returns once from what it has entered, and holds what it resumes in.
-use Rattle.std.proofs.Common.{◌≡◌, ℕ, List, [], ◌∷◌, refl}
+use Rattle.std.proofs.Common.{◌≡◌, ℕ, List, [], ◌∷◌, None, refl}
 use Rattle.pfc_semantics.specs.Programs.{Program}
 use Rattle.pfc_semantics.specs.Remainders.{Action, finishes, resumes, scans, bars, passes}
 use Rattle.pfc_semantics.specs.Configurations.{Config, main_activation, start}
@@ -34,9 +34,9 @@ run_keeps g input seed c p program comes outside holds =
     let first = start g input seed in
     let run = runs_to g first c comes in
     record {
-      barred = all_barred g program first c (λ q. main_activation g ∷ [], start_suits g (λ own s. Unit {0}) program input seed) run;
+      barred = all_barred g program first c (λ q. main_activation g ∷ [], start_suits g None (λ own s. Unit {0}) program input seed) run;
       action =
           by_rules g (settled_config c) p outside holds (next_of g (settled_config c) p) refl
-          (next_guards g program first c (λ q. main_activation g ∷ [], start_suits g (λ own s. Unit {0}) program input seed) run p)
-          (next_left g program first c (λ q. main_activation g ∷ [], start_suits g Left program input seed) comes p);
+          (next_guards g program first c (λ q. main_activation g ∷ [], start_suits g None (λ own s. Unit {0}) program input seed) run p)
+          (next_left g program first c (λ q. main_activation g ∷ [], start_suits g None Left program input seed) comes p);
     }

@@ -4,6 +4,7 @@ pub mod Alternatives
 pub mod Statements
 pub mod Rewriting
 pub mod Found
+pub mod Ordering
 pub mod Steps
 pub mod Communications
 pub mod Effects
@@ -11,3 +12,4 @@ pub mod Runs
 pub mod Leaving
 pub mod Keeping
 pub mod Tops
+pub mod Living

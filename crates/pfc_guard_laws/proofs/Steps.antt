@@ -14,10 +14,12 @@ use Rattle.pfc_semantics.specs.Calls.{most_cells, unless_full, new_number, new_v
 use Rattle.pfc_semantics.specs.Resources.{bar_of, guarded_body}
 use Rattle.pfc_translation.specs.Calls.{resource_of}
 use Rattle.pfc_translation.specs.Images.{site_in}
+use Rattle.pfc_guard_laws.specs.Tops.{Tops, Standing, standing_at, Comes, IsOrdered, Lives}
 use Rattle.pfc_guard_laws.specs.Written.{IsUnguarded, IsInResource, SuitStmts}
 use Rattle.pfc_guard_laws.specs.Remainders.{SuitsBar, SuitsRemainder, SuitsAwaiting, SuitsDoing}
-use Rattle.pfc_guard_laws.specs.Configurations.{SuitsBody, SuitsBlock, SuitsProgram, mark_in, StandsOn, SuitsCaller, SuitActivations, SuitsHand, SuitsActivity, SuitsConfig}
+use Rattle.pfc_guard_laws.specs.Configurations.{SuitsBody, SuitsBlock, SuitsInOrder, scope_in, standing_in, StandsOn, SuitsCaller, SuitActivations, SuitsHand, SuitsActivity, SuitsConfig}
 use Rattle.pfc_guard_laws.proofs.Statements.{behind_suits}
+use Rattle.pfc_guard_laws.proofs.Ordering.{none_ordered, called_ordered}
 use Rattle.pfc_guard_laws.proofs.Found.{guarded_there, found_suits}
 
 -- ## Lists
@@ -53,26 +55,31 @@ other_instead owns p own q apart = by (q == p) refl
 
 -- ## Bodies
 
-module _ (g : Program) (program : SuitsProgram g) where
-  main_suits : SuitsBlock g g.main
-  main_suits = subst (λ (o : Option Guard). SuitsBody g g.main o) (sym program.main_unguarded) program.main
+module _ (g : Program) (tops : Option Tops) (program : SuitsInOrder g tops) where
+  main_suits : SuitsBlock g tops g.main
+  main_suits =
+      subst (λ (o : Option Guard). SuitsBody g tops g.main o) (sym program.main_unguarded)
+      (λ mark. subst (λ (i : ℕ). SuitStmts g (standing_at tops mark i) g.main.env g.main.next g.main.stmts) (sym program.main_scope) (program.main mark))
 
-  pub block_suits : (i : ℕ) → SuitsBlock g (block_at g i)
-  block_suits i = found_suits (SuitsBlock g) g.blocks i g.main program.blocks main_suits
+  pub block_suits : (i : ℕ) → SuitsBlock g tops (block_at g i)
+  block_suits i = found_suits (SuitsBlock g tops) g.blocks i g.main program.blocks main_suits
+
+  -- what is so of the statements of a body in an activation that has entered something
+  abbrev pub SuitsIn : Mark → Block → Type 0
+  SuitsIn mark b = SuitStmts g (standing_at tops mark b.scope) b.env b.next b.stmts
 
   -- without a guard the body is performed whatever has been entered
-  pub unguarded_suits : (scope : ℕ) (mark : Mark) → IsUnguarded g scope
-      → SuitStmts g mark (block_at g scope).env (block_at g scope).next (block_at g scope).stmts
+  pub unguarded_suits : (scope : ℕ) (mark : Mark) → IsUnguarded g scope → SuitsIn mark (block_at g scope)
   unguarded_suits scope mark none =
-      let is : SuitsBody g (block_at g scope) None =
-      subst (λ (o : Option Guard). SuitsBody g (block_at g scope) o) none (block_suits scope) in is mark
+      let is : SuitsBody g tops (block_at g scope) None =
+      subst (λ (o : Option Guard). SuitsBody g tops (block_at g scope) o) none (block_suits scope) in is mark
 
   -- the guard of a procedure of a resource
   pub bar_suits : (scope r : ℕ) (guard : Guard) → (block_at g scope).guard ≡ Some guard → IsInResource g r scope
-      → SuitsBar g (bar_of g r (block_at g scope) guard)
+      → SuitsBar g tops (bar_of g r (block_at g scope) guard)
   bar_suits scope r guard e within =
-      let is : SuitsBody g (block_at g scope) (Some guard) =
-      subst (λ (o : Option Guard). SuitsBody g (block_at g scope) o) e (block_suits scope) in
+      let is : SuitsBody g tops (block_at g scope) (Some guard) =
+      subst (λ (o : Option Guard). SuitsBody g tops (block_at g scope) o) e (block_suits scope) in
       (λ b there. within ∙ ap (λ (o : Option Block). block_resource o) (sym (guarded_there g scope guard program.main_unguarded e) ∙ there), is.1)
     where
       block_resource : Option Block → ℕ
@@ -80,35 +87,37 @@ module _ (g : Program) (program : SuitsProgram g) where
       block_resource (Some b) = resource_of (site_in g b)
 
   -- the body of a procedure of a resource that has been entered
-  pub entered_suits : (scope r : ℕ) → IsInResource g r scope
-      → SuitStmts g (of_resource r) (block_at g scope).env (block_at g scope).next (block_at g scope).stmts
+  pub entered_suits : (scope r : ℕ) → IsInResource g r scope → SuitsIn (of_resource r) (block_at g scope)
   entered_suits scope r within = by (block_at g scope).guard refl
     where
-      by : (o : Option Guard) → (block_at g scope).guard ≡ o
-          → SuitStmts g (of_resource r) (block_at g scope).env (block_at g scope).next (block_at g scope).stmts
+      by : (o : Option Guard) → (block_at g scope).guard ≡ o → SuitsIn (of_resource r) (block_at g scope)
       by None e = unguarded_suits scope (of_resource r) e
       by (Some guard) e =
-          let is : SuitsBody g (block_at g scope) (Some guard) =
-          subst (λ (o : Option Guard). SuitsBody g (block_at g scope) o) e (block_suits scope) in
-          subst (λ (i : ℕ). SuitStmts g (of_resource i) (block_at g scope).env (block_at g scope).next (block_at g scope).stmts) (sym within) is.0
+          let is : SuitsBody g tops (block_at g scope) (Some guard) =
+          subst (λ (o : Option Guard). SuitsBody g tops (block_at g scope) o) e (block_suits scope) in
+          subst (λ (i : ℕ). SuitsIn (of_resource i) (block_at g scope)) (sym within) is.0
 
   pub body_suits :
-      (mark : Mark) (scanned : Scan → Type 0) (b : Block) → SuitStmts g mark b.env b.next b.stmts → SuitsRemainder g mark scanned b.env (body_of b)
-  body_suits mark scanned b suits = behind_suits g mark scanned b.env b.next b.stmts (ends b.last_line) suits tt
+      (standing : Standing) (scanned : Scan → Type 0) (b : Block) → SuitStmts g standing b.env b.next b.stmts
+      → SuitsRemainder g standing scanned b.env (body_of b)
+  body_suits standing scanned b suits = behind_suits g standing scanned b.env b.next b.stmts (ends b.last_line) suits tt
 
   pub guarded_suits :
       (scope r : ℕ) (scanned : Scan → Type 0) (o : Option Guard) → (block_at g scope).guard ≡ o → IsInResource g r scope
-      → SuitsRemainder g (of_resource r) scanned (block_at g scope).env (guarded_body g r (block_at g scope) o)
-  guarded_suits scope r scanned None e within = body_suits (of_resource r) scanned (block_at g scope) (entered_suits scope r within)
-  guarded_suits scope r scanned (Some guard) e within =
-      (bar_suits scope r guard e within, λ (i : Env). body_suits (of_resource r) scanned (block_at g scope) (entered_suits scope r within))
+      → SuitsRemainder g (standing_at tops (of_resource r) (block_at g scope).scope) scanned (block_at g scope).env (guarded_body g r (block_at g scope) o)
+  guarded_suits scope r scanned None e within =
+      body_suits (standing_at tops (of_resource r) (block_at g scope).scope) scanned (block_at g scope) (entered_suits scope r within)
+  guarded_suits scope r scanned (Some guard) e within = (
+    bar_suits scope r guard e within,
+    λ (i : Env). body_suits (standing_at tops (of_resource r) (block_at g scope).scope) scanned (block_at g scope) (entered_suits scope r within),
+  )
 
 -- ## Activities
 
-module _ (g : Program) (scanned : List Activation → Scan → Type 0) where
+module _ (g : Program) (tops : Option Tops) (scanned : List Activation → Scan → Type 0) where
   -- what an effect leaves, where each process has something that belongs to it
   abbrev pub SuitsEffect : Effect → Type 0
-  SuitsEffect (Ok d) = (owns : ℕ → List Activation) × SuitsConfig g scanned owns d
+  SuitsEffect (Ok d) = (owns : ℕ → List Activation) × SuitsConfig g tops scanned owns d
   SuitsEffect (Err f) = Unit {0}
 
   pub effect_either : (b : Bool) (d e : Effect) → SuitsEffect d → SuitsEffect e → SuitsEffect (if b then d else e)
@@ -118,70 +127,85 @@ module _ (g : Program) (scanned : List Activation → Scan → Type 0) where
   pub full_suits : (p cells : ℕ) (c : Config) → SuitsEffect (Ok c) → SuitsEffect (unless_full p cells c)
   full_suits p cells c suits = effect_either (nat_le cells (most_cells p)) (Ok c) (Err Stack) suits tt
 
-  nobody_suits : (own : List Activation) → SuitsActivity g scanned own (nobody g)
-  nobody_suits own = record { stands = tt; doing = tt; activations = tt; hand = tt }
+  nobody_suits : (own : List Activation) → SuitsActivity g tops scanned own (nobody g)
+  nobody_suits own = record { stands = tt; doing = tt; activations = tt; ordered = none_ordered tops; hand = tt }
 
   pub with_activity_suits :
-      (owns : ℕ → List Activation) (c : Config) (p : ℕ) (a : Activity) → SuitsConfig g scanned owns c → SuitsActivity g scanned (owns p) a
-      → SuitsConfig g scanned owns (with_activity c p a)
+      (owns : ℕ → List Activation) (c : Config) (p : ℕ) (a : Activity) → SuitsConfig g tops scanned owns c → SuitsActivity g tops scanned (owns p) a
+      → SuitsConfig g tops scanned owns (with_activity c p a)
   with_activity_suits owns c p a suits one q =
-      set_changes (λ i b. SuitsActivity g scanned (owns i) b) c.activities p a (nobody g) (λ i apart. suits i) one (nobody_suits (owns p)) q
+      set_changes (λ i b. SuitsActivity g tops scanned (owns i) b) c.activities p a (nobody g) (λ i apart. suits i) one (nobody_suits (owns p)) q
 
   -- and with something else that belongs to it
   pub instead_suits :
-      (owns : ℕ → List Activation) (c : Config) (p : ℕ) (own : List Activation) (a : Activity) → SuitsConfig g scanned owns c
-      → SuitsActivity g scanned own a → SuitsConfig g scanned (instead owns p own) (with_activity c p a)
+      (owns : ℕ → List Activation) (c : Config) (p : ℕ) (own : List Activation) (a : Activity) → SuitsConfig g tops scanned owns c
+      → SuitsActivity g tops scanned own a → SuitsConfig g tops scanned (instead owns p own) (with_activity c p a)
   instead_suits owns c p own a suits one q =
-      set_changes (λ i b. SuitsActivity g scanned (instead owns p own i) b) c.activities p a (nobody g)
-      (λ i apart. subst (λ (l : List Activation). SuitsActivity g scanned l (activity_of g c i)) (sym (other_instead owns p own i apart)) (suits i))
-      (subst (λ (l : List Activation). SuitsActivity g scanned l a) (sym (same_instead owns p own)) one) (nobody_suits (instead owns p own p)) q
+      set_changes (λ i b. SuitsActivity g tops scanned (instead owns p own i) b) c.activities p a (nobody g)
+      (λ i apart. subst (λ (l : List Activation). SuitsActivity g tops scanned l (activity_of g c i)) (sym (other_instead owns p own i apart)) (suits i))
+      (subst (λ (l : List Activation). SuitsActivity g tops scanned l a) (sym (same_instead owns p own)) one) (nobody_suits (instead owns p own p)) q
 
   module _ (owns : ℕ → List Activation) where
     pub does_next :
-        (c : Config) (p : ℕ) (doing : Doing) → SuitsConfig g scanned owns c → SuitsDoing g (mark_in (owns p)) (scanned (owns p)) doing
-        → SuitsConfig g scanned owns (doing_next g c p doing)
+        (c : Config) (p : ℕ) (doing : Doing) → SuitsConfig g tops scanned owns c → SuitsDoing g (standing_in tops (owns p)) (scanned (owns p)) doing
+        → SuitsConfig g tops scanned owns (doing_next g c p doing)
     does_next c p doing suits does =
-        with_activity_suits owns c p _ suits (record { stands = (suits p).stands; doing = does; activations = (suits p).activations; hand = tt })
+        with_activity_suits owns c p _ suits (record { stands = (suits p).stands; doing = does; activations = (suits p).activations; ordered = (suits p).ordered; hand = tt })
 
     pub on_it_goes :
-        (c : Config) (p : ℕ) (x : Context) (k : Remainder) → SuitsConfig g scanned owns c
-        → SuitsRemainder g (mark_in (owns p)) (scanned (owns p)) x.env k → SuitsConfig g scanned owns (goes_on g c p x k)
+        (c : Config) (p : ℕ) (x : Context) (k : Remainder) → SuitsConfig g tops scanned owns c
+        → SuitsRemainder g (standing_in tops (owns p)) (scanned (owns p)) x.env k → SuitsConfig g tops scanned owns (goes_on g c p x k)
     on_it_goes c p x k suits left = does_next c p (going x.env k) suits left
 
     pub it_holds :
-        (c : Config) (p : ℕ) (x : Context) (v : Value) (u : AwaitsValue) → SuitsConfig g scanned owns c
-        → SuitsAwaiting g (mark_in (owns p)) (scanned (owns p)) x.env u → SuitsConfig g scanned owns (holds g c p x v u)
+        (c : Config) (p : ℕ) (x : Context) (v : Value) (u : AwaitsValue) → SuitsConfig g tops scanned owns c
+        → SuitsAwaiting g (standing_in tops (owns p)) (scanned (owns p)) x.env u → SuitsConfig g tops scanned owns (holds g c p x v u)
     it_holds c p x v u suits waits = does_next c p (holding x v u) suits waits
 
     pub it_shows :
-        (c : Config) (p : ℕ) (hand : Hand) → SuitsConfig g scanned owns c → SuitsHand g scanned (owns p) hand
-        → SuitsConfig g scanned owns (showing g c p hand)
+        (c : Config) (p : ℕ) (hand : Hand) → SuitsConfig g tops scanned owns c → SuitsHand g tops scanned (owns p) hand
+        → SuitsConfig g tops scanned owns (showing g c p hand)
     it_shows c p hand suits shown =
         with_activity_suits owns c p _ suits
-        (record { stands = (suits p).stands; doing = (suits p).doing; activations = (suits p).activations; hand = shown })
+        (record {
+          stands = (suits p).stands;
+          doing = (suits p).doing;
+          activations = (suits p).activations;
+          ordered = (suits p).ordered;
+          hand = shown;
+        })
 
     -- ## Activations
 
     pub activated_suits :
-        (c : Config) (p : ℕ) (b : Block) (mark : Mark) (caller : Caller) (args : List Argument) (k : Remainder) → SuitsConfig g scanned owns c
-        → SuitsCaller g scanned (owns p) caller
+        (c : Config) (p : ℕ) (b : Block) (mark : Mark) (caller : Caller) (args : List Argument) (k : Remainder) → SuitsConfig g tops scanned owns c
+        → SuitsCaller g tops scanned (owns p) caller
+        → Lives tops (activity_of g c p).activations → Comes tops mark b.scope (scope_in (owns p))
         → (let a = activity_of g c p in let own = new_activation c a a.activations b mark caller a.display ∷ a.activations in
-        SuitsRemainder g mark (scanned own) b.env k)
+        SuitsRemainder g (standing_at tops mark b.scope) (scanned own) b.env k)
         → SuitsEffect (Ok (activated g c p b mark caller args k))
-    activated_suits c p b mark caller args k suits waits left =
+    activated_suits c p b mark caller args k suits waits lives comes left =
         let a = activity_of g c p in
         let values = new_values g b (all_passed g c p args) in
         let own = new_activation c a a.activations b mark caller a.display ∷ a.activations in (
           instead owns p own,
           instead_suits owns (record c { store = with_room c.store (new_number c) values }) p own _ suits
-              (record { stands = refl; doing = left; activations = ((owns p, (suits p).stands, waits), (suits p).activations); hand = tt }),
+              (record {
+                stands = refl;
+                doing = left;
+                activations = ((owns p, (suits p).stands, waits), (suits p).activations);
+                ordered =
+                    called_ordered tops (owns p) a.activations (new_activation c a a.activations b mark caller a.display) (suits p).stands lives
+                    (suits p).ordered comes;
+                hand = tt;
+              }),
         )
 
     pub left_suits :
-        (c : Config) (p : ℕ) (a : Activation) (below own : List Activation) (doing : Doing) → SuitsConfig g scanned owns c → StandsOn own below
-        → SuitActivations g scanned below → SuitsDoing g (mark_in own) (scanned own) doing → SuitsEffect (Ok (left_by g c p a below doing))
-    left_suits c p a below own doing suits stands others does = (
+        (c : Config) (p : ℕ) (a : Activation) (below own : List Activation) (doing : Doing) → SuitsConfig g tops scanned owns c → StandsOn own below
+        → SuitActivations g tops scanned below → IsOrdered tops below → SuitsDoing g (standing_in tops own) (scanned own) doing → SuitsEffect (Ok (left_by g c p a below doing))
+    left_suits c p a below own doing suits stands others so does = (
       instead owns p own,
       instead_suits owns (record c { store = without c.store a.number }) p own _ suits
-          (record { stands = stands; doing = does; activations = others; hand = tt }),
+          (record { stands = stands; doing = does; activations = others; ordered = so; hand = tt }),
     )

@@ -7,34 +7,48 @@ use Rattle.pfc_semantics.specs.Configurations.{Mark, plain, of_resource, Caller,
 use Rattle.pfc_translation.specs.Calls.{resource_of}
 use Rattle.pfc_translation.specs.Images.{site_in}
 use Rattle.pfc_run_rules.specs.Rules.{HasLeft}
+use Rattle.pfc_guard_laws.specs.Tops.{Tops, Standing, standing_at, IsOrdered}
 use Rattle.pfc_guard_laws.specs.Written.{SuitsExpr, SuitStmts}
 use Rattle.pfc_guard_laws.specs.Remainders.{SuitsBar, SuitOpens, SuitsRemainder, SuitsAwaiting, SuitsDoing}
 
 -- ## Programs
 
 -- A body without a guard, whatever has been entered, has no requeue. One with a guard requeues within its resource.
-abbrev pub SuitsBody : Program → Block → Option Guard → Type 0
-SuitsBody g b None = (mark : Mark) → SuitStmts g mark b.env b.next b.stmts
-SuitsBody g b (Some guard) =
-    SuitStmts g (of_resource (resource_of (site_in g b))) b.env b.next b.stmts × SuitsExpr g guard.env guard.test
+abbrev pub SuitsBody : Program → Option Tops → Block → Option Guard → Type 0
+SuitsBody g tops b None = (mark : Mark) → SuitStmts g (standing_at tops mark b.scope) b.env b.next b.stmts
+SuitsBody g tops b (Some guard) =
+    SuitStmts g (standing_at tops (of_resource (resource_of (site_in g b))) b.scope) b.env b.next b.stmts
+    × ((standing : Standing) → standing.tops ≡ tops → SuitsExpr g standing guard.env guard.test)
 
-abbrev pub SuitsBlock : Program → Block → Type 0
-SuitsBlock g b = SuitsBody g b b.guard
+abbrev pub SuitsBlock : Program → Option Tops → Block → Type 0
+SuitsBlock g tops b = SuitsBody g tops b b.guard
 
--- Each body is so. Main's has no guard, nor has an initialising one or that of a process.
-pub record SuitsProgram (g : Program) : Type 0 where
-  pub blocks : AllByRecursion (SuitsBlock g) g.blocks
-  pub modules : AllByRecursion (λ (b : Block). SuitStmts g plain b.env b.next b.stmts) g.modules
-  pub main : (mark : Mark) → SuitStmts g mark g.main.env g.main.next g.main.stmts
+-- Each body is so, in this order of the parts of the program, if there is one. Main's has no guard, nor has an initialising one or that of a process.
+pub record SuitsInOrder (g : Program) (tops : Option Tops) : Type 0 where
+  pub blocks : AllByRecursion (SuitsBlock g tops) g.blocks
+  pub modules : AllByRecursion (λ (b : Block). SuitStmts g (standing_at tops plain 0) b.env b.next b.stmts) g.modules
+  pub main : (mark : Mark) → SuitStmts g (standing_at tops mark 0) g.main.env g.main.next g.main.stmts
   pub main_unguarded : g.main.guard ≡ None
+  pub main_scope : g.main.scope ≡ 0
   pub processes_unguarded : (n : ℕ) → (declared_block g n).guard ≡ None
+
+-- and nothing is asked of an order
+abbrev pub SuitsProgram : Program → Type 0
+SuitsProgram g = SuitsInOrder g None
 
 -- ## Configurations
 
--- the mark of the innermost activation
+-- the mark of the innermost activation, and the scope of its block
 abbrev pub mark_in : List Activation → Mark
 mark_in [] = plain
 mark_in (a ∷ below) = a.mark
+
+abbrev pub scope_in : List Activation → ℕ
+scope_in [] = 0
+scope_in (a ∷ below) = a.scope
+
+abbrev pub standing_in : Option Tops → List Activation → Standing
+standing_in tops own = standing_at tops (mark_in own) (scope_in own)
 
 -- What a process is at belongs to the innermost activation, while there is any.
 abbrev pub StandsOn : List Activation → List Activation → Type 0
@@ -42,11 +56,11 @@ StandsOn own [] = Unit {0}
 StandsOn own (a ∷ below) = own ≡ a ∷ below
 
 -- of a scan, in the innermost of these activations, something is so
-module _ (g : Program) (scanned : List Activation → Scan → Type 0) where
+module _ (g : Program) (tops : Option Tops) (scanned : List Activation → Scan → Type 0) where
   abbrev pub SuitsCaller : List Activation → Caller → Type 0
   SuitsCaller own of_nobody = Unit {0}
-  SuitsCaller own (of_remainder env k) = SuitsRemainder g (mark_in own) (scanned own) env k
-  SuitsCaller own (of_value x u) = SuitsAwaiting g (mark_in own) (scanned own) x.env u
+  SuitsCaller own (of_remainder env k) = SuitsRemainder g (standing_in tops own) (scanned own) env k
+  SuitsCaller own (of_value x u) = SuitsAwaiting g (standing_in tops own) (scanned own) x.env u
 
   abbrev pub SuitActivations : List Activation → Type 0
   SuitActivations [] = Unit {0}
@@ -54,15 +68,17 @@ module _ (g : Program) (scanned : List Activation → Scan → Type 0) where
 
   abbrev pub SuitsHand : List Activation → Hand → Type 0
   SuitsHand own empty_hand = Unit {0}
-  SuitsHand own (offering x os k) = SuitOpens g (mark_in own) x.env os × SuitsRemainder g (mark_in own) (scanned own) x.env k
+  SuitsHand own (offering x os k) =
+      SuitOpens g (standing_in tops own) x.env os × SuitsRemainder g (standing_in tops own) (scanned own) x.env k
   SuitsHand own (asking values) = Unit {0}
-  SuitsHand own (barred_at b) = SuitsBar g b
+  SuitsHand own (barred_at b) = SuitsBar g tops b
 
   -- a process whose remainder belongs to the innermost of `own`
   pub record SuitsActivity (own : List Activation) (a : Activity) : Type 0 where
     pub stands : StandsOn own a.activations
-    pub doing : SuitsDoing g (mark_in own) (scanned own) a.doing
+    pub doing : SuitsDoing g (standing_in tops own) (scanned own) a.doing
     pub activations : SuitActivations a.activations
+    pub ordered : IsOrdered tops a.activations
     pub hand : SuitsHand own a.hand
 
   abbrev pub SuitsConfig : (ℕ → List Activation) → Config → Type 0

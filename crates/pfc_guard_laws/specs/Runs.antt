@@ -31,3 +31,11 @@ pub data RunsOnce (g : Program) (first : Config) : Config → Type 0 where
   once_first : RunsOnce g first first
   acts_once : (c : Config) (p choice : ℕ) → RunsOnce g first c → is_ready (at (settled_config c).table.rows p) ≡ true → ReturnsOnce g (settled_config c) p
       → RunsOnce g first (step g (settled_config c) p choice).config
+
+-- ## Runs of the living
+
+-- A run in which whoever acts has an activation. So it is in every run of a checked program: a process that has none was not activated, or it is finished.
+pub data RunsLiving (g : Program) (first : Config) : Config → Type 0 where
+  living_first : RunsLiving g first first
+  acts_living : (c : Config) (p choice : ℕ) → RunsLiving g first c → is_ready (at (settled_config c).table.rows p) ≡ true
+      → (activity_of g (settled_config c) p).activations ≢ [] → RunsLiving g first (step g (settled_config c) p choice).config

@@ -1,5 +1,5 @@
 -- In which order a process enters monitors and resources.
-use Rattle.std.specs.Prelude.{ℕ, ◌≤◌, ◌<◌, ◌≡◌, ◌≢◌, List, [], ◌∷◌}
+use Rattle.std.specs.Prelude.{ℕ, ◌≤◌, ◌<◌, ◌≡◌, ◌≢◌, List, [], ◌∷◌, Option, Some, None}
 use Rattle.pfc_types.specs.rules.Expressions.{Env}
 use Rattle.pfc_semantics.specs.Remainders.{Remainder}
 use Rattle.pfc_semantics.specs.Configurations.{Mark, plain, of_remainder, Activation}
@@ -32,3 +32,34 @@ abbrev pub IsRooted : List Activation → Type 0
 IsRooted [] = Unit {0}
 IsRooted (a ∷ []) = (env : Env) (k : Remainder) → a.caller ≢ of_remainder env k
 IsRooted (a ∷ (b ∷ rest)) = IsRooted (b ∷ rest)
+
+-- ## Where an activation stands
+
+-- what the activation has entered, and the scope of its block; and which order is asked of what it calls, if any
+pub record Standing : Type 0 where
+  pub mark : Mark
+  pub scope : ℕ
+  pub tops : Option Tops
+
+abbrev pub standing_at : Option Tops → Mark → ℕ → Standing
+standing_at tops mark i = record { mark = mark; scope = i; tops = tops }
+
+-- A block with the scope i, which is entered so, may be called from one with the scope j.
+abbrev pub Comes : Option Tops → Mark → ℕ → ℕ → Type 0
+Comes None mark i j = Unit {0}
+Comes (Some tops) mark i j = StandsIn tops mark (tops.of_scope i) × ComesBefore mark (tops.of_scope i) (tops.of_scope j)
+
+-- both stand in one part of the program
+abbrev pub Beside : Option Tops → ℕ → ℕ → Type 0
+Beside None i j = Unit {0}
+Beside (Some tops) i j = tops.of_scope i ≡ tops.of_scope j
+
+-- the activations are in order, and the first has no caller
+abbrev pub IsOrdered : Option Tops → List Activation → Type 0
+IsOrdered None activations = Unit {0}
+IsOrdered (Some tops) activations = AreOrdered tops activations × IsRooted activations
+
+-- where order is asked whoever acts has an activation
+abbrev pub Lives : Option Tops → List Activation → Type 0
+Lives None activations = Unit {0}
+Lives (Some tops) activations = activations ≢ []

@@ -17,6 +17,7 @@ use Rattle.pfc_semantics.specs.Programs.{Program, block_at}
 use Rattle.pfc_semantics.specs.Configurations.{Mark, plain as unmarked, of_monitor, of_resource}
 use Rattle.pfc_translation.specs.Calls.{resource_of}
 use Rattle.pfc_translation.specs.Images.{site_in}
+use Rattle.pfc_guard_laws.specs.Tops.{Standing, Comes, Beside}
 
 -- ## Subs
 
@@ -24,133 +25,141 @@ use Rattle.pfc_translation.specs.Images.{site_in}
 abbrev pub IsUnguarded : Program → ℕ → Type 0
 IsUnguarded g scope = (block_at g scope).guard ≡ None
 
+-- and comes in the order of what may be called from here
+abbrev pub IsCalled : Program → Standing → ℕ → Type 0
+IsCalled g standing scope = IsUnguarded g scope × Comes standing.tops unmarked (block_at g scope).scope standing.scope
+
 -- it stands in this resource
 abbrev pub IsInResource : Program → ℕ → ℕ → Type 0
 IsInResource g r scope = r ≡ resource_of (site_in g (block_at g scope))
 
 -- an exported procedure of the n-th module, which is a resource or a monitor
-abbrev pub IsOfModule : Program → Bool → ℕ → ℕ → Type 0
-IsOfModule g true r scope = IsInResource g r scope
-IsOfModule g false m scope = IsUnguarded g scope
+abbrev pub IsOfModule : Program → Standing → Bool → ℕ → ℕ → Type 0
+IsOfModule g standing true r scope = IsInResource g r scope × Comes standing.tops (of_resource r) (block_at g scope).scope standing.scope
+IsOfModule g standing false m scope = IsUnguarded g scope × Comes standing.tops (of_monitor m) (block_at g scope).scope standing.scope
 
-abbrev pub IsEntered : Program → ℕ → ℕ → Type 0
-IsEntered g n scope = IsOfModule g (module_at g.state.blocks n).resource (module_number g.state.blocks n) scope
+abbrev pub IsEntered : Program → Standing → ℕ → ℕ → Type 0
+IsEntered g standing n scope = IsOfModule g standing (module_at g.state.blocks n).resource (module_number g.state.blocks n) scope
 
 -- where an activation with this mark may requeue: it has entered the resource, and the procedure is guarded
-abbrev pub MayRequeue : Program → Mark → ℕ → Type 0
-MayRequeue g (of_resource r) scope = IsInResource g r scope × (is_some (block_at g scope).guard ≡ true)
-MayRequeue g (of_monitor m) scope = ⊥
-MayRequeue g unmarked scope = ⊥
+abbrev pub RequeuesFrom : Program → Mark → ℕ → Type 0
+RequeuesFrom g (of_resource r) scope = IsInResource g r scope × (is_some (block_at g scope).guard ≡ true)
+RequeuesFrom g (of_monitor m) scope = ⊥
+RequeuesFrom g unmarked scope = ⊥
+
+-- and the procedure stands beside that in which the process is
+abbrev pub MayRequeue : Program → Standing → ℕ → Type 0
+MayRequeue g standing scope = RequeuesFrom g standing.mark scope × Beside standing.tops (block_at g scope).scope standing.scope
 
 -- ## Names
 
-abbrev pub SuitsName : Program → Env → Option Meaning → Type 0
-SuitsName g env (Some (Sub n)) = IsUnguarded g (sub_at env.state.blocks n).scope
-SuitsName g env m = Unit {0}
+abbrev pub SuitsName : Program → Standing → Env → Option Meaning → Type 0
+SuitsName g standing env (Some (Sub n)) = IsCalled g standing (sub_at env.state.blocks n).scope
+SuitsName g standing env m = Unit {0}
 
-abbrev pub SuitsExport : Program → Env → ℕ → Option Meaning → Type 0
-SuitsExport g env n (Some (Sub p)) = IsEntered g n (sub_at env.state.blocks p).scope
-SuitsExport g env n m = Unit {0}
+abbrev pub SuitsExport : Program → Standing → Env → ℕ → Option Meaning → Type 0
+SuitsExport g standing env n (Some (Sub p)) = IsEntered g standing n (sub_at env.state.blocks p).scope
+SuitsExport g standing env n m = Unit {0}
 
-abbrev pub SuitsModule : Program → Env → ℕ → Option (Text × Place) → Type 0
-SuitsModule g env n None = Unit {0}
-SuitsModule g env n (Some x) = SuitsExport g env n (meaning_in (scope_at env.state.blocks.scopes (module_at env.state.blocks n).scope) x.0)
+abbrev pub SuitsModule : Program → Standing → Env → ℕ → Option (Text × Place) → Type 0
+SuitsModule g standing env n None = Unit {0}
+SuitsModule g standing env n (Some x) = SuitsExport g standing env n (meaning_in (scope_at env.state.blocks.scopes (module_at env.state.blocks n).scope) x.0)
 
-abbrev pub SuitsCalled : Program → Env → Option Meaning → SelectorTrees → Type 0
-SuitsCalled g env (Some (Sub n)) ss = IsUnguarded g (sub_at env.state.blocks n).scope
-SuitsCalled g env (Some (Module n)) ss = SuitsModule g env n (last_field ss)
-SuitsCalled g env m ss = Unit {0}
+abbrev pub SuitsCalled : Program → Standing → Env → Option Meaning → SelectorTrees → Type 0
+SuitsCalled g standing env (Some (Sub n)) ss = IsCalled g standing (sub_at env.state.blocks n).scope
+SuitsCalled g standing env (Some (Module n)) ss = SuitsModule g standing env n (last_field ss)
+SuitsCalled g standing env m ss = Unit {0}
 
-abbrev pub SuitsRequeue : Program → Mark → Env → Option Meaning → Type 0
-SuitsRequeue g mark env (Some (Sub n)) = MayRequeue g mark (sub_at env.state.blocks n).scope
-SuitsRequeue g mark env m = Unit {0}
+abbrev pub SuitsRequeue : Program → Standing → Env → Option Meaning → Type 0
+SuitsRequeue g standing env (Some (Sub n)) = MayRequeue g standing (sub_at env.state.blocks n).scope
+SuitsRequeue g standing env m = Unit {0}
 
 -- ## Expressions
 
 abbrev mutual
-  pub SuitsExpr : Program → Env → ExprTree → Type 0
-  SuitsExpr g env (plain s p) = SuitsSimple g env s
-  SuitsExpr g env (related s r t p) = SuitsSimple g env s × SuitsSimple g env t
+  pub SuitsExpr : Program → Standing → Env → ExprTree → Type 0
+  SuitsExpr g standing env (plain s p) = SuitsSimple g standing env s
+  SuitsExpr g standing env (related s r t p) = SuitsSimple g standing env s × SuitsSimple g standing env t
 
-  pub SuitsSimple : Program → Env → SimpleTree → Type 0
-  SuitsSimple g env (sum sign first rest) = SuitsTerm g env first × SuitSummands g env rest
+  pub SuitsSimple : Program → Standing → Env → SimpleTree → Type 0
+  SuitsSimple g standing env (sum sign first rest) = SuitsTerm g standing env first × SuitSummands g standing env rest
 
-  pub SuitSummands : Program → Env → SummandTrees → Type 0
-  SuitSummands g env no_summands = Unit {0}
-  SuitSummands g env (more_summands op t rest) = SuitsTerm g env t × SuitSummands g env rest
+  pub SuitSummands : Program → Standing → Env → SummandTrees → Type 0
+  SuitSummands g standing env no_summands = Unit {0}
+  SuitSummands g standing env (more_summands op t rest) = SuitsTerm g standing env t × SuitSummands g standing env rest
 
-  pub SuitsTerm : Program → Env → TermTree → Type 0
-  SuitsTerm g env (product f rest) = SuitsFactor g env f × SuitMultipliers g env rest
+  pub SuitsTerm : Program → Standing → Env → TermTree → Type 0
+  SuitsTerm g standing env (product f rest) = SuitsFactor g standing env f × SuitMultipliers g standing env rest
 
-  pub SuitMultipliers : Program → Env → MultiplierTrees → Type 0
-  SuitMultipliers g env no_multipliers = Unit {0}
-  SuitMultipliers g env (more_multipliers op f rest) = SuitsFactor g env f × SuitMultipliers g env rest
+  pub SuitMultipliers : Program → Standing → Env → MultiplierTrees → Type 0
+  SuitMultipliers g standing env no_multipliers = Unit {0}
+  SuitMultipliers g standing env (more_multipliers op f rest) = SuitsFactor g standing env f × SuitMultipliers g standing env rest
 
-  pub SuitsFactor : Program → Env → FactorTree → Type 0
-  SuitsFactor g env (number n p) = Unit {0}
-  SuitsFactor g env (literal x p) = Unit {0}
-  SuitsFactor g env (negation f p) = SuitsFactor g env f
-  SuitsFactor g env (paren e p) = SuitsExpr g env e
-  SuitsFactor g env (applied (desig x ss q) args p) = SuitsName g env (meaning_of (find env x)) × SuitSelectors g env ss × SuitActuals g env args
+  pub SuitsFactor : Program → Standing → Env → FactorTree → Type 0
+  SuitsFactor g standing env (number n p) = Unit {0}
+  SuitsFactor g standing env (literal x p) = Unit {0}
+  SuitsFactor g standing env (negation f p) = SuitsFactor g standing env f
+  SuitsFactor g standing env (paren e p) = SuitsExpr g standing env e
+  SuitsFactor g standing env (applied (desig x ss q) args p) = SuitsName g standing env (meaning_of (find env x)) × SuitSelectors g standing env ss × SuitActuals g standing env args
 
-  pub SuitSelectors : Program → Env → SelectorTrees → Type 0
-  SuitSelectors g env no_selectors = Unit {0}
-  SuitSelectors g env (more_selectors s ss) = SuitsSelector g env s × SuitSelectors g env ss
+  pub SuitSelectors : Program → Standing → Env → SelectorTrees → Type 0
+  SuitSelectors g standing env no_selectors = Unit {0}
+  SuitSelectors g standing env (more_selectors s ss) = SuitsSelector g standing env s × SuitSelectors g standing env ss
 
-  pub SuitsSelector : Program → Env → SelectorTree → Type 0
-  SuitsSelector g env (index es p) = SuitExprs g env es
-  SuitsSelector g env (field x p) = Unit {0}
+  pub SuitsSelector : Program → Standing → Env → SelectorTree → Type 0
+  SuitsSelector g standing env (index es p) = SuitExprs g standing env es
+  SuitsSelector g standing env (field x p) = Unit {0}
 
-  pub SuitExprs : Program → Env → ExprTrees → Type 0
-  SuitExprs g env no_exprs = Unit {0}
-  SuitExprs g env (more_exprs e es) = SuitsExpr g env e × SuitExprs g env es
+  pub SuitExprs : Program → Standing → Env → ExprTrees → Type 0
+  SuitExprs g standing env no_exprs = Unit {0}
+  SuitExprs g standing env (more_exprs e es) = SuitsExpr g standing env e × SuitExprs g standing env es
 
-  pub SuitsActual : Program → Env → ActualTree → Type 0
-  SuitsActual g env (actual e) = SuitsExpr g env e
-  SuitsActual g env (actual_width e w) = SuitsExpr g env e × SuitsExpr g env w
+  pub SuitsActual : Program → Standing → Env → ActualTree → Type 0
+  SuitsActual g standing env (actual e) = SuitsExpr g standing env e
+  SuitsActual g standing env (actual_width e w) = SuitsExpr g standing env e × SuitsExpr g standing env w
 
-  pub SuitActuals : Program → Env → ActualTrees → Type 0
-  SuitActuals g env no_actuals = Unit {0}
-  SuitActuals g env (more_actuals a rest) = SuitsActual g env a × SuitActuals g env rest
+  pub SuitActuals : Program → Standing → Env → ActualTrees → Type 0
+  SuitActuals g standing env no_actuals = Unit {0}
+  SuitActuals g standing env (more_actuals a rest) = SuitsActual g standing env a × SuitActuals g standing env rest
 
-abbrev pub SuitsDesig : Program → Env → DesigTree → Type 0
-SuitsDesig g env (desig x ss p) = SuitSelectors g env ss
+abbrev pub SuitsDesig : Program → Standing → Env → DesigTree → Type 0
+SuitsDesig g standing env (desig x ss p) = SuitSelectors g standing env ss
 
-abbrev pub SuitsPerhaps : Program → Env → Option ExprTree → Type 0
-SuitsPerhaps g env None = Unit {0}
-SuitsPerhaps g env (Some e) = SuitsExpr g env e
+abbrev pub SuitsPerhaps : Program → Standing → Env → Option ExprTree → Type 0
+SuitsPerhaps g standing env None = Unit {0}
+SuitsPerhaps g standing env (Some e) = SuitsExpr g standing env e
 
-abbrev pub SuitsTarget : Program → Env → Option DesigTree → Type 0
-SuitsTarget g env None = Unit {0}
-SuitsTarget g env (Some d) = SuitsDesig g env d
+abbrev pub SuitsTarget : Program → Standing → Env → Option DesigTree → Type 0
+SuitsTarget g standing env None = Unit {0}
+SuitsTarget g standing env (Some d) = SuitsDesig g standing env d
 
-abbrev pub SuitsCall : Program → Env → DesigTree → ActualTrees → Type 0
-SuitsCall g env (desig x ss p) args = SuitsCalled g env (meaning_of (find env x)) ss × SuitSelectors g env ss × SuitActuals g env args
+abbrev pub SuitsCall : Program → Standing → Env → DesigTree → ActualTrees → Type 0
+SuitsCall g standing env (desig x ss p) args = SuitsCalled g standing env (meaning_of (find env x)) ss × SuitSelectors g standing env ss × SuitActuals g standing env args
 
--- ## Statements, in an activation with this mark; the next scope of the text has the number n
+-- ## Statements, in an activation with this standing; the next scope of the text has the number n
 
-module _ (g : Program) (mark : Mark) where
+module _ (g : Program) (standing : Standing) where
   abbrev mutual
     pub SuitsStmt : Env → ℕ → StmtTree → Type 0
     SuitsStmt env n empty = Unit {0}
     SuitsStmt env n (null p) = Unit {0}
     SuitsStmt env n (block (body ss first last) p) = SuitStmts env n ss
-    SuitsStmt env n (if_then e s p) = SuitsExpr g env e × SuitsStmt env n s
-    SuitsStmt env n (if_then_else e s t p) = SuitsExpr g env e × SuitsStmt env n s × SuitsStmt env (n + scopes_in s) t
-    SuitsStmt env n (case_of e arms last p) = SuitsExpr g env e × SuitArms env n arms
-    SuitsStmt env n (while_do e s p) = SuitsExpr g env e × SuitsStmt env n s
-    SuitsStmt env n (repeat_until ss e p) = SuitStmts env n ss × SuitsExpr g env e
+    SuitsStmt env n (if_then e s p) = SuitsExpr g standing env e × SuitsStmt env n s
+    SuitsStmt env n (if_then_else e s t p) = SuitsExpr g standing env e × SuitsStmt env n s × SuitsStmt env (n + scopes_in s) t
+    SuitsStmt env n (case_of e arms last p) = SuitsExpr g standing env e × SuitArms env n arms
+    SuitsStmt env n (while_do e s p) = SuitsExpr g standing env e × SuitsStmt env n s
+    SuitsStmt env n (repeat_until ss e p) = SuitStmts env n ss × SuitsExpr g standing env e
     SuitsStmt env n (repeat_forever ss p) = SuitStmts env n ss
-    SuitsStmt env n (for_do x a down b s p q) = SuitsExpr g env a × SuitsExpr g env b × SuitsStmt env n s
+    SuitsStmt env n (for_do x a down b s p q) = SuitsExpr g standing env a × SuitsExpr g standing env b × SuitsStmt env n s
     SuitsStmt env n (cobegin ss last p) = SuitStmts env n ss
     SuitsStmt env n (accepting a p) = SuitsAccept env n a
-    SuitsStmt env n (requeue x args p) = SuitsRequeue g mark env (meaning_of (find env x.0)) × SuitActuals g env args
+    SuitsStmt env n (requeue x args p) = SuitsRequeue g standing env (meaning_of (find env x.0)) × SuitActuals g standing env args
     SuitsStmt env n (select pri alts p q) = SuitAlts env n alts
     SuitsStmt env n (select_else pri alts ss at p q) = SuitAlts env n alts × SuitStmts env (n + alts_scopes alts) ss
-    SuitsStmt env n (assign d e p q) = SuitsDesig g env d × SuitsExpr g env e
-    SuitsStmt env n (send d e p q) = SuitsDesig g env d × SuitsExpr g env e
-    SuitsStmt env n (receive d v p q) = SuitsDesig g env d × SuitsDesig g env v
-    SuitsStmt env n (call d args p) = SuitsCall g env d args
+    SuitsStmt env n (assign d e p q) = SuitsDesig g standing env d × SuitsExpr g standing env e
+    SuitsStmt env n (send d e p q) = SuitsDesig g standing env d × SuitsExpr g standing env e
+    SuitsStmt env n (receive d v p q) = SuitsDesig g standing env d × SuitsDesig g standing env v
+    SuitsStmt env n (call d args p) = SuitsCall g standing env d args
 
     pub SuitStmts : Env → ℕ → StmtTrees → Type 0
     SuitStmts env n no_stmts = Unit {0}
@@ -166,13 +175,13 @@ module _ (g : Program) (mark : Mark) where
 
     pub SuitsComm : Env → ℕ → CommTree → Type 0
     SuitsComm env n (comm_accept a p) = SuitsAccept env n a
-    SuitsComm env n (comm_send d e p) = SuitsDesig g env d × SuitsExpr g env e
-    SuitsComm env n (comm_receive d v p) = SuitsDesig g env d × SuitsDesig g env v
-    SuitsComm env n (timeout e p) = SuitsExpr g env e
+    SuitsComm env n (comm_send d e p) = SuitsDesig g standing env d × SuitsExpr g standing env e
+    SuitsComm env n (comm_receive d v p) = SuitsDesig g standing env d × SuitsDesig g standing env v
+    SuitsComm env n (timeout e p) = SuitsExpr g standing env e
     SuitsComm env n (terminate p) = Unit {0}
 
     pub SuitAlts : Env → ℕ → AltTrees → Type 0
     SuitAlts env n no_alts = Unit {0}
     SuitAlts env n (more_alts (alt spread guard comm ss) alts) =
-        (SuitsPerhaps g env guard × SuitsComm env n comm × SuitStmts env (n + comm_scopes comm) ss)
+        (SuitsPerhaps g standing env guard × SuitsComm env n comm × SuitStmts env (n + comm_scopes comm) ss)
         × SuitAlts env (n + alt_scopes (alt spread guard comm ss)) alts

@@ -1,13 +1,13 @@
 //! The laws. The functions do nothing: their contracts are the laws.
-ghost use Rattle.std.specs.Prelude.{ℕ, List};
+ghost use Rattle.std.specs.Prelude.{ℕ, List, Some};
 ghost use Rattle.pfc_semantics.specs.Programs.{Program};
 ghost use Rattle.pfc_semantics.specs.Configurations.{Config, activity_of, start};
 ghost use Rattle.pfc_semantics.specs.Steps.{next_of};
 ghost use Rattle.pfc_semantics.specs.Time.{settled_config};
 ghost use Rattle.pfc_run_rules.specs.Rules.{AreBarredAtTheirOwn, KeepsToRules};
 ghost use Rattle.pfc_guard_laws.specs.Remainders.{GuardsByRules};
-ghost use Rattle.pfc_guard_laws.specs.Configurations.{SuitsProgram, ScansByRules};
-ghost use Rattle.pfc_guard_laws.specs.Runs.{RunsTo, ReturnsOnce, RunsOnce};
+ghost use Rattle.pfc_guard_laws.specs.Configurations.{SuitsInOrder, SuitsProgram, ScansByRules};
+ghost use Rattle.pfc_guard_laws.specs.Runs.{RunsTo, ReturnsOnce, RunsOnce, RunsLiving};
 ghost use Rattle.pfc_guard_laws.specs.Tops.{Tops, AreOrdered, IsRooted};
 ghost use Rattle.pfc_guard_laws.specs.Keeping.{IsOutsideAtEnds, HoldsAtResumes};
 
@@ -37,4 +37,18 @@ pub fn ordered_activations_enter_once()
     ensures resources { (tops : Tops) (g : Program) (c : Config) (p : ℕ) → AreOrdered tops (activity_of g c p).activations
         → IsRooted (activity_of g c p).activations → ReturnsOnce g c p }
     ensures monitors { (tops : Tops) (g : Program) (c : Config) (p : ℕ) → AreOrdered tops (activity_of g c p).activations → IsOutsideAtEnds g c p }
+{}
+
+/// Where a program calls in the order of its parts, and whoever acts has an activation, the activations of each process are in order wherever a run comes, and
+/// the run returns but once from each resource and each monitor, as it enters it.
+pub fn living_runs_return_once()
+    ensures ordered { (tops : Tops) (g : Program) (input : List ℕ) (seed : ℕ) (c : Config) (p : ℕ) → SuitsInOrder g (Some tops)
+        → RunsLiving g (start g input seed) c
+        → AreOrdered tops (activity_of g (settled_config c) p).activations × IsRooted (activity_of g (settled_config c) p).activations }
+    ensures runs { (tops : Tops) (g : Program) (input : List ℕ) (seed : ℕ) (c : Config) → SuitsInOrder g (Some tops) → RunsLiving g (start g input seed) c
+        → RunsOnce g (start g input seed) c }
+    ensures resources { (tops : Tops) (g : Program) (input : List ℕ) (seed : ℕ) (c : Config) (p : ℕ) → SuitsInOrder g (Some tops)
+        → RunsLiving g (start g input seed) c → ReturnsOnce g (settled_config c) p }
+    ensures monitors { (tops : Tops) (g : Program) (input : List ℕ) (seed : ℕ) (c : Config) (p : ℕ) → SuitsInOrder g (Some tops)
+        → RunsLiving g (start g input seed) c → IsOutsideAtEnds g (settled_config c) p }
 {}

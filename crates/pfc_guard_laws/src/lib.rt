@@ -8,6 +8,6 @@
 mod laws;
 
 pub use laws::{
-    guards_are_of_their_resources, ordered_activations_enter_once, runs_keep_to_rules,
-    who_scans_has_left,
+    guards_are_of_their_resources, living_runs_return_once, ordered_activations_enter_once,
+    runs_keep_to_rules, who_scans_has_left,
 };

@@ -1,5 +1,5 @@
 -- Subs, processes and modules stand as is asked, those that a program does not have among them.
-use Rattle.std.proofs.Common.{◌≡◌, ◌≢◌, ℕ, zero, suc, ◌≤◌, Bool, true, false, nat_lt, List, [], ◌∷◌, length, get_or, Some, None, is_some, refl, ap, sym, ◌∙◌, arith}
+use Rattle.std.proofs.Common.{◌≡◌, ◌≢◌, ℕ, zero, suc, ◌≤◌, Bool, true, false, nat_lt, List, [], ◌∷◌, length, get_or, Option, Some, None, is_some, refl, ap, sym, ◌∙◌, arith}
 use Rattle.std.proofs.lemmas.Bool.Decides.{nat_tests}
 use Rattle.pfc_tree.specs.trees.Parts.{ProgramTree}
 use Rattle.pfc_tree.specs.forget.Parts.{forget_program}
@@ -13,9 +13,11 @@ use Rattle.pfc_types.specs.rules.Whole.{finished, broken}
 use Rattle.pfc_semantics.specs.Programs.{Block, Program, block_at, program_of}
 use Rattle.pfc_translation.specs.Sites.{module_of}
 use Rattle.pfc_nesting_laws.proofs.Programs.{main_found}
-use Rattle.pfc_guard_laws.specs.Configurations.{SuitsProgram}
-use Rattle.pfc_checked_guards.proofs.Programs.{program_suits}
+use Rattle.pfc_guard_laws.specs.Tops.{Tops}
+use Rattle.pfc_guard_laws.specs.Configurations.{SuitsInOrder, SuitsProgram}
+use Rattle.pfc_checked_guards.proofs.Programs.{program_suits, program_in_order}
 use Rattle.pfc_checked_guards.specs.Subs.{SubsStand, ModulesStand}
+use Rattle.pfc_checked_guards.specs.Order.{ProgramInOrder}
 use Rattle.pfc_run_guards.specs.Headings.{HeadingsStand}
 use Rattle.pfc_run_guards.proofs.Scopes.{program_scope, bodies_apart, main_unguarded, guards_in_resources}
 
@@ -106,3 +108,10 @@ module _ (t : ProgramTree) (lawful : IsLawful (forget_program t)) (headings : He
 -- So the program calls what the rules ask.
 pub checked_program : (t : ProgramTree) → IsLawful (forget_program t) → broken t ≡ [] → HeadingsStand t → SuitsProgram (program_of t)
 checked_program t lawful whole headings = program_suits t (subs_stand t lawful headings) (modules_stand t lawful headings) lawful whole
+
+-- And it calls in order where what is named there is in order.
+pub checked_in_order :
+    (t : ProgramTree) → IsLawful (forget_program t) → broken t ≡ [] → HeadingsStand t → (tops : Option Tops) → ProgramInOrder (program_of t) tops
+    → SuitsInOrder (program_of t) tops
+checked_in_order t lawful whole headings tops order =
+    program_in_order t (subs_stand t lawful headings) (modules_stand t lawful headings) tops order lawful whole

@@ -1,5 +1,5 @@
 //! The laws. The functions do nothing: their contracts are the laws.
-ghost use Rattle.std.specs.Prelude.{◌≡◌, ℕ, List, []};
+ghost use Rattle.std.specs.Prelude.{◌≡◌, ℕ, List, [], Option, Some};
 ghost use Rattle.pfc_tree.specs.trees.Parts.{ProgramTree};
 ghost use Rattle.pfc_tree.specs.forget.Parts.{forget_program};
 ghost use Rattle.pfc_tree.specs.lawful.Parts.{IsLawful};
@@ -8,10 +8,13 @@ ghost use Rattle.pfc_semantics.specs.Programs.{program_of};
 ghost use Rattle.pfc_semantics.specs.Configurations.{Config, start};
 ghost use Rattle.pfc_semantics.specs.Steps.{next_of};
 ghost use Rattle.pfc_semantics.specs.Time.{settled_config};
-ghost use Rattle.pfc_run_rules.specs.Rules.{AreBarredAtTheirOwn};
+ghost use Rattle.pfc_run_rules.specs.Rules.{AreBarredAtTheirOwn, KeepsToRules};
 ghost use Rattle.pfc_guard_laws.specs.Remainders.{GuardsByRules};
-ghost use Rattle.pfc_guard_laws.specs.Configurations.{SuitsProgram};
-ghost use Rattle.pfc_guard_laws.specs.Runs.{RunsTo};
+ghost use Rattle.pfc_guard_laws.specs.Configurations.{SuitsInOrder, SuitsProgram};
+ghost use Rattle.pfc_guard_laws.specs.Runs.{RunsTo, RunsOnce, RunsLiving};
+ghost use Rattle.pfc_guard_laws.specs.Tops.{Tops};
+ghost use Rattle.pfc_guard_laws.specs.Keeping.{IsOutsideAtEnds, HoldsAtResumes};
+ghost use Rattle.pfc_checked_guards.specs.Order.{ProgramInOrder};
 ghost use Rattle.pfc_run_guards.specs.Headings.{HeadingsStand};
 
 /// In a run of a program in which no static rule is broken each guard at which a process is barred, and that at which one is about to be, is of the resource in
@@ -22,4 +25,20 @@ pub fn runs_try_their_own_guards()
         → RunsTo (program_of t) (start (program_of t) input seed) c → AreBarredAtTheirOwn (program_of t) (settled_config c) }
     ensures next { (t : ProgramTree) (input : List ℕ) (seed : ℕ) (c : Config) (p : ℕ) → IsLawful (forget_program t) → broken t ≡ [] → HeadingsStand t
         → RunsTo (program_of t) (start (program_of t) input seed) c → GuardsByRules (program_of t) (next_of (program_of t) (settled_config c) p) }
+{}
+
+/// Where what is named in view comes in an order of the parts of the program, and whoever acts has an activation, the run keeps to all rules but for who holds
+/// what it resumes in: it returns but once from each resource and each monitor.
+pub fn living_runs_keep_to_rules()
+    ensures suits { (t : ProgramTree) (tops : Option Tops) → IsLawful (forget_program t) → broken t ≡ [] → HeadingsStand t
+        → ProgramInOrder (program_of t) tops → SuitsInOrder (program_of t) tops }
+    ensures once { (t : ProgramTree) (tops : Tops) (input : List ℕ) (seed : ℕ) (c : Config) → IsLawful (forget_program t) → broken t ≡ [] → HeadingsStand t
+        → ProgramInOrder (program_of t) (Some tops) → RunsLiving (program_of t) (start (program_of t) input seed) c
+        → RunsOnce (program_of t) (start (program_of t) input seed) c }
+    ensures outside { (t : ProgramTree) (tops : Tops) (input : List ℕ) (seed : ℕ) (c : Config) (p : ℕ) → IsLawful (forget_program t) → broken t ≡ []
+        → HeadingsStand t → ProgramInOrder (program_of t) (Some tops) → RunsLiving (program_of t) (start (program_of t) input seed) c
+        → IsOutsideAtEnds (program_of t) (settled_config c) p }
+    ensures rules { (t : ProgramTree) (tops : Tops) (input : List ℕ) (seed : ℕ) (c : Config) (p : ℕ) → IsLawful (forget_program t) → broken t ≡ []
+        → HeadingsStand t → ProgramInOrder (program_of t) (Some tops) → RunsLiving (program_of t) (start (program_of t) input seed) c
+        → HoldsAtResumes (program_of t) (settled_config c) p → KeepsToRules (program_of t) (settled_config c) p }
 {}

@@ -1,4 +1,4 @@
-use Rattle.std.proofs.Common.{[], ◌∷◌}
+use Rattle.std.proofs.Common.{[], ◌∷◌, None}
 use Rattle.pfc_semantics.specs.Programs.{program_of}
 use Rattle.pfc_semantics.specs.Configurations.{main_activation, start}
 use Rattle.pfc_guard_laws.specs.Configurations.{Left}
@@ -17,15 +17,15 @@ returns c =
       barred = λ t input seed d lawful whole comes.
           let g = program_of t in
           let program = checked_program t lawful whole (headings_stand t lawful whole) in
-          all_barred g program (start g input seed) d (λ q. main_activation g ∷ [], start_suits g (λ own s. Unit {0}) program input seed) comes;
+          all_barred g program (start g input seed) d (λ q. main_activation g ∷ [], start_suits g None (λ own s. Unit {0}) program input seed) comes;
       next = λ t input seed d p lawful whole comes.
           let g = program_of t in
           let program = checked_program t lawful whole (headings_stand t lawful whole) in
-          next_guards g program (start g input seed) d (λ q. main_activation g ∷ [], start_suits g (λ own s. Unit {0}) program input seed) comes p;
+          next_guards g program (start g input seed) d (λ q. main_activation g ∷ [], start_suits g None (λ own s. Unit {0}) program input seed) comes p;
       scans = λ t input seed d p lawful whole comes.
           let g = program_of t in
           let program = checked_program t lawful whole (headings_stand t lawful whole) in
-          next_left g program (start g input seed) d (λ q. main_activation g ∷ [], start_suits g Left program input seed) comes p;
+          next_left g program (start g input seed) d (λ q. main_activation g ∷ [], start_suits g None Left program input seed) comes p;
       rules = λ t input seed d p lawful whole comes outside holds.
           run_keeps (program_of t) input seed d p (checked_program t lawful whole (headings_stand t lawful whole)) comes outside holds;
     }

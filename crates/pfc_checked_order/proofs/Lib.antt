@@ -1,0 +1,4 @@
+pub mod Starts
+pub mod Names
+pub mod Modules
+pub mod Blocks

@@ -5,4 +5,4 @@
 
 mod laws;
 
-pub use laws::checked_runs_try_their_own_guards;
+pub use laws::{checked_runs_return_once, checked_runs_try_their_own_guards};

@@ -4,14 +4,18 @@ use Rattle.std.specs.Prelude.{int_lt}
 use Rattle.pfc_base.specs.declared.faults.RunFault.TheVariants.{Below}
 use Rattle.pfc_tree.specs.declared.tree.Spread.{Spread}
 use Rattle.pfc_tree.specs.trees.Exprs.{ExprTree, DesigTree}
-use Rattle.pfc_tree.specs.trees.Stmts.{StmtTrees, AcceptTree, AltTrees, CommTree, accept, accept_do, AltTree, alt, no_alts, more_alts, comm_accept, comm_send, comm_receive, timeout, terminate}
+use Rattle.pfc_tree.specs.trees.Stmts.{StmtTrees, AcceptTree, AltTrees, CommTree, accept, accept_do, AltTree, alt, no_alts, more_alts, comm_accept, comm_send}
+use Rattle.pfc_tree.specs.trees.Stmts.{comm_receive, timeout, terminate}
 use Rattle.pfc_types.specs.rules.Statements.{comm_scopes, alt_scopes}
 use Rattle.pfc_values.specs.Numbers.{is_true}
 use Rattle.pfc_semantics.specs.Values.{Value, ordinal_of}
 use Rattle.pfc_semantics.specs.Displays.{Spot}
 use Rattle.pfc_semantics.specs.Programs.{Block}
-use Rattle.pfc_semantics.specs.Remainders.{Context, Replica, Offer, Alternative, Selecting, Remainder, Action, to_send, to_receive, to_accept, to_wait, to_end, open_if, offer_value, offer_wait, offer_to, offer_from, offer_into, faults}
-use Rattle.pfc_semantics.specs.Alternatives.{replicas, alternative, spread_out, alternatives, accepting_of, message_of, receiver_of, a_signal, with_open, from_seconds, from_message, from_receiver, from_comm, from_opened, from_guard, from_replica, from_alternatives, select_begun}
+use Rattle.pfc_semantics.specs.Remainders.{Context, Replica, Offer, Alternative, Selecting, Remainder, Action, to_send, to_receive, to_accept, to_wait, to_end}
+use Rattle.pfc_semantics.specs.Remainders.{open_if, offer_value, offer_wait, offer_to, offer_from, offer_into, faults}
+use Rattle.pfc_semantics.specs.Alternatives.{replicas, alternative, spread_out, alternatives, accepting_of, message_of, receiver_of, a_signal, with_open}
+use Rattle.pfc_semantics.specs.Alternatives.{from_seconds, from_message, from_receiver, from_comm, from_opened, from_guard, from_replica, from_alternatives}
+use Rattle.pfc_semantics.specs.Alternatives.{select_begun}
 use Rattle.std.specs.List.{AllByRecursion}
 use Rattle.pfc_types.specs.rules.Statements.{accept_scopes, alts_scopes, stmts_scopes}
 use Rattle.pfc_accept_laws.specs.Places.{IsPlaced, PlacesOffer, PlacesOpen, PlacesAlternative, PlacesSelecting, PlacesSelect, PlacesRemainder, PlacesAction}

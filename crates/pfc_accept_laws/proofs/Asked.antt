@@ -12,8 +12,12 @@ use Rattle.pfc_world.specs.Terminating.{wholly_settled}
 use Rattle.pfc_semantics.specs.Values.{Value}
 use Rattle.pfc_semantics.specs.Displays.{Spot}
 use Rattle.pfc_semantics.specs.Programs.{Program}
-use Rattle.pfc_semantics.specs.Remainders.{Context, Argument, Offer, Remainder, Way, Action, leave, own, to_send, to_receive, to_accept, to_wait, to_end, to_procedure, to_function, to_module, to_requeue, to_process, to_entry, reads, writes, turns, calls, finishes, prints, inputs, skips, asks_eof, asks_eoln, asks_clock, asks_empty, draws, joins, initials, waits, signals, delays, resumes, sleeps, meets, decides, parts, scans, bars, passes, faults}
-use Rattle.pfc_semantics.specs.Configurations.{Activity, Hand, empty_hand, offering, asking, barred_at, Config, nobody, activity_of, goes_on, showing, number_for, all_passed, with_table, start, after, done_at}
+use Rattle.pfc_semantics.specs.Remainders.{Context, Argument, Offer, Remainder, Way, Action, leave, own, to_send, to_receive, to_accept, to_wait, to_end}
+use Rattle.pfc_semantics.specs.Remainders.{to_procedure, to_function, to_module, to_requeue, to_process, to_entry, reads, writes, turns, calls, finishes}
+use Rattle.pfc_semantics.specs.Remainders.{prints, inputs, skips, asks_eof, asks_eoln, asks_clock, asks_empty, draws, joins, initials, waits, signals, delays}
+use Rattle.pfc_semantics.specs.Remainders.{resumes, sleeps, meets, decides, parts, scans, bars, passes, faults}
+use Rattle.pfc_semantics.specs.Configurations.{Activity, Hand, empty_hand, offering, asking, barred_at, Config, nobody, activity_of, goes_on, showing}
+use Rattle.pfc_semantics.specs.Configurations.{number_for, all_passed, with_table, start, after, done_at}
 use Rattle.pfc_semantics.specs.Channels.{Side, side_of}
 use Rattle.pfc_semantics.specs.Rendezvous.{called_into, called_at, enters}
 use Rattle.pfc_semantics.specs.Events.{step}

@@ -12,9 +12,12 @@ use Rattle.pfc_semantics.specs.Remainders.{Context, Accepting, Offer, Open, Othe
 use Rattle.pfc_semantics.specs.Statements.{behind}
 use Rattle.pfc_semantics.specs.Rewriting.{going}
 use Rattle.pfc_semantics.specs.Configurations.{Activation, Activity, Hand, empty_hand, offering, asking, barred_at, Config, activity_of, goes_on}
-use Rattle.pfc_semantics.specs.Channels.{Side, is_communication, communications, is_arm, first_open, side_in, arm_of, behind_open, side_of, goes_behind, delivered, sent_into, sent_to, received_out, received_from}
+use Rattle.pfc_semantics.specs.Channels.{Side, is_communication, communications, is_arm, first_open, side_in, arm_of, behind_open, side_of, goes_behind}
+use Rattle.pfc_semantics.specs.Channels.{delivered, sent_into, sent_to, received_out, received_from}
 use Rattle.pfc_semantics.specs.Rendezvous.{parameters_taken, meeting_of, met_by, called_into, called_at, asked, accepts_from}
-use Rattle.pfc_semantics.specs.Selects.{communicates_by, communicates, partner_at, meets_or_waits, meets_at, matched_places, place_taken, open_at, takes, Timeout, timeout_at, or_timeout, open_timeout, latest, waits_until, waits_or_closed, times_out, goes_otherwise, decides_by}
+use Rattle.pfc_semantics.specs.Selects.{communicates_by, communicates, partner_at, meets_or_waits, meets_at, matched_places, place_taken, open_at, takes}
+use Rattle.pfc_semantics.specs.Selects.{Timeout, timeout_at, or_timeout, open_timeout, latest, waits_until, waits_or_closed, times_out, goes_otherwise}
+use Rattle.pfc_semantics.specs.Selects.{decides_by}
 use Rattle.pfc_accept_laws.proofs.Each.{Told, OpenSo, IsTold, Each, acts_of, acts_stay, EachIn, MayShow, effect_either, it_goes, it_shows}
 
 abbrev pub OthersSo : Told → ℕ → List Activation → Context → Remainder → Option Otherwise → Type 0

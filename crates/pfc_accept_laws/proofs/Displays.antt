@@ -2,7 +2,8 @@
 use Rattle.std.proofs.Common.{inr, ◌≡◌, ◌≢◌, ◌<◌, ℕ, List, [], ◌∷◌, refl, sym, subst, arith}
 use Rattle.pfc_semantics.specs.Displays.{Display}
 use Rattle.pfc_semantics.specs.Programs.{Program}
-use Rattle.pfc_semantics.specs.Remainders.{Context, Argument, Call, Way, leave, own, to_procedure, to_function, to_module, to_requeue, to_process, to_entry, calls, meets, decides, bars, passes, Action}
+use Rattle.pfc_semantics.specs.Remainders.{Context, Argument, Call, Way, leave, own, to_procedure, to_function, to_module, to_requeue, to_process, to_entry}
+use Rattle.pfc_semantics.specs.Remainders.{calls, meets, decides, bars, passes, Action}
 use Rattle.pfc_semantics.specs.Processes.{process_block}
 use Rattle.pfc_semantics.specs.Calls.{new_number, new_display, new_activation, cells_above}
 use Rattle.pfc_semantics.specs.Configurations.{plain, Activation, Config, activity_of}

@@ -9,7 +9,9 @@ use Rattle.pfc_semantics.specs.Remainders.{Accepting, Context, Open, Remainder, 
 use Rattle.pfc_semantics.specs.Rewriting.{Doing, going, holding}
 use Rattle.pfc_semantics.specs.Channels.{behind_open}
 use Rattle.pfc_semantics.specs.Rendezvous.{meeting_of}
-use Rattle.pfc_semantics.specs.Configurations.{Mark, plain, Caller, of_nobody, of_remainder, of_value, Activation, Activity, Hand, empty_hand, offering, Config, Effect, body_of, main_activity, idle_activity, nobody, activity_of, with_activity, at_work, doing_next, goes_on, holds, showing}
+use Rattle.pfc_semantics.specs.Configurations.{Mark, plain, Caller, of_nobody, of_remainder, of_value, Activation, Activity, Hand, empty_hand, offering, Config}
+use Rattle.pfc_semantics.specs.Configurations.{Effect, body_of, main_activity, idle_activity, nobody, activity_of, with_activity, at_work, doing_next, goes_on}
+use Rattle.pfc_semantics.specs.Configurations.{holds, showing}
 use Rattle.pfc_semantics.specs.Calls.{most_cells, unless_full, new_number, new_display, new_activation, cells_above}
 use Rattle.pfc_semantics.specs.Processes.{process_block, process_display, ended_activity}
 use Rattle.pfc_accept_laws.proofs.Lists.{set_changes}

@@ -1,5 +1,6 @@
 -- What is told of each process is so behind every action.
-use Rattle.std.proofs.Common.{◌≡◌, ℕ, ℤ, pos, negsuc, zero, suc, ◌+◌, Bool, true, false, nat_le, if◌then◌else◌, List, [], ◌∷◌, ◌++◌, Option, Some, None, Result, Ok, Err, ◌≢◌, ◌⊎◌, inl, inr, refl, sym, subst}
+use Rattle.std.proofs.Common.{◌≡◌, ℕ, ℤ, pos, negsuc, zero, suc, ◌+◌, Bool, true, false, nat_le, if◌then◌else◌, List, [], ◌∷◌, ◌++◌, Option, Some, None, Result}
+use Rattle.std.proofs.Common.{Ok, Err, ◌≢◌, ◌⊎◌, inl, inr, refl, sym, subst}
 use Rattle.std.specs.Prelude.{◌*◌, ◌/◌}
 use Rattle.rand_pcg.specs.Lcg.{Lcg}
 use Rattle.pfc_base.specs.declared.faults.RunFault.{RunFault}
@@ -25,9 +26,15 @@ use Rattle.pfc_semantics.specs.Objects.{module_number}
 use Rattle.pfc_semantics.specs.Operators.{simple_of}
 use Rattle.pfc_semantics.specs.Displays.{Spot}
 use Rattle.pfc_semantics.specs.Programs.{Block, Program, block_at}
-use Rattle.pfc_semantics.specs.Remainders.{Context, Argument, Bar, Call, Otherwise, Remainder, AwaitsValue, Scan, Tried, Way, leave, own as trying, in_names, scan_on, try_guard, try_other, to_procedure, to_function, to_module, to_requeue, to_process, to_entry, Action, reads, writes, turns, calls, finishes, prints, inputs, skips, asks_eof, asks_eoln, asks_clock, asks_empty, draws, joins, initials, waits, signals, delays, resumes, sleeps, meets, decides, parts, scans, bars, passes, faults}
+use Rattle.pfc_semantics.specs.Remainders.{Context, Argument, Bar, Call, Otherwise, Remainder, AwaitsValue, Scan, Tried, Way, leave, own as trying, in_names}
+use Rattle.pfc_semantics.specs.Remainders.{scan_on, try_guard, try_other, to_procedure, to_function, to_module, to_requeue, to_process, to_entry, Action, reads}
+use Rattle.pfc_semantics.specs.Remainders.{writes, turns, calls, finishes, prints, inputs, skips, asks_eof, asks_eoln, asks_clock, asks_empty, draws, joins}
+use Rattle.pfc_semantics.specs.Remainders.{initials, waits, signals, delays, resumes, sleeps, meets, decides, parts, scans, bars, passes, faults}
 use Rattle.pfc_semantics.specs.Rewriting.{Doing, going, holding}
-use Rattle.pfc_semantics.specs.Configurations.{nobody, Mark, plain, of_monitor, of_resource, Caller, of_nobody, of_remainder, of_value, Activation, Activity, offering, asking, barred_at, Config, Effect, activity_of, goes_on, showing, value_for, number_for, written_for, all_passed, with_table, counted, with_counted, monitors_held, with_monitors, resources_held, with_resources, body_of}
+use Rattle.pfc_semantics.specs.Configurations.{nobody, Mark, plain, of_monitor, of_resource, Caller, of_nobody, of_remainder, of_value, Activation, Activity}
+use Rattle.pfc_semantics.specs.Configurations.{offering, asking, barred_at, Config, Effect, activity_of, goes_on, showing, value_for, number_for, written_for}
+use Rattle.pfc_semantics.specs.Configurations.{all_passed, with_table, counted, with_counted, monitors_held, with_monitors, resources_held, with_resources}
+use Rattle.pfc_semantics.specs.Configurations.{body_of}
 use Rattle.pfc_semantics.specs.Calls.{cells_above, new_number, new_values, activated, left_by, result_in, unless_full}
 use Rattle.pfc_semantics.specs.Processes.{process_block, created, creates, joined, ended_activity, without_all, ended_process}
 use Rattle.pfc_semantics.specs.Semaphores.{initials_at, signals_to}
@@ -39,7 +46,8 @@ use Rattle.pfc_semantics.specs.Selects.{latest, matched_places}
 use Rattle.pfc_semantics.specs.Time.{slept, sleeps_for, clocked}
 use Rattle.pfc_semantics.specs.Steps.{enters_module, calls_by, returns_to, ends_for, ends_body, read_in, skipped_in, drawn_in, effect}
 use Rattle.pfc_accept_laws.proofs.Lists.{set_apart}
-use Rattle.pfc_accept_laws.proofs.Each.{Told, OpenSo, any_open, IsTold, Each, acts_of, acts_stay, EachIn, MayShow, effect_either, unless_full_so, each_with, it_shows, it_goes, it_holds}
+use Rattle.pfc_accept_laws.proofs.Each.{Told, OpenSo, any_open, IsTold, Each, acts_of, acts_stay, EachIn, MayShow, effect_either, unless_full_so, each_with}
+use Rattle.pfc_accept_laws.proofs.Each.{it_shows, it_goes, it_holds}
 use Rattle.pfc_accept_laws.proofs.Communications.{SelectSo, OthersSo, side_so, side_on, called_at_so, meets_so, decides_so}
 
 module _ (t : Told) where

@@ -1,6 +1,9 @@
 -- What comes next in an expression is placed as what it leads to.
 use Rattle.std.proofs.Common.{pos, Bool, true, false, if◌then◌else◌, List, [], ◌∷◌, ◌++◌, Option, Some, None, Ok, Err}
-use Rattle.pfc_tree.specs.trees.Exprs.{ExprTree, SimpleTree, SummandTrees, TermTree, MultiplierTrees, FactorTree, DesigTree, SelectorTrees, ExprTrees, ActualTree, ActualTrees, plain, related, sum, no_summands, more_summands, product, no_multipliers, more_multipliers, number, literal, negation, paren, applied as used, desig, index, field, no_selectors, more_selectors, no_exprs, more_exprs, actual, actual_width, no_actuals, more_actuals}
+use Rattle.pfc_tree.specs.trees.Exprs.{ExprTree, SimpleTree, SummandTrees, TermTree, MultiplierTrees, FactorTree, DesigTree, SelectorTrees, ExprTrees}
+use Rattle.pfc_tree.specs.trees.Exprs.{ActualTree, ActualTrees, plain, related, sum, no_summands, more_summands, product, no_multipliers, more_multipliers}
+use Rattle.pfc_tree.specs.trees.Exprs.{number, literal, negation, paren, applied as used, desig, index, field, no_selectors, more_selectors, no_exprs}
+use Rattle.pfc_tree.specs.trees.Exprs.{more_exprs, actual, actual_width, no_actuals, more_actuals}
 use Rattle.pfc_types.specs.Scopes.{meaning_of}
 use Rattle.pfc_types.specs.Blocks.{sub_at}
 use Rattle.pfc_types.specs.rules.Expressions.{find, first_type}
@@ -15,8 +18,12 @@ use Rattle.pfc_semantics.specs.Displays.{TypedSpot}
 use Rattle.pfc_semantics.specs.Operators.{signed, added, multiplied, compared, applied, simple_of}
 use Rattle.pfc_semantics.specs.Predeclared.{Function, eof, eoln, empty, clock, random, function_of}
 use Rattle.pfc_semantics.specs.Programs.{Block}
-use Rattle.pfc_semantics.specs.Remainders.{Context, Argument, by_value, by_reference, AwaitsValue, AwaitsLocation, Call, Action, begin_sum, add_to, begin_product, multiply_by, compare_with, compare_to, invert, apply, index_into, pass_value, read_for, pass_variable, ask_empty, to_function, reads, asks_empty}
-use Rattle.pfc_semantics.specs.Expressions.{with_number, char_in, spot_in, spot_of, field_spot, element_spot, with_element, finish_call, from_function, from_name, from_expr, from_simple, from_summands, from_term, from_multipliers, from_factor, from_argument, from_reference, from_actual, from_lent, from_variable, from_args, from_selectors, from_indices, from_desig}
+use Rattle.pfc_semantics.specs.Remainders.{Context, Argument, by_value, by_reference, AwaitsValue, AwaitsLocation, Call, Action, begin_sum, add_to}
+use Rattle.pfc_semantics.specs.Remainders.{begin_product, multiply_by, compare_with, compare_to, invert, apply, index_into, pass_value, read_for, pass_variable}
+use Rattle.pfc_semantics.specs.Remainders.{ask_empty, to_function, reads, asks_empty}
+use Rattle.pfc_semantics.specs.Expressions.{with_number, char_in, spot_in, spot_of, field_spot, element_spot, with_element, finish_call, from_function}
+use Rattle.pfc_semantics.specs.Expressions.{from_name, from_expr, from_simple, from_summands, from_term, from_multipliers, from_factor, from_argument}
+use Rattle.pfc_semantics.specs.Expressions.{from_reference, from_actual, from_lent, from_variable, from_args, from_selectors, from_indices, from_desig}
 use Rattle.pfc_accept_laws.specs.Places.{PlacesAwaiting, PlacesGoal, PlacesCalling, PlacesAction}
 
 module _ (b : Block) where

@@ -8,15 +8,25 @@ use Rattle.pfc_semantics.specs.Values.{Value, ordinal, ordinal_of}
 use Rattle.pfc_semantics.specs.Displays.{TypedSpot}
 use Rattle.pfc_semantics.specs.Operators.{signed, added, multiplied, compared}
 use Rattle.pfc_semantics.specs.Programs.{Block}
-use Rattle.pfc_semantics.specs.Remainders.{Context, Tried, Scan, Remainder, AwaitsValue, AwaitsLocation, ends, perform, in_names, turn, until, behind_pass, next_pass, write_on, read_on, at_coend, part_from, write_again, go_through, try_guard, scan_on, try_other, begin_sum, add_to, begin_product, multiply_by, compare_with, compare_to, invert, apply, index_into, pass_value, store_at, choose, choose_arm, while_true, until_true, count_from, count_to, show, show_wide, pad, set_count, delay_with, sleep_for, send_on, open_if, offer_value, offer_wait, pass_own, pass_other, read_for, assign_to, input_to, pass_variable, ask_empty, activate_with, enter_with, initial_to, wait_at, signal_at, delay_at, resume_at, send_to, receive_from, receive_into, offer_to, offer_from, offer_into, by_value, by_reference, to_process, to_entry, to_send, to_receive, writes, turns, initials, bars, scans, passes}
+use Rattle.pfc_semantics.specs.Remainders.{Context, Tried, Scan, Remainder, AwaitsValue, AwaitsLocation, ends, perform, in_names, turn, until, behind_pass}
+use Rattle.pfc_semantics.specs.Remainders.{next_pass, write_on, read_on, at_coend, part_from, write_again, go_through, try_guard, scan_on, try_other, begin_sum}
+use Rattle.pfc_semantics.specs.Remainders.{add_to, begin_product, multiply_by, compare_with, compare_to, invert, apply, index_into, pass_value, store_at}
+use Rattle.pfc_semantics.specs.Remainders.{choose, choose_arm, while_true, until_true, count_from, count_to, show, show_wide, pad, set_count, delay_with}
+use Rattle.pfc_semantics.specs.Remainders.{sleep_for, send_on, open_if, offer_value, offer_wait, pass_own, pass_other, read_for, assign_to, input_to}
+use Rattle.pfc_semantics.specs.Remainders.{pass_variable, ask_empty, activate_with, enter_with, initial_to, wait_at, signal_at, delay_at, resume_at, send_to}
+use Rattle.pfc_semantics.specs.Remainders.{receive_from, receive_into, offer_to, offer_from, offer_into, by_value, by_reference, to_process, to_entry, to_send}
+use Rattle.pfc_semantics.specs.Remainders.{to_receive, writes, turns, initials, bars, scans, passes}
 use Rattle.pfc_semantics.specs.Expressions.{element_spot, from_summands, from_multipliers, from_selectors, from_indices}
 use Rattle.pfc_semantics.specs.Alternatives.{context, with_open, from_alternatives}
 use Rattle.pfc_semantics.specs.Statements.{from_stmt, from_until, from_bounds, from_width, shown_as, counting, again}
 use Rattle.pfc_semantics.specs.Rewriting.{from_other, from_remainder, from_location, from_value, Doing, going, holding, next}
 use Rattle.pfc_accept_laws.specs.Places.{PlacesRemainder, PlacesAwaiting, PlacesGoal, PlacesAction, PlacesDoing}
-use Rattle.pfc_accept_laws.proofs.ExpressionPlaces.{either, number_on, element_on, function_ends, expr_places, simple_places, summands_place, multipliers_place, args_place, selectors_place, indices_place}
-use Rattle.pfc_accept_laws.proofs.AlternativePlaces.{open_places, seconds_place, message_places, receiver_places, opened_places, guard_places, alternatives_place}
-use Rattle.pfc_accept_laws.proofs.StatementPlaces.{width_places, writes_place, reads_place, delay_places, sent_places, received_places, pass_begins, bounds_place, pass_places, again_places, until_places, stmt_places, stmts_place, arms_place}
+use Rattle.pfc_accept_laws.proofs.ExpressionPlaces.{either, number_on, element_on, function_ends, expr_places, simple_places, summands_place, multipliers_place}
+use Rattle.pfc_accept_laws.proofs.ExpressionPlaces.{args_place, selectors_place, indices_place}
+use Rattle.pfc_accept_laws.proofs.AlternativePlaces.{open_places, seconds_place, message_places, receiver_places, opened_places, guard_places}
+use Rattle.pfc_accept_laws.proofs.AlternativePlaces.{alternatives_place}
+use Rattle.pfc_accept_laws.proofs.StatementPlaces.{width_places, writes_place, reads_place, delay_places, sent_places, received_places, pass_begins}
+use Rattle.pfc_accept_laws.proofs.StatementPlaces.{bounds_place, pass_places, again_places, until_places, stmt_places, stmts_place, arms_place}
 
 module _ (b : Block) where
   other_places : (c : Context) (w : Tried) (s : Scan) (k : Remainder) → ((e : Env) → PlacesRemainder b e k) → (v : Value) → PlacesAction b (from_other c w s k v)

@@ -8,7 +8,8 @@ use Rattle.pfc_types.specs.Scopes.{Level}
 use Rattle.pfc_types.specs.rules.Expressions.{Env}
 use Rattle.pfc_types.specs.rules.Statements.{within_accept, stmts_scopes}
 use Rattle.pfc_semantics.specs.Programs.{Block}
-use Rattle.pfc_semantics.specs.Remainders.{Remainder, ends, perform, in_names, turn, until, behind_pass, next_pass, write_on, read_on, at_coend, part_from, write_again, go_through, try_guard, scan_on, try_other}
+use Rattle.pfc_semantics.specs.Remainders.{Remainder, ends, perform, in_names, turn, until, behind_pass, next_pass, write_on, read_on, at_coend, part_from}
+use Rattle.pfc_semantics.specs.Remainders.{write_again, go_through, try_guard, scan_on, try_other}
 use Rattle.pfc_semantics.specs.Statements.{behind}
 use Rattle.pfc_accept_laws.specs.Places.{IsBefore, IsLow, IsPlaced, PlacesStmts}
 

@@ -1,7 +1,8 @@
 -- What processes show that offer alternatives is what they were about to offer.
 use Rattle.std.proofs.Common.{◌≡◌, ℕ, inl, inr, List, [], ◌∷◌, refl, subst}
 use Rattle.pfc_semantics.specs.Programs.{Program}
-use Rattle.pfc_semantics.specs.Remainders.{Context, Argument, Call, Open, Remainder, Way, Action, leave, own, to_procedure, to_function, to_module, to_requeue, to_process, to_entry, calls, meets, decides, bars, passes}
+use Rattle.pfc_semantics.specs.Remainders.{Context, Argument, Call, Open, Remainder, Way, Action, leave, own, to_procedure, to_function, to_module, to_requeue}
+use Rattle.pfc_semantics.specs.Remainders.{to_process, to_entry, calls, meets, decides, bars, passes}
 use Rattle.pfc_semantics.specs.Configurations.{Hand, empty_hand, offering, asking, barred_at, Config, activity_of, start}
 use Rattle.pfc_semantics.specs.Events.{step}
 use Rattle.pfc_semantics.specs.Steps.{next_of}

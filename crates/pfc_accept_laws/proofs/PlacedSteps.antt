@@ -3,7 +3,10 @@ use Rattle.std.proofs.Common.{◌≡◌, ◌≢◌, inl, ℕ, false, List, [], �
 use Rattle.pfc_state.specs.Stands.{is_unfinished}
 use Rattle.pfc_world.specs.Tables.{at}
 use Rattle.pfc_semantics.specs.Programs.{Block, Program}
-use Rattle.pfc_semantics.specs.Remainders.{Context, Argument, Call, Open, Otherwise, Selecting, Remainder, Way, Action, leave, own as trying, to_procedure, to_function, to_module, to_requeue, to_process, to_entry, reads, writes, turns, calls, finishes, prints, inputs, skips, asks_eof, asks_eoln, asks_clock, asks_empty, draws, joins, initials, waits, signals, delays, resumes, sleeps, meets, decides, parts, scans, bars, passes, faults}
+use Rattle.pfc_semantics.specs.Remainders.{Context, Argument, Call, Open, Otherwise, Selecting, Remainder, Way, Action, leave, own as trying, to_procedure}
+use Rattle.pfc_semantics.specs.Remainders.{to_function, to_module, to_requeue, to_process, to_entry, reads, writes, turns, calls, finishes, prints, inputs}
+use Rattle.pfc_semantics.specs.Remainders.{skips, asks_eof, asks_eoln, asks_clock, asks_empty, draws, joins, initials, waits, signals, delays, resumes, sleeps}
+use Rattle.pfc_semantics.specs.Remainders.{meets, decides, parts, scans, bars, passes, faults}
 use Rattle.pfc_semantics.specs.Rewriting.{Doing, going, next}
 use Rattle.pfc_semantics.specs.Configurations.{Activation, Hand, offering, asking, barred_at, Config, activity_of}
 use Rattle.pfc_semantics.specs.Events.{step}

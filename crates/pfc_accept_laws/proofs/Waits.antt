@@ -22,19 +22,26 @@ use Rattle.pfc_semantics.specs.Objects.{module_number}
 use Rattle.pfc_semantics.specs.Operators.{simple_of}
 use Rattle.pfc_semantics.specs.Displays.{Spot}
 use Rattle.pfc_semantics.specs.Programs.{Block, Program, block_at}
-use Rattle.pfc_semantics.specs.Remainders.{Context, Argument, Call, Open, Otherwise, Selecting, Remainder, AwaitsValue, Scan, Tried, Way, leave, own as trying, to_procedure, to_function, to_module, to_requeue, to_process, to_entry, Action, reads, writes, turns, calls, finishes, prints, inputs, skips, asks_eof, asks_eoln, asks_clock, asks_empty, draws, joins, initials, waits, signals, delays, resumes, sleeps, meets, decides, parts, scans, bars, passes, faults}
+use Rattle.pfc_semantics.specs.Remainders.{Context, Argument, Call, Open, Otherwise, Selecting, Remainder, AwaitsValue, Scan, Tried, Way, leave, own as trying}
+use Rattle.pfc_semantics.specs.Remainders.{to_procedure, to_function, to_module, to_requeue, to_process, to_entry, Action, reads, writes, turns, calls}
+use Rattle.pfc_semantics.specs.Remainders.{finishes, prints, inputs, skips, asks_eof, asks_eoln, asks_clock, asks_empty, draws, joins, initials, waits, signals}
+use Rattle.pfc_semantics.specs.Remainders.{delays, resumes, sleeps, meets, decides, parts, scans, bars, passes, faults}
 use Rattle.pfc_semantics.specs.Rewriting.{going}
-use Rattle.pfc_semantics.specs.Configurations.{Mark, plain, of_monitor, of_resource, Caller, of_nobody, of_remainder, of_value, Activation, Config, Effect, activity_of, goes_on, number_for, all_passed, with_table, counted, with_counted, monitors_held, with_monitors, resources_held, with_resources, body_of, after}
+use Rattle.pfc_semantics.specs.Configurations.{Mark, plain, of_monitor, of_resource, Caller, of_nobody, of_remainder, of_value, Activation, Config, Effect}
+use Rattle.pfc_semantics.specs.Configurations.{activity_of, goes_on, number_for, all_passed, with_table, counted, with_counted, monitors_held, with_monitors}
+use Rattle.pfc_semantics.specs.Configurations.{resources_held, with_resources, body_of, after}
 use Rattle.pfc_semantics.specs.Calls.{most_cells, cells_above, activated, left_by, unless_full}
 use Rattle.pfc_semantics.specs.Processes.{process_block, created, creates, joined}
 use Rattle.pfc_semantics.specs.Semaphores.{initials_at, signals_to}
 use Rattle.pfc_semantics.specs.Monitors.{monitor_of, is_inside, enters_monitor}
 use Rattle.pfc_semantics.specs.Resources.{guarded_body, enters_resource, tried_at, scanned_all, scanned_to, passed_by, requeued_in, requeues}
 use Rattle.pfc_semantics.specs.Channels.{arm_of, arms_of_all, behind_open}
-use Rattle.pfc_semantics.specs.Selects.{matched_places, place_taken, Timeout, open_timeout, may_terminate_at, latest, waits_until, waits_or_closed, times_out, goes_otherwise, decides_by}
+use Rattle.pfc_semantics.specs.Selects.{matched_places, place_taken, Timeout, open_timeout, may_terminate_at, latest, waits_until, waits_or_closed, times_out}
+use Rattle.pfc_semantics.specs.Selects.{goes_otherwise, decides_by}
 use Rattle.pfc_semantics.specs.Time.{slept, sleeps_for, clocked}
 use Rattle.pfc_semantics.specs.Steps.{enters_module, calls_by, returns_to, ends_for, ends_body, read_in, skipped_in, drawn_in, effect}
-use Rattle.pfc_accept_laws.proofs.Rows.{IsNoCall, RowsSo, placed_so, blocked_so, all_started_so, finished_so, waited_so, signalled_so, handed_so, entered_so, delayed_so, resumed_so, resource_so, given_up_so, barred_so, passed_so, requeued_so, plainly_so, committed_so}
+use Rattle.pfc_accept_laws.proofs.Rows.{IsNoCall, RowsSo, placed_so, blocked_so, all_started_so, finished_so, waited_so, signalled_so, handed_so, entered_so}
+use Rattle.pfc_accept_laws.proofs.Rows.{delayed_so, resumed_so, resource_so, given_up_so, barred_so, passed_so, requeued_so, plainly_so, committed_so}
 
 -- no call of an entry
 abbrev pub IsElse : Action → Type 0

@@ -9,7 +9,16 @@ use Rattle.pfc_types.specs.Scopes.{Level}
 use Rattle.pfc_types.specs.rules.Expressions.{Env}
 use Rattle.pfc_types.specs.rules.Statements.{scopes_in, stmts_scopes, arms_scopes, comm_scopes}
 use Rattle.pfc_semantics.specs.Programs.{Block}
-use Rattle.pfc_semantics.specs.Remainders.{Count, Offer, Open, Alternative, Otherwise, Selecting, Remainder, AwaitsValue, AwaitsLocation, Call, Action, to_accept, ends, perform, in_names, turn, until, behind_pass, next_pass, write_on, read_on, at_coend, part_from, write_again, go_through, try_guard, scan_on, try_other, begin_sum, add_to, begin_product, multiply_by, compare_with, compare_to, invert, apply, index_into, pass_value, store_at, choose, choose_arm, while_true, until_true, count_from, count_to, show, show_wide, pad, set_count, delay_with, sleep_for, send_on, open_if, offer_value, offer_wait, pass_own, pass_other, read_for, assign_to, input_to, pass_variable, ask_empty, activate_with, enter_with, initial_to, wait_at, signal_at, delay_at, resume_at, send_to, receive_from, receive_into, offer_to, offer_from, offer_into, to_procedure, to_function, to_module, to_requeue, to_process, to_entry, reads, writes, turns, calls, finishes, prints, inputs, skips, asks_eof, asks_eoln, asks_clock, asks_empty, draws, joins, initials, waits, signals, delays, resumes, sleeps, meets, decides, parts, scans, bars, passes, faults}
+use Rattle.pfc_semantics.specs.Remainders.{Count, Offer, Open, Alternative, Otherwise, Selecting, Remainder, AwaitsValue, AwaitsLocation, Call, Action}
+use Rattle.pfc_semantics.specs.Remainders.{to_accept, ends, perform, in_names, turn, until, behind_pass, next_pass, write_on, read_on, at_coend, part_from}
+use Rattle.pfc_semantics.specs.Remainders.{write_again, go_through, try_guard, scan_on, try_other, begin_sum, add_to, begin_product, multiply_by, compare_with}
+use Rattle.pfc_semantics.specs.Remainders.{compare_to, invert, apply, index_into, pass_value, store_at, choose, choose_arm, while_true, until_true, count_from}
+use Rattle.pfc_semantics.specs.Remainders.{count_to, show, show_wide, pad, set_count, delay_with, sleep_for, send_on, open_if, offer_value, offer_wait}
+use Rattle.pfc_semantics.specs.Remainders.{pass_own, pass_other, read_for, assign_to, input_to, pass_variable, ask_empty, activate_with, enter_with, initial_to}
+use Rattle.pfc_semantics.specs.Remainders.{wait_at, signal_at, delay_at, resume_at, send_to, receive_from, receive_into, offer_to, offer_from, offer_into}
+use Rattle.pfc_semantics.specs.Remainders.{to_procedure, to_function, to_module, to_requeue, to_process, to_entry, reads, writes, turns, calls, finishes}
+use Rattle.pfc_semantics.specs.Remainders.{prints, inputs, skips, asks_eof, asks_eoln, asks_clock, asks_empty, draws, joins, initials, waits, signals, delays}
+use Rattle.pfc_semantics.specs.Remainders.{resumes, sleeps, meets, decides, parts, scans, bars, passes, faults}
 use Rattle.pfc_semantics.specs.Rewriting.{Doing, going, holding}
 
 -- ## Numbers of scopes

@@ -2,7 +2,8 @@
 use Rattle.std.proofs.Common.{◌≡◌, true, [], ◌∷◌, refl}
 use Rattle.pfc_sched.specs.Picks.{by_turn}
 use Rattle.pfc_machines.specs.Machines.{start_machine}
-use Rattle.pfc_acts_tests.specs.Programs.{sum_image, reference_image, semaphore_image, message_image, rendezvous_image, monitor_image, select_image, resource_image, fault_image}
+use Rattle.pfc_acts_tests.specs.Programs.{sum_image, reference_image, semaphore_image, message_image, rendezvous_image, monitor_image, select_image}
+use Rattle.pfc_acts_tests.specs.Programs.{resource_image, fault_image}
 use Rattle.pfc_acts_tests.specs.Runs.{may_run}
 
 pub sum_runs : may_run sum_image (0 ∷ 0 ∷ 0 ∷ 0 ∷ 0 ∷ 0 ∷ 0 ∷ 0 ∷ 0 ∷ 0 ∷ 0 ∷ 0 ∷ 0 ∷ []) (by_turn 0) (start_machine sum_image [] 1) ≡ true

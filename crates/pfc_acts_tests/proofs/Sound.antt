@@ -1,12 +1,15 @@
 -- What is computed of an action is so.
-use Rattle.std.proofs.Common.{◌≡◌, ℕ, zero, suc, ◌+◌, ◌^◌, ◌<◌, ◌≤◌, ◌==◌, nat_le, nat_lt, Bool, true, false, not, ◌&&◌, ℤ, List, [], ◌∷◌, length, Option, None, Some, IfSome, refl, sym, ap, subst, ◌∙◌}
+use Rattle.std.proofs.Common.{◌≡◌, ℕ, zero, suc, ◌+◌, ◌^◌, ◌<◌, ◌≤◌, ◌==◌, nat_le, nat_lt, Bool, true, false, not, ◌&&◌, ℤ, List, [], ◌∷◌, length, Option, None}
+use Rattle.std.proofs.Common.{Some, IfSome, refl, sym, ap, subst, ◌∙◌}
 use Rattle.std.specs.List.{slice_get}
 use Rattle.std.proofs.lemmas.Bool.{and_parts, leb-true, ltb-true, lt-ltb, eqb-true, eq-eqb}
 use Rattle.std.proofs.lemmas.Float.{T_from_true}
 use Rattle.std.proofs.lemmas.Option.{none-some}
 use Rattle.pfc_code.specs.declared.images.Block.{Block}
 use Rattle.pfc_code.specs.declared.instructions.Instr.{Instr}
-use Rattle.pfc_code.specs.declared.instructions.Instr.TheVariants.{ADDR, REF, IDX, FLD, LOAD, STORE, FORW, CALL, RET, RETF, MCALL, RCALL, GRD, SCAN, REQ, NEW, SINI, SWAIT, SSIG, SEND, RECV, ECALL, ACC, EACC, SEL, DELAY, RESUME, EMPTY, CLOCK, RAND, WRS, RDI, RDC, EOF, EOLN}
+use Rattle.pfc_code.specs.declared.instructions.Instr.TheVariants.{ADDR, REF, IDX, FLD, LOAD, STORE, FORW, CALL, RET, RETF, MCALL, RCALL, GRD, SCAN, REQ, NEW}
+use Rattle.pfc_code.specs.declared.instructions.Instr.TheVariants.{SINI, SWAIT, SSIG, SEND, RECV, ECALL, ACC, EACC, SEL, DELAY, RESUME, EMPTY, CLOCK, RAND, WRS}
+use Rattle.pfc_code.specs.declared.instructions.Instr.TheVariants.{RDI, RDC, EOF, EOLN}
 use Rattle.pfc_code.specs.Images.{PlainImage}
 use Rattle.pfc_sched.specs.Picks.{Picking}
 use Rattle.pfc_stacks.specs.declared.marks.Mark.{Mark}
@@ -51,7 +54,12 @@ use Rattle.pfc_machine_acts.specs.Conditions.{CanSelect, CanCommunicate, CanHold
 use Rattle.pfc_machine_acts.specs.Performing.{choices_for}
 use Rattle.pfc_machine_acts.specs.Quietly.{quietly, next_instr, CanTry, CanStep}
 use Rattle.pfc_machine_acts.specs.Running.{QuietRun, IsNoMove, IsNext, effect_of_next}
-use Rattle.pfc_acts_tests.specs.Deciding.{implies, is_holder, if_some, is_some_and, is_address, leads, reckons, reaches, may_perform, may_go, where_outward, may_try, may_step, is_no_move, on_goes, may_walk, moved, walked, instr_of, is_not_new, are_old, may_act_at, is_acting, may_take, may_hand_over, may_give, may_meet, may_be_called, is_in_meeting, is_barred_at, may_communicate_with, may_offer, may_match, may_match_at, may_take_at, may_decide, may_select, may_communicate, holds, is_acts, may_hold, may_call, holds_marked, is_process, may_activate, may_read, may_live, may_print, may_do, quiet_of, before_action, action_of, may_act}
+use Rattle.pfc_acts_tests.specs.Deciding.{implies, is_holder, if_some, is_some_and, is_address, leads, reckons, reaches, may_perform, may_go, where_outward}
+use Rattle.pfc_acts_tests.specs.Deciding.{may_try, may_step, is_no_move, on_goes, may_walk, moved, walked, instr_of, is_not_new, are_old, may_act_at, is_acting}
+use Rattle.pfc_acts_tests.specs.Deciding.{may_take, may_hand_over, may_give, may_meet, may_be_called, is_in_meeting, is_barred_at, may_communicate_with}
+use Rattle.pfc_acts_tests.specs.Deciding.{may_offer, may_match, may_match_at, may_take_at, may_decide, may_select, may_communicate, holds, is_acts, may_hold}
+use Rattle.pfc_acts_tests.specs.Deciding.{may_call, holds_marked, is_process, may_activate, may_read, may_live, may_print, may_do, quiet_of, before_action}
+use Rattle.pfc_acts_tests.specs.Deciding.{action_of, may_act}
 
 -- ## Parts
 

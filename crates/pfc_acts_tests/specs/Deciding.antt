@@ -1,9 +1,12 @@
 -- Whether what an action asks of the machine is met, computed.
-use Rattle.std.specs.Prelude.{ℕ, zero, suc, ◌+◌, ◌-◌, ◌*◌, ◌^◌, ◌==◌, nat_le, nat_lt, Bool, true, false, not, ◌&&◌, ℤ, pos, ◌+ℤ◌, int_le, int_lt, List, [], ◌∷◌, length, Option, None, Some}
+use Rattle.std.specs.Prelude.{ℕ, zero, suc, ◌+◌, ◌-◌, ◌*◌, ◌^◌, ◌==◌, nat_le, nat_lt, Bool, true, false, not, ◌&&◌, ℤ, pos, ◌+ℤ◌, int_le, int_lt, List, [], ◌∷◌}
+use Rattle.std.specs.Prelude.{length, Option, None, Some}
 use Rattle.std.specs.List.{slice_get}
 use Rattle.pfc_code.specs.declared.images.Block.{Block}
 use Rattle.pfc_code.specs.declared.instructions.Instr.{Instr}
-use Rattle.pfc_code.specs.declared.instructions.Instr.TheVariants.{ADDR, REF, IDX, FLD, LOAD, STORE, FORW, CALL, RET, RETF, MCALL, RCALL, GRD, SCAN, REQ, NEW, END, SINI, SWAIT, SSIG, SEND, RECV, ECALL, ACC, EACC, SEL, DELAY, RESUME, EMPTY, CLOCK, RAND, WRS, RDI, RDC, EOF, EOLN}
+use Rattle.pfc_code.specs.declared.instructions.Instr.TheVariants.{ADDR, REF, IDX, FLD, LOAD, STORE, FORW, CALL, RET, RETF, MCALL, RCALL, GRD, SCAN, REQ, NEW}
+use Rattle.pfc_code.specs.declared.instructions.Instr.TheVariants.{END, SINI, SWAIT, SSIG, SEND, RECV, ECALL, ACC, EACC, SEL, DELAY, RESUME, EMPTY, CLOCK, RAND}
+use Rattle.pfc_code.specs.declared.instructions.Instr.TheVariants.{WRS, RDI, RDC, EOF, EOLN}
 use Rattle.pfc_code.specs.Images.{PlainImage}
 use Rattle.pfc_code.specs.Operands.{told}
 use Rattle.pfc_code.specs.Operands as table

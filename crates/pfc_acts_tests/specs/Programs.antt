@@ -2,7 +2,9 @@
 use Rattle.std.specs.Prelude.{ℕ, pos, [], ◌∷◌}
 use Rattle.pfc_code.specs.declared.images.Block.{Block}
 use Rattle.pfc_code.specs.declared.images.ProcessInfo.{ProcessInfo}
-use Rattle.pfc_code.specs.declared.instructions.Instr.TheVariants.{ACC, ADD, ADDR, ARMR, CALL, COEND, DELAY, DIV, EACC, ECALL, END, FORB, FORT, FORW, GRD, JMP, LIT, LOAD, MCALL, NEW, OBJ, RCALL, RECV, REF, RESUME, RET, SCAN, SEL, SEND, SINI, SSIG, STORE, SUB, SWAIT, WRC, WRI, WRNL}
+use Rattle.pfc_code.specs.declared.instructions.Instr.TheVariants.{ACC, ADD, ADDR, ARMR, CALL, COEND, DELAY, DIV, EACC, ECALL, END, FORB, FORT, FORW, GRD, JMP}
+use Rattle.pfc_code.specs.declared.instructions.Instr.TheVariants.{LIT, LOAD, MCALL, NEW, OBJ, RCALL, RECV, REF, RESUME, RET, SCAN, SEL, SEND, SINI, SSIG}
+use Rattle.pfc_code.specs.declared.instructions.Instr.TheVariants.{STORE, SUB, SWAIT, WRC, WRI, WRNL}
 use Rattle.pfc_code.specs.Images.{PlainImage}
 
 -- by entry, body, parameters, cells, operands, level and line; its label is p

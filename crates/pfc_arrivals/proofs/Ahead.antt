@@ -1,10 +1,13 @@
 -- Where a quiet instruction leads: to the next one, or to the address that it names.
-use Rattle.std.proofs.Common.{◌≡◌, ℕ, ◌+◌, ℤ, Bool, true, false, if◌then◌else◌, List, [], ◌∷◌, ◌++◌, drop, Option, Some, None, Ok, Err, refl, sym, ap, ◌∙◌, ◌⊎◌, inl, inr}
+use Rattle.std.proofs.Common.{◌≡◌, ℕ, ◌+◌, ℤ, Bool, true, false, if◌then◌else◌, List, [], ◌∷◌, ◌++◌, drop, Option, Some, None, Ok, Err, refl, sym, ap, ◌∙◌, ◌⊎◌}
+use Rattle.std.proofs.Common.{inl, inr}
 use Rattle.std.specs.Prelude.{pos, int_lt, set}
 use Rattle.std.specs.Ordering.{int_eq}
 use Rattle.pfc_base.specs.declared.faults.RunFault.TheVariants.{Below}
 use Rattle.pfc_code.specs.declared.instructions.Instr.{Instr}
-use Rattle.pfc_code.specs.declared.instructions.Instr.TheVariants.{LIT, ADDR, REF, IDX, FLD, OBJ, NEG, ADD, SUB, MUL, DIV, MOD, ABS, SQR, ODD, CHR, SUCC, PRED, NOT, AND, OR, EQ, NE, LT, LE, GT, GE, JMP, JF, FORB, FORT, CEQ, GRD, ARMS, ARMR, ARMA, ARMT, ARMX, SEL}
+use Rattle.pfc_code.specs.declared.instructions.Instr.TheVariants.{LIT, ADDR, REF, IDX, FLD, OBJ, NEG, ADD, SUB, MUL, DIV, MOD, ABS, SQR, ODD, CHR, SUCC, PRED}
+use Rattle.pfc_code.specs.declared.instructions.Instr.TheVariants.{NOT, AND, OR, EQ, NE, LT, LE, GT, GE, JMP, JF, FORB, FORT, CEQ, GRD, ARMS, ARMR, ARMA, ARMT}
+use Rattle.pfc_code.specs.declared.instructions.Instr.TheVariants.{ARMX, SEL}
 use Rattle.pfc_code.specs.Operands.{receiving}
 use Rattle.pfc_image_laws.specs.Operands.{address_ahead, is_end}
 use Rattle.pfc_values.specs.Numbers.{Outcome, is_true}

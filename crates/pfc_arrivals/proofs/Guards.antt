@@ -4,13 +4,20 @@ use Rattle.pfc_code.specs.declared.instructions.Instr.{Instr}
 use Rattle.pfc_code.specs.declared.instructions.Instr.TheVariants.{JMP, GRD, NOT, LOAD}
 use Rattle.pfc_types.specs.declared.types.TypeId.{TypeId}
 use Rattle.pfc_semantics.specs.Programs.{Block}
-use Rattle.pfc_semantics.specs.Remainders.{Context, Scan, Tried, AwaitsValue, AwaitsLocation, ends, perform, in_names, turn, until, behind_pass, next_pass, write_on, read_on, at_coend, part_from, write_again, go_through, try_guard, scan_on, try_other, begin_sum, add_to, begin_product, multiply_by, compare_with, compare_to, invert, apply, index_into, pass_value, store_at, choose, choose_arm, while_true, until_true, count_from, count_to, show, show_wide, pad, set_count, delay_with, sleep_for, send_on, open_if, offer_value, offer_wait, pass_own, pass_other, read_for, assign_to, input_to, pass_variable, ask_empty, activate_with, enter_with, initial_to, wait_at, signal_at, delay_at, resume_at, send_to, receive_from, receive_into, offer_to, offer_from, offer_into}
+use Rattle.pfc_semantics.specs.Remainders.{Context, Scan, Tried, AwaitsValue, AwaitsLocation, ends, perform, in_names, turn, until, behind_pass, next_pass}
+use Rattle.pfc_semantics.specs.Remainders.{write_on, read_on, at_coend, part_from, write_again, go_through, try_guard, scan_on, try_other, begin_sum, add_to}
+use Rattle.pfc_semantics.specs.Remainders.{begin_product, multiply_by, compare_with, compare_to, invert, apply, index_into, pass_value, store_at, choose}
+use Rattle.pfc_semantics.specs.Remainders.{choose_arm, while_true, until_true, count_from, count_to, show, show_wide, pad, set_count, delay_with, sleep_for}
+use Rattle.pfc_semantics.specs.Remainders.{send_on, open_if, offer_value, offer_wait, pass_own, pass_other, read_for, assign_to, input_to, pass_variable}
+use Rattle.pfc_semantics.specs.Remainders.{ask_empty, activate_with, enter_with, initial_to, wait_at, signal_at, delay_at, resume_at, send_to, receive_from}
+use Rattle.pfc_semantics.specs.Remainders.{receive_into, offer_to, offer_from, offer_into}
 use Rattle.pfc_semantics.specs.Expressions.{form_in}
 use Rattle.pfc_semantics.specs.Rewriting.{Doing, going, holding}
 use Rattle.pfc_translation.specs.Sites.{Site, forms_of}
 use Rattle.pfc_translation.specs.Codes.{Code, Lined, ◌⨾◌, one}
 use Rattle.pfc_translation.specs.Addresses.{element_in, type_behind, index_instr}
-use Rattle.pfc_translation.specs.Expressions.{relation_instr, add_instr, multiply_instr, sign_code, simple_code, summands_code, multipliers_code, expr_code, selectors_code, indices_code}
+use Rattle.pfc_translation.specs.Expressions.{relation_instr, add_instr, multiply_instr, sign_code, simple_code, summands_code, multipliers_code, expr_code}
+use Rattle.pfc_translation.specs.Expressions.{selectors_code, indices_code}
 use Rattle.pfc_standing_code.specs.Shapes.{Shape, shape_of, shape_cells}
 use Rattle.pfc_standing_code.specs.Settings.{Attempt, Setting, of_own, of_turn, of_another, site_of, IsAt, HasCode, Stands, Leads, arrived, jump}
 use Rattle.pfc_standing_code.specs.Sizes.{IsSized}
@@ -25,7 +32,9 @@ use Rattle.pfc_base.specs.declared.places.Place.{Place}
 use Rattle.pfc_tree.specs.declared.tree.Sign.{Sign}
 use Rattle.pfc_tree.specs.declared.tree.Sign.TheVariants.{Plus, Minus}
 use Rattle.pfc_semantics.specs.Predeclared.{Function, abs, sqr, odd, ord, chr, succ, pred, eof, eoln, empty, clock, random, no_function}
-use Rattle.pfc_arrivals.proofs.Evaluating.{may_evaluate, AllEvaluate, Evaluates, both, evaluates_one, evaluates_nothing, relates, adds, multiplies, indexes, evaluates_sign, evaluates_function, evaluates_expr, evaluates_simple, evaluates_summands, evaluates_multipliers, evaluates_selectors, evaluates_indices}
+use Rattle.pfc_arrivals.proofs.Evaluating.{may_evaluate, AllEvaluate, Evaluates, both, evaluates_one, evaluates_nothing, relates, adds, multiplies, indexes}
+use Rattle.pfc_arrivals.proofs.Evaluating.{evaluates_sign, evaluates_function, evaluates_expr, evaluates_simple, evaluates_summands, evaluates_multipliers}
+use Rattle.pfc_arrivals.proofs.Evaluating.{evaluates_selectors, evaluates_indices}
 
 -- ## Sizes
 

@@ -1,7 +1,8 @@
 -- The run-time faults: their numbers and their words.
 use Rattle.std.specs.Prelude.{ℕ, List, codes}
 use Rattle.pfc_base.specs.declared.faults.RunFault.{RunFault}
-use Rattle.pfc_base.specs.declared.faults.RunFault.TheVariants.{Overflow, Division, Index, Range, Case, Stack, InputEnd, NoInteger, Active, Negative, Count, NotActive, Closed, Below, Late, Width}
+use Rattle.pfc_base.specs.declared.faults.RunFault.TheVariants.{Overflow, Division, Index, Range, Case, Stack, InputEnd, NoInteger, Active, Negative, Count}
+use Rattle.pfc_base.specs.declared.faults.RunFault.TheVariants.{NotActive, Closed, Below, Late, Width}
 
 -- the number of a fault, from 1
 abbrev pub number_of : RunFault → ℕ

@@ -1,5 +1,6 @@
 -- The first value of each type is of the type, and all its words are 0.
-use Rattle.std.proofs.Common.{◌≡◌, ℕ, zero, suc, ◌<◌, false, ℤ, pos, List, [], ◌∷◌, ◌++◌, length, take, replicate, Option, Some, None, refl, sym, ap, ap₂, ◌∙◌, subst, arith, length-append}
+use Rattle.std.proofs.Common.{◌≡◌, ℕ, zero, suc, ◌<◌, false, ℤ, pos, List, [], ◌∷◌, ◌++◌, length, take, replicate, Option, Some, None, refl, sym, ap, ap₂, ◌∙◌}
+use Rattle.std.proofs.Common.{subst, arith, length-append}
 use Rattle.std.proofs.lemmas.List.{replicate-append-replicate}
 use Rattle.pfc_types.specs.Types.{Forms, form_of, extent}
 use Rattle.pfc_types.specs.Fields.{FieldList}
@@ -10,7 +11,8 @@ use Rattle.pfc_semantics.specs.Values.{Value, Values, ordinal, copies}
 use Rattle.pfc_semantics.specs.Objects.{first_of, first_fields, first_next, all_first, initial}
 use Rattle.pfc_semantics.specs.Programs.{Program}
 use Rattle.pfc_semantics.proofs.Tables.{built_form, built_none, built_part}
-use Rattle.pfc_cells.specs.Shapes.{AreCounted, has_parts, IsOf, AreOf, AreFieldsOf, is_number, is_array, is_record, none_of, one_of, no_field, one_field, words_of, words_in}
+use Rattle.pfc_cells.specs.Shapes.{AreCounted, has_parts, IsOf, AreOf, AreFieldsOf, is_number, is_array, is_record, none_of, one_of, no_field, one_field}
+use Rattle.pfc_cells.specs.Shapes.{words_of, words_in}
 use Rattle.pfc_cells.proofs.Words.{words_length}
 use Rattle.pfc_type_laws.specs.Tables.{AreBefore, IsBefore, IsBuiltUp}
 use Rattle.pfc_call_laws.specs.Blocks.{HasFirstValues}

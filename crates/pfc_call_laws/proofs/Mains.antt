@@ -1,5 +1,6 @@
 -- What main's first activation sees.
-use Rattle.std.proofs.Common.{◌≡◌, ℕ, zero, suc, ◌+◌, ◌^◌, ◌<◌, ◌≤◌, ℤ, Bool, true, false, ◌||◌, if◌then◌else◌, List, [], ◌∷◌, ◌++◌, length, take, slice_get, Some, refl, sym, ap, ap₂, ◌∙◌, subst, arith, inl, inr}
+use Rattle.std.proofs.Common.{◌≡◌, ℕ, zero, suc, ◌+◌, ◌^◌, ◌<◌, ◌≤◌, ℤ, Bool, true, false, ◌||◌, if◌then◌else◌, List, [], ◌∷◌, ◌++◌, length, take, slice_get}
+use Rattle.std.proofs.Common.{Some, refl, sym, ap, ap₂, ◌∙◌, subst, arith, inl, inr}
 use Rattle.std.specs.Prelude.{◌==◌, position, unwrap_or}
 use Rattle.std.specs.List.{list_any}
 use Rattle.pfc_types.specs.declared.scope.Meaning.{Meaning}
@@ -7,7 +8,8 @@ use Rattle.pfc_semantics.specs.Store.{Store, values_in}
 use Rattle.pfc_semantics.specs.Layouts.{Layout, is_laid}
 use Rattle.pfc_semantics.specs.Displays.{Spot}
 use Rattle.pfc_semantics.specs.Programs.{Block, Program, block_at, layout_cells}
-use Rattle.pfc_translation.specs.Sites.{Site, is_mains, linked, level_of, links_to, is_accept, layout_with, laid_before, before_accept, place_of, cell_of, is_reference}
+use Rattle.pfc_translation.specs.Sites.{Site, is_mains, linked, level_of, links_to, is_accept, layout_with, laid_before, before_accept, place_of, cell_of}
+use Rattle.pfc_translation.specs.Sites.{is_reference}
 use Rattle.pfc_stacks.specs.Activations.{main_link}
 use Rattle.pfc_cells.specs.Shapes.{AreCounted}
 use Rattle.pfc_cells.specs.Homes.{Home, Homes, layout_at, cells_before}

@@ -1,5 +1,6 @@
 -- What is passed to a block fills its cells.
-use Rattle.std.proofs.Common.{◌≡◌, ℕ, suc, ◌+◌, ◌-◌, ◌<◌, ◌≤◌, ℤ, pos, Bool, true, false, List, [], ◌∷◌, ◌++◌, map, length, take, drop, get_or, slice_get, reverse, replicate, Option, Some, refl, sym, ap, ap₂, ◌∙◌, subst, arith, append_assoc, length-append, append-nil, ◌⊎◌, inl, inr}
+use Rattle.std.proofs.Common.{◌≡◌, ℕ, suc, ◌+◌, ◌-◌, ◌<◌, ◌≤◌, ℤ, pos, Bool, true, false, List, [], ◌∷◌, ◌++◌, map, length, take, drop, get_or, slice_get}
+use Rattle.std.proofs.Common.{reverse, replicate, Option, Some, refl, sym, ap, ap₂, ◌∙◌, subst, arith, append_assoc, length-append, append-nil, ◌⊎◌, inl, inr}
 use Rattle.std.proofs.lemmas.List.{map-append, drop-map, take_at, drop_at, reverse-append, length-reverse, get_or_append_left}
 use Rattle.pfc_code.specs.declared.images.Block.{Block as ImageBlock}
 use Rattle.pfc_types.specs.declared.types.TypeId.{TypeId}

@@ -1,5 +1,6 @@
 -- An activation in place of another.
-use Rattle.std.proofs.Common.{◌≡◌, ◌≢◌, ℕ, ◌+◌, ◌-◌, ◌^◌, ◌<◌, ◌≤◌, ℤ, pos, Bool, true, false, if◌then◌else◌, List, [], ◌∷◌, ◌++◌, length, take, drop, get_or, set, slice_get, max, Some, None, refl, sym, ap, ap₂, ◌∙◌, subst, arith, length-append, append_assoc, ◌⊎◌, inl, inr}
+use Rattle.std.proofs.Common.{◌≡◌, ◌≢◌, ℕ, ◌+◌, ◌-◌, ◌^◌, ◌<◌, ◌≤◌, ℤ, pos, Bool, true, false, if◌then◌else◌, List, [], ◌∷◌, ◌++◌, length, take, drop, get_or}
+use Rattle.std.proofs.Common.{set, slice_get, max, Some, None, refl, sym, ap, ap₂, ◌∙◌, subst, arith, length-append, append_assoc, ◌⊎◌, inl, inr}
 use Rattle.std.specs.Prelude.{◌==◌, unwrap_or}
 use Rattle.std.proofs.lemmas.List.{get_or-set_same, get_or-set_other, length-set, take_at, set-append_right}
 use Rattle.pfc_code.specs.declared.images.Block.{Block as ImageBlock}
@@ -12,7 +13,8 @@ use Rattle.pfc_semantics.specs.Configurations.{Config}
 use Rattle.pfc_semantics.specs.Calls.{new_number, new_display}
 use Rattle.pfc_translation.specs.Sites.{is_mains}
 use Rattle.pfc_stacks.specs.Refs.{word_of}
-use Rattle.pfc_stacks.specs.Stacks.{Stack, Stacks, no_stack, stack_of, operands_of, cells_of, own_cells, link_place, block_place, under_place, own_number, last_activation}
+use Rattle.pfc_stacks.specs.Stacks.{Stack, Stacks, no_stack, stack_of, operands_of, cells_of, own_cells, link_place, block_place, under_place, own_number}
+use Rattle.pfc_stacks.specs.Stacks.{last_activation}
 use Rattle.pfc_stacks.specs.Activations.{has_place, block_cells, arguments, main_link, replaced, returned}
 use Rattle.pfc_cells.specs.Shapes.{AreCounted}
 use Rattle.pfc_cells.specs.Homes.{Home, Homes, layout_at}

@@ -1,5 +1,6 @@
 -- An activation sees its own variables, and what is around its block.
-use Rattle.std.proofs.Common.{◌≡◌, ◌≢◌, ℕ, zero, suc, ◌+◌, ◌-◌, ◌^◌, ◌<◌, ◌≤◌, ℤ, pos, Bool, true, false, ◌||◌, if◌then◌else◌, List, [], ◌∷◌, length, take, drop, get_or, slice_get, Some, refl, sym, ap, ap₂, ◌∙◌, subst, arith, length-drop, inl, inr}
+use Rattle.std.proofs.Common.{◌≡◌, ◌≢◌, ℕ, zero, suc, ◌+◌, ◌-◌, ◌^◌, ◌<◌, ◌≤◌, ℤ, pos, Bool, true, false, ◌||◌, if◌then◌else◌, List, [], ◌∷◌, length, take}
+use Rattle.std.proofs.Common.{drop, get_or, slice_get, Some, refl, sym, ap, ap₂, ◌∙◌, subst, arith, length-drop, inl, inr}
 use Rattle.std.specs.Prelude.{◌==◌, position, unwrap_or}
 use Rattle.std.specs.List.{list_any}
 use Rattle.pfc_types.specs.declared.types.TypeId.{TypeId}
@@ -10,7 +11,8 @@ use Rattle.pfc_semantics.specs.Store.{Store, values_in}
 use Rattle.pfc_semantics.specs.Layouts.{Layout, is_laid}
 use Rattle.pfc_semantics.specs.Displays.{Spot, Frame, Display, frame_of, outward}
 use Rattle.pfc_semantics.specs.Programs.{Block, Program, block_at, layout_cells}
-use Rattle.pfc_translation.specs.Sites.{Site, is_mains, linked, level_of, links_to, is_accept, layout_with, laid_before, before_accept, place_of, cell_of, is_reference}
+use Rattle.pfc_translation.specs.Sites.{Site, is_mains, linked, level_of, links_to, is_accept, layout_with, laid_before, before_accept, place_of, cell_of}
+use Rattle.pfc_translation.specs.Sites.{is_reference}
 use Rattle.pfc_stacks.specs.Refs.{word_of}
 use Rattle.pfc_stacks.specs.Stacks.{link_place}
 use Rattle.pfc_cells.specs.Shapes.{AreCounted}
@@ -25,7 +27,8 @@ use Rattle.pfc_call_laws.specs.Blocks.{own_variables, AreLent, AreLentTo}
 use Rattle.pfc_call_laws.specs.Around.{scopes_around, HasScopes, IsNested, ShowsAround, IsOpenAccept, keeps_also}
 use Rattle.pfc_call_laws.specs.Inside.{refers_at, held_in, view_inside}
 use Rattle.pfc_call_laws.proofs.Lists.{slice_dropped}
-use Rattle.pfc_call_laws.proofs.Places.{or_cases, or_left, or_right, place_at, begins_there, reference_at, refers_there, as_pointer, as_reference, place_within, held_at}
+use Rattle.pfc_call_laws.proofs.Places.{or_cases, or_left, or_right, place_at, begins_there, reference_at, refers_there, as_pointer, as_reference, place_within}
+use Rattle.pfc_call_laws.proofs.Places.{held_at}
 use Rattle.pfc_call_laws.proofs.Displays.{is_same, is_other, same_of, linked_not_mains, any_at, at_any, place_of_scope, no_place}
 use Rattle.pfc_call_laws.proofs.Keeping.{linked_too}
 use Rattle.pfc_call_laws.proofs.Inside.{same_layout, same_before, same_variables, kept_before, frame_around, frame_main}

@@ -1,9 +1,11 @@
 -- The blocks of a lawful program stand as its parts say.
 use Rattle.std.proofs.Common.{◌≡◌, ℕ, ◌+◌, ◌==◌, ◌||◌, Bool, true, false, is_some, List, [], ◌∷◌, ◌++◌, refl, ap, ◌∙◌}
 use Rattle.pfc_tree.specs.trees.Stmts.{body}
-use Rattle.pfc_tree.specs.trees.Parts.{KindTree, PartTree, PartTrees, SubTree, ModuleTree, ProcessTree, procedure, function, guarded, consts, types, vars, sub_part, monitor, resource, process_part, no_parts, more_parts, sub, the_module, process}
+use Rattle.pfc_tree.specs.trees.Parts.{KindTree, PartTree, PartTrees, SubTree, ModuleTree, ProcessTree, procedure, function, guarded, consts, types, vars}
+use Rattle.pfc_tree.specs.trees.Parts.{sub_part, monitor, resource, process_part, no_parts, more_parts, sub, the_module, process}
 use Rattle.pfc_tree.specs.forget.Parts.{forget_part, forget_parts, forget_sub, forget_module, forget_process}
-use Rattle.pfc_tree.specs.lawful.Parts.{Home, of_program, of_resource, of_other, HoldsModules, IsLawfulPart, AreLawfulParts, IsLawfulSub, IsLawfulModule, IsLawfulProcess}
+use Rattle.pfc_tree.specs.lawful.Parts.{Home, of_program, of_resource, of_other, HoldsModules, IsLawfulPart, AreLawfulParts, IsLawfulSub, IsLawfulModule}
+use Rattle.pfc_tree.specs.lawful.Parts.{IsLawfulProcess}
 use Rattle.pfc_types.specs.Scopes.{Level, scope_at}
 use Rattle.pfc_types.specs.Blocks.{State}
 use Rattle.pfc_types.specs.rules.Expressions.{Env}

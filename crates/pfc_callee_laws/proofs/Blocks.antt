@@ -1,5 +1,6 @@
 -- What a call or a creation asks of a block: of each sub and of each process.
-use Rattle.std.proofs.Common.{◌≡◌, ℕ, zero, suc, ◌+◌, ◌<◌, ◌⊎◌, inl, inr, Bool, true, false, if◌then◌else◌, is_some, List, [], ◌∷◌, ◌++◌, length, length-append, map, take, drop, get_or, Option, Some, None, refl, sym, ap, ◌∙◌, subst, arith}
+use Rattle.std.proofs.Common.{◌≡◌, ℕ, zero, suc, ◌+◌, ◌<◌, ◌⊎◌, inl, inr, Bool, true, false, if◌then◌else◌, is_some, List, [], ◌∷◌, ◌++◌, length, length-append}
+use Rattle.std.proofs.Common.{map, take, drop, get_or, Option, Some, None, refl, sym, ap, ◌∙◌, subst, arith}
 use Rattle.std.specs.List.{All, slice_get}
 use Rattle.std.proofs.lemmas.List.{length-map, append_assoc}
 use Rattle.std.proofs.lemmas.Option.{slice_get_within}
@@ -35,7 +36,8 @@ use Rattle.pfc_standing_code.specs.Typed.{variables_by}
 use Rattle.pfc_views.specs.Views.{block_site}
 use Rattle.pfc_call_laws.specs.Blocks.{Takes, own_variables}
 use Rattle.pfc_typed_programs.specs.Bodies.{of_block}
-use Rattle.pfc_typed_programs.proofs.Blocks.{each_of, headed, known, HasScope, sub_has_block, sub_apart, sub_laid, sub_called, process_has_block, process_apart, process_no_sub, process_called, process_own}
+use Rattle.pfc_typed_programs.proofs.Blocks.{each_of, headed, known, HasScope, sub_has_block, sub_apart, sub_laid, sub_called, process_has_block, process_apart}
+use Rattle.pfc_typed_programs.proofs.Blocks.{process_no_sub, process_called, process_own}
 use Rattle.pfc_typed_programs.proofs.Bodies.{body_state}
 use Rattle.pfc_nesting_laws.proofs.Programs.{has_scopes, own_not_mains, no_accept, reached, main_alone, main_has_none, nested_in_mains}
 use Rattle.pfc_callee_laws.specs.Callees.{IsActivated, IsSubBlock, IsProcessBlock, HasResultAt}

@@ -1,5 +1,6 @@
 -- A sub that is called: whatever the way, it is nested in the block from which it is called.
-use Rattle.std.proofs.Common.{◌≡◌, ℕ, suc, ◌==◌, ◌||◌, inl, inr, if◌then◌else◌, Bool, true, false, is_some, List, [], ◌∷◌, length, Some, refl, sym, ap, ◌∙◌, subst}
+use Rattle.std.proofs.Common.{◌≡◌, ℕ, suc, ◌==◌, ◌||◌, inl, inr, if◌then◌else◌, Bool, true, false, is_some, List, [], ◌∷◌, length, Some, refl, sym, ap, ◌∙◌}
+use Rattle.std.proofs.Common.{subst}
 use Rattle.std.specs.Prelude.{position, unwrap_or}
 use Rattle.std.specs.List.{slice_get, list_any}
 use Rattle.pfc_tree.specs.trees.Parts.{ProgramTree}

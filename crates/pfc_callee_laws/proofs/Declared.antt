@@ -1,5 +1,6 @@
 -- Declarations of constants, types, variables, parameters and entries, by what their names stand for.
-use Rattle.std.proofs.Common.{◌≡◌, ℕ, zero, suc, ◌+◌, ◌<◌, ◌≤◌, ◌&&◌, ◌||◌, ◌⊎◌, inl, inr, Bool, true, false, not, if◌then◌else◌, nat_lt, is_some, List, [], ◌∷◌, ◌++◌, length, length-append, drop, get_or, get_or-set_same, Option, Some, None, refl, sym, ap, ◌∙◌, subst, arith}
+use Rattle.std.proofs.Common.{◌≡◌, ℕ, zero, suc, ◌+◌, ◌<◌, ◌≤◌, ◌&&◌, ◌||◌, ◌⊎◌, inl, inr, Bool, true, false, not, if◌then◌else◌, nat_lt, is_some, List, []}
+use Rattle.std.proofs.Common.{◌∷◌, ◌++◌, length, length-append, drop, get_or, get_or-set_same, Option, Some, None, refl, sym, ap, ◌∙◌, subst, arith}
 use Rattle.std.specs.List.{All}
 use Rattle.std.proofs.Math.Seq.{get_or-append_seam}
 use Rattle.std.proofs.lemmas.List.Elements.{All-nil}
@@ -20,7 +21,12 @@ use Rattle.pfc_types.specs.declared.scope.Meaning.{Meaning}
 use Rattle.pfc_types.specs.declared.scope.Meaning.TheVariants.{Named, Process, Faulty}
 use Rattle.pfc_types.specs.rules.Kinds.{where_so, type_name_rules, named_type, type_meaning, variable_meaning}
 use Rattle.pfc_types.specs.rules.Constants.{Ordinal, constant_value, broken_constant, made, type_place}
-use Rattle.pfc_types.specs.rules.Declarations.{constant_meaning, const_state, consts_state, type_state, types_state, Owner, elsewhere, shared_fits, condition_fits, owner_rules, owned_type, passes_most, populated, brought, var_name_state, var_names_state, var_state, vars_state, passed_fits, parameter_fits, parameter_type, group_type, broken_group, Heading, formal_heading, formals_heading, group_viewed, group_heading, groups_heading, accept_groups, heading, accept_heading, EntryHeading, entry_formal, entry_formals, entry_group, entry_groups, entry_meaning, entry_state, entries_state, process_named}
+use Rattle.pfc_types.specs.rules.Declarations.{constant_meaning, const_state, consts_state, type_state, types_state, Owner, elsewhere, shared_fits}
+use Rattle.pfc_types.specs.rules.Declarations.{condition_fits, owner_rules, owned_type, passes_most, populated, brought, var_name_state, var_names_state}
+use Rattle.pfc_types.specs.rules.Declarations.{var_state, vars_state, passed_fits, parameter_fits, parameter_type, group_type, broken_group, Heading}
+use Rattle.pfc_types.specs.rules.Declarations.{formal_heading, formals_heading, group_viewed, group_heading, groups_heading, accept_groups, heading}
+use Rattle.pfc_types.specs.rules.Declarations.{accept_heading, EntryHeading, entry_formal, entry_formals, entry_group, entry_groups, entry_meaning, entry_state}
+use Rattle.pfc_types.specs.rules.Declarations.{entries_state, process_named}
 use Rattle.pfc_types.proofs.Prefixes.{begins_push}
 use Rattle.pfc_types.proofs.Walking.{note_kept}
 use Rattle.pfc_types.proofs.WalkDeclarations.{made_kept, consts_walked, types_walked, vars_walked, entries_walked}

@@ -13,7 +13,8 @@ use Rattle.pfc_types.specs.declared.types.TypeForm.{TypeForm}
 use Rattle.pfc_types.specs.declared.table.TypeFault.{TypeFault}
 use Rattle.pfc_types.specs.declared.table.TypeFault.TheVariants.{Bounds, Cells, Memory}
 use Rattle.pfc_types.specs.rules.Kinds.{type_name_rules, has_object}
-use Rattle.pfc_types.specs.rules.Constants.{Extent, broken_ranges, range_extents, Made, added_unless, added, channel_form, array_of, made_arrays, MadeFields, made_field, made_names, made_group, record_form, fields_begun, made, made_items, made_item, type_place}
+use Rattle.pfc_types.specs.rules.Constants.{Extent, broken_ranges, range_extents, Made, added_unless, added, channel_form, array_of, made_arrays, MadeFields}
+use Rattle.pfc_types.specs.rules.Constants.{made_field, made_names, made_group, record_form, fields_begun, made, made_items, made_item, type_place}
 
 -- the headings are the same
 pub record Keeps (s t : State) : Type 0 where

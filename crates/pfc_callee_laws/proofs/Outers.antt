@@ -2,11 +2,13 @@
 use Rattle.std.proofs.Common.{◌≡◌, ℕ, ◌+◌, ◌<◌, ◌≤◌, ◌&&◌, ◌⊎◌, inl, inr, Bool, true, false, List, [], ◌∷◌, ◌++◌, take, drop, None, refl, arith}
 use Rattle.std.specs.Prelude.{nat_lt, nat_le}
 use Rattle.pfc_tree.specs.trees.Stmts.{body}
-use Rattle.pfc_tree.specs.trees.Parts.{PartTree, PartTrees, SubTree, ModuleTree, ProcessTree, consts, types, vars, sub_part, monitor, resource, process_part, no_parts, more_parts, sub, the_module, process}
+use Rattle.pfc_tree.specs.trees.Parts.{PartTree, PartTrees, SubTree, ModuleTree, ProcessTree, consts, types, vars, sub_part, monitor, resource, process_part}
+use Rattle.pfc_tree.specs.trees.Parts.{no_parts, more_parts, sub, the_module, process}
 use Rattle.pfc_types.specs.Scopes.{Level, scope_at, here}
 use Rattle.pfc_types.specs.Blocks.{State}
 use Rattle.pfc_types.specs.rules.Statements.{body_scopes}
-use Rattle.pfc_types.specs.rules.Bodies.{env_at, around_sub, around_process, around_guard, level, passed, passed_part, passed_groups, passed_entries, part_scopes, parts_scopes, sub_scopes, module_scopes, process_scopes}
+use Rattle.pfc_types.specs.rules.Bodies.{env_at, around_sub, around_process, around_guard, level, passed, passed_part, passed_groups, passed_entries}
+use Rattle.pfc_types.specs.rules.Bodies.{part_scopes, parts_scopes, sub_scopes, module_scopes, process_scopes}
 use Rattle.pfc_semantics.specs.Layouts.{sub_layout_at, process_layout}
 use Rattle.pfc_semantics.specs.Programs.{Block, block_of, guard_of, part_blocks, parts_blocks, sub_blocks, module_blocks, process_blocks}
 use Rattle.pfc_translation.specs.Sites.{is_accept}

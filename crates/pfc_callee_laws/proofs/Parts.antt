@@ -1,5 +1,6 @@
 -- The declarations of all parts: what their names stand for, in each scope that they open.
-use Rattle.std.proofs.Common.{◌≡◌, ℕ, zero, suc, ◌+◌, ◌<◌, ◌&&◌, inl, inr, Bool, true, false, if◌then◌else◌, is_some, List, [], ◌∷◌, ◌++◌, length, length-append, get_or, Option, Some, None, refl, sym, ap, ◌∙◌, subst, arith}
+use Rattle.std.proofs.Common.{◌≡◌, ℕ, zero, suc, ◌+◌, ◌<◌, ◌&&◌, inl, inr, Bool, true, false, if◌then◌else◌, is_some, List, [], ◌∷◌, ◌++◌, length}
+use Rattle.std.proofs.Common.{length-append, get_or, Option, Some, None, refl, sym, ap, ◌∙◌, subst, arith}
 use Rattle.std.specs.List.{All, list_any}
 use Rattle.std.proofs.Math.Seq.{get_or-append_seam}
 use Rattle.std.proofs.lemmas.List.Elements.{All-nil}
@@ -7,8 +8,11 @@ use Rattle.pfc_base.specs.declared.places.Place.{Place}
 use Rattle.pfc_tree.specs.Symbols.{Text}
 use Rattle.pfc_tree.specs.declared.tree.Constant.{Constant}
 use Rattle.pfc_tree.specs.trees.Types.{GroupTree}
-use Rattle.pfc_tree.specs.trees.Stmts.{StmtTree, StmtTrees, BodyTree, ArmTree, ArmTrees, AcceptTree, AltTree, AltTrees, CommTree, block, if_then, if_then_else, case_of, while_do, repeat_until, repeat_forever, for_do, cobegin, accepting, select, select_else, no_stmts, more_stmts, body, arm, no_arms, more_arms, accept, accept_do, alt, no_alts, more_alts, comm_accept}
-use Rattle.pfc_tree.specs.trees.Parts.{KindTree, PartTree, PartTrees, SubTree, ModuleTree, ProcessTree, ProgramTree, procedure, function, guarded, consts, types, vars, sub_part, monitor, resource, process_part, no_parts, more_parts, sub, the_module, process}
+use Rattle.pfc_tree.specs.trees.Stmts.{StmtTree, StmtTrees, BodyTree, ArmTree, ArmTrees, AcceptTree, AltTree, AltTrees, CommTree, block, if_then, if_then_else}
+use Rattle.pfc_tree.specs.trees.Stmts.{case_of, while_do, repeat_until, repeat_forever, for_do, cobegin, accepting, select, select_else, no_stmts, more_stmts}
+use Rattle.pfc_tree.specs.trees.Stmts.{body, arm, no_arms, more_arms, accept, accept_do, alt, no_alts, more_alts, comm_accept}
+use Rattle.pfc_tree.specs.trees.Parts.{KindTree, PartTree, PartTrees, SubTree, ModuleTree, ProcessTree, ProgramTree, procedure, function, guarded, consts}
+use Rattle.pfc_tree.specs.trees.Parts.{types, vars, sub_part, monitor, resource, process_part, no_parts, more_parts, sub, the_module, process}
 use Rattle.pfc_types.specs.Faults.{unless}
 use Rattle.pfc_types.specs.Scopes.{Level, scope_at, here, meaning_in, look}
 use Rattle.pfc_types.specs.Blocks.{State, no_sub, sub_at, note, add_sub, add_module, add_process, export_sub, open_scope}
@@ -18,7 +22,11 @@ use Rattle.pfc_types.specs.declared.heads.ProcessHead.{ProcessHead}
 use Rattle.pfc_types.specs.declared.scope.Meaning.{Meaning}
 use Rattle.pfc_types.specs.declared.scope.Meaning.TheVariants.{Sub, Module, Faulty}
 use Rattle.pfc_types.specs.rules.Constants.{Ordinal, same_ordinal, constant_value, constant_place}
-use Rattle.pfc_types.specs.rules.Declarations.{Owner, in_program, elsewhere, Heading, heading, accept_heading, accept_rule, accepted, Labels, label_noted, labels_noted, stmt_state, stmts_state, body_state, arms_state, arm_state, accept_state, alts_state, alt_state, comm_state, init_state, broken_sort, sort_of, whole_sort, sub_meaning, sub_headed, may_export, export_state, export_list, exports_state, module_owner, module_closed, process_headed, entries_state, process_cells, cells_rule, scope_cells, result_cells, part_state, parts_state, sub_state, module_state, process_state}
+use Rattle.pfc_types.specs.rules.Declarations.{Owner, in_program, elsewhere, Heading, heading, accept_heading, accept_rule, accepted, Labels, label_noted}
+use Rattle.pfc_types.specs.rules.Declarations.{labels_noted, stmt_state, stmts_state, body_state, arms_state, arm_state, accept_state, alts_state, alt_state}
+use Rattle.pfc_types.specs.rules.Declarations.{comm_state, init_state, broken_sort, sort_of, whole_sort, sub_meaning, sub_headed, may_export, export_state}
+use Rattle.pfc_types.specs.rules.Declarations.{export_list, exports_state, module_owner, module_closed, process_headed, entries_state, process_cells}
+use Rattle.pfc_types.specs.rules.Declarations.{cells_rule, scope_cells, result_cells, part_state, parts_state, sub_state, module_state, process_state}
 use Rattle.pfc_types.specs.rules.Bodies.{is_guarded, part_scopes}
 use Rattle.pfc_types.specs.rules.Whole.{begun, declared_parts, declared_all, main_cells, finished}
 use Rattle.pfc_types.proofs.Walking.{note_kept}
@@ -29,8 +37,10 @@ use Rattle.pfc_types.proofs.WalkParts.{part_walked, parts_walked, sub_headed_wal
 use Rattle.pfc_semantics.specs.Programs.{Block}
 use Rattle.pfc_callee_laws.specs.Callees.{is_guarded_sort}
 use Rattle.pfc_callee_laws.specs.Agreeing.{PartAgrees, PartsAgree, SubAgrees, ModuleAgrees, ProcessAgrees}
-use Rattle.pfc_callee_laws.proofs.Fine.{IsOwn, IsFine, Fine, note_fine, open_fine, declare_fine, sub_fine as sub_added, process_fine as process_added, export_fine}
-use Rattle.pfc_callee_laws.proofs.Declared.{OwnerFits, consts_fine, types_fine, vars_fine, IsBegun, heading_begun, accept_begun, parameters_alone, entries_fine, process_named_fine}
+use Rattle.pfc_callee_laws.proofs.Fine.{IsOwn, IsFine, Fine, note_fine, open_fine, declare_fine, sub_fine as sub_added, process_fine as process_added}
+use Rattle.pfc_callee_laws.proofs.Fine.{export_fine}
+use Rattle.pfc_callee_laws.proofs.Declared.{OwnerFits, consts_fine, types_fine, vars_fine, IsBegun, heading_begun, accept_begun, parameters_alone, entries_fine}
+use Rattle.pfc_callee_laws.proofs.Declared.{process_named_fine}
 
 sort_guarded : (s : State) (view : List Level) (kind : KindTree) → is_guarded_sort (sort_of s view kind) ≡ is_guarded kind
 sort_guarded s view procedure = refl

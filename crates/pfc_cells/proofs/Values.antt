@@ -1,7 +1,8 @@
 -- What the store gives for a location after another value was stored there, or elsewhere.
 use Rattle.std.proofs.Common.{◌≡◌, ◌≢◌, ℕ, zero, suc, ◌<◌, pos, List, [], ◌∷◌, length, get_or, set, refl, sym, ap, ◌∙◌, subst, arith, ◌⊎◌, inl, inr}
 use Rattle.std.proofs.lemmas.List.{get_or-set_same, get_or-set_other}
-use Rattle.pfc_semantics.specs.Values.{Value, Values, Location, ordinal, compound, points, no_values, more_values, part_at, with_part_at, part_of, with_part_of, part, with_part, path_of}
+use Rattle.pfc_semantics.specs.Values.{Value, Values, Location, ordinal, compound, points, no_values, more_values, part_at, with_part_at, part_of, with_part_of}
+use Rattle.pfc_semantics.specs.Values.{part, with_part, path_of}
 use Rattle.pfc_semantics.specs.Store.{Store, values_in, value_at, variable, stored}
 use Rattle.pfc_cells.specs.Homes.{AreApart}
 use Rattle.pfc_cells.proofs.Numbers.{same, other, same_or_not}

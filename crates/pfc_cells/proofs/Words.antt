@@ -1,5 +1,6 @@
 -- The words of a value: how many there are, and where those of a part lie among them.
-use Rattle.std.proofs.Common.{◌≡◌, ℕ, zero, suc, ◌+◌, ◌*◌, ◌<◌, ℤ, List, [], ◌∷◌, ◌++◌, length, take, slice_get, Option, Some, None, refl, sym, ap, ap₂, ◌∙◌, subst, arith, length-append, append_assoc, append-nil}
+use Rattle.std.proofs.Common.{◌≡◌, ℕ, zero, suc, ◌+◌, ◌*◌, ◌<◌, ℤ, List, [], ◌∷◌, ◌++◌, length, take, slice_get, Option, Some, None, refl, sym, ap, ap₂, ◌∙◌}
+use Rattle.std.proofs.Common.{subst, arith, length-append, append_assoc, append-nil}
 use Rattle.std.proofs.lemmas.List.Sums.{sum_by-cons}
 use Rattle.pfc_tree.specs.Symbols.{Text}
 use Rattle.pfc_types.specs.Types.{Forms, form_of, cells_in, extent}
@@ -10,7 +11,8 @@ use Rattle.pfc_semantics.specs.Values.{Value, Values, compound, more_values, par
 use Rattle.pfc_translation.specs.Addresses.{fields_before}
 use Rattle.pfc_translation.specs.Sites.{type_cells}
 use Rattle.pfc_cells.proofs.Lists.{nested}
-use Rattle.pfc_cells.specs.Shapes.{AreCounted, has_parts, Fits, IsOf, AreOf, AreFieldsOf, IsPath, is_number, is_array, is_record, none_of, one_of, no_field, one_field, here, into_element, into_field, words_of, words_in}
+use Rattle.pfc_cells.specs.Shapes.{AreCounted, has_parts, Fits, IsOf, AreOf, AreFieldsOf, IsPath, is_number, is_array, is_record, none_of, one_of, no_field}
+use Rattle.pfc_cells.specs.Shapes.{one_field, here, into_element, into_field, words_of, words_in}
 
 -- ## How many
 

@@ -8,7 +8,8 @@ use Rattle.pfc_tree.specs.trees.Parts.{KindTree, EntryTree, PartTrees, SubTree, 
 use Rattle.pfc_types.specs.Faults.{unless}
 use Rattle.pfc_types.specs.Scopes.{Level, scope_at, here}
 use Rattle.pfc_types.specs.Blocks.{State, note}
-use Rattle.pfc_types.specs.rules.Declarations.{elsewhere, cells_rule, scope_cells, result_cells, process_cells, entries_state, parts_state, body_state, sub_headed, sub_state, process_headed, process_state}
+use Rattle.pfc_types.specs.rules.Declarations.{elsewhere, cells_rule, scope_cells, result_cells, process_cells, entries_state, parts_state, body_state}
+use Rattle.pfc_types.specs.rules.Declarations.{sub_headed, sub_state, process_headed, process_state}
 
 -- a sub whose body is walked
 sub_end : ℕ → KindTree → Place → State → State

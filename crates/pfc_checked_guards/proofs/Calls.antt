@@ -2,7 +2,8 @@
 use Rattle.std.proofs.Common.{◌≡◌, ◌≢◌, ℕ, Bool, true, false, List, [], Option, Some, None, refl}
 use Rattle.pfc_base.specs.declared.places.Place.{Place}
 use Rattle.pfc_tree.specs.Symbols.{Text}
-use Rattle.pfc_tree.specs.trees.Exprs.{ExprTree, DesigTree, SelectorTrees, ActualTree, ActualTrees, plain, sum, no_summands, product, no_multipliers, literal, desig, index, field, no_selectors, more_selectors, actual, actual_width, no_actuals, more_actuals}
+use Rattle.pfc_tree.specs.trees.Exprs.{ExprTree, DesigTree, SelectorTrees, ActualTree, ActualTrees, plain, sum, no_summands, product, no_multipliers, literal}
+use Rattle.pfc_tree.specs.trees.Exprs.{desig, index, field, no_selectors, more_selectors, actual, actual_width, no_actuals, more_actuals}
 use Rattle.pfc_types.specs.Scopes.{meaning_of, meaning_in, scope_at}
 use Rattle.pfc_types.specs.Blocks.{sub_at, module_at, process_at, entry_at}
 use Rattle.pfc_types.specs.Faults.{◌⨾◌, unless}
@@ -14,14 +15,19 @@ use Rattle.pfc_types.specs.declared.scope.Meaning.TheVariants.{Constant, Named, 
 use Rattle.pfc_types.specs.declared.heads.Formal.{Formal}
 use Rattle.pfc_types.specs.declared.heads.SubSort.{SubSort}
 use Rattle.pfc_types.specs.declared.heads.SubSort.TheVariants.{Procedure, Guarded, Function}
-use Rattle.pfc_types.specs.rules.Routines.{Callee, wants_for, called_with, anywhere, in_monitor_sub, delay_wants, Routine, the_signal, a_function, a_procedure, a_delay, a_reader, a_writer, routine_of}
+use Rattle.pfc_types.specs.rules.Routines.{Callee, wants_for, called_with, anywhere, in_monitor_sub, delay_wants, Routine, the_signal, a_function, a_procedure}
+use Rattle.pfc_types.specs.rules.Routines.{a_delay, a_reader, a_writer, routine_of}
 use Rattle.pfc_types.specs.rules.Expressions.{Env, find, as_literal, actual_count, selected, field_type}
-use Rattle.pfc_types.specs.rules.Calls.{asked, asked_formals, unasked, broken_read, broken_reads, written, broken_written, broken_writes, call_routine, call_sub, activate, activate_type, activate_variable, call_name, call_entry_named, call_entry, call_exported, call_field, call_part, last_field, before_last, call_selected, unselected, only_field, call_in_module, call_in_process, call_part_of, broken_call, requeue_sub, requeue_rules}
+use Rattle.pfc_types.specs.rules.Calls.{asked, asked_formals, unasked, broken_read, broken_reads, written, broken_written, broken_writes, call_routine}
+use Rattle.pfc_types.specs.rules.Calls.{call_sub, activate, activate_type, activate_variable, call_name, call_entry_named, call_entry, call_exported}
+use Rattle.pfc_types.specs.rules.Calls.{call_field, call_part, last_field, before_last, call_selected, unselected, only_field, call_in_module, call_in_process}
+use Rattle.pfc_types.specs.rules.Calls.{call_part_of, broken_call, requeue_sub, requeue_rules}
 use Rattle.pfc_semantics.specs.Objects.{module_number}
 use Rattle.pfc_semantics.specs.Programs.{Program, block_at}
 use Rattle.pfc_image_numbers.proofs.Rules.{IsClean}
 use Rattle.pfc_guard_laws.specs.Tops.{Standing, Comes}
-use Rattle.pfc_guard_laws.specs.Written.{IsUnguarded, IsInResource, IsOfModule, SuitsExport, SuitsModule, SuitsCalled, SuitsExpr, SuitSelectors, SuitsActual, SuitActuals, SuitsCall}
+use Rattle.pfc_guard_laws.specs.Written.{IsUnguarded, IsInResource, IsOfModule, SuitsExport, SuitsModule, SuitsCalled, SuitsExpr, SuitSelectors, SuitsActual}
+use Rattle.pfc_guard_laws.specs.Written.{SuitActuals, SuitsCall}
 use Rattle.pfc_checked_guards.specs.Subs.{SubsStand}
 use Rattle.pfc_checked_guards.specs.Order.{marked, InOrder}
 use Rattle.pfc_checked_guards.proofs.Expressions.{under, CallsInOrder, expr_called, selectors_called, actuals_called}

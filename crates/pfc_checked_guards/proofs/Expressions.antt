@@ -1,7 +1,10 @@
 -- Expressions in which no rule is broken call functions alone.
 use Rattle.std.proofs.Common.{◌≡◌, ◌≢◌, ℕ, Bool, true, false, List, [], ◌∷◌, Option, Some, None, refl, sym, ap, ◌∙◌}
 use Rattle.pfc_base.specs.declared.places.Place.{Place}
-use Rattle.pfc_tree.specs.trees.Exprs.{ExprTree, SimpleTree, SummandTrees, TermTree, MultiplierTrees, FactorTree, DesigTree, SelectorTree, SelectorTrees, ExprTrees, ActualTree, ActualTrees, plain, related, sum, no_summands, more_summands, product, no_multipliers, more_multipliers, number, literal, negation, paren, applied, desig, index, field, no_selectors, more_selectors, no_exprs, more_exprs, actual, actual_width, no_actuals, more_actuals}
+use Rattle.pfc_tree.specs.trees.Exprs.{ExprTree, SimpleTree, SummandTrees, TermTree, MultiplierTrees, FactorTree, DesigTree, SelectorTree, SelectorTrees}
+use Rattle.pfc_tree.specs.trees.Exprs.{ExprTrees, ActualTree, ActualTrees, plain, related, sum, no_summands, more_summands, product, no_multipliers}
+use Rattle.pfc_tree.specs.trees.Exprs.{more_multipliers, number, literal, negation, paren, applied, desig, index, field, no_selectors, more_selectors, no_exprs}
+use Rattle.pfc_tree.specs.trees.Exprs.{more_exprs, actual, actual_width, no_actuals, more_actuals}
 use Rattle.pfc_tree.specs.Symbols.{Text}
 use Rattle.pfc_types.specs.Scopes.{meaning_of}
 use Rattle.pfc_types.specs.Blocks.{sub_at}
@@ -13,12 +16,15 @@ use Rattle.pfc_types.specs.declared.scope.Meaning.TheVariants.{Sub}
 use Rattle.pfc_types.specs.declared.heads.SubSort.{SubSort}
 use Rattle.pfc_types.specs.declared.heads.SubSort.TheVariants.{Procedure, Guarded, Function}
 use Rattle.pfc_types.specs.rules.Routines.{Want, is_function_sort, fits_use}
-use Rattle.pfc_types.specs.rules.Expressions.{Env, find, no_selector, no_actual, guard_names, guard_allows, use_rules, broken_expr, broken_simple, broken_summands, broken_term, broken_multipliers, broken_factor, broken_selectors, broken_selector, broken_indexes, broken_actuals, broken_actual, broken_desig}
+use Rattle.pfc_types.specs.rules.Expressions.{Env, find, no_selector, no_actual, guard_names, guard_allows, use_rules, broken_expr, broken_simple}
+use Rattle.pfc_types.specs.rules.Expressions.{broken_summands, broken_term, broken_multipliers, broken_factor, broken_selectors, broken_selector}
+use Rattle.pfc_types.specs.rules.Expressions.{broken_indexes, broken_actuals, broken_actual, broken_desig}
 use Rattle.pfc_semantics.specs.Programs.{Program}
 use Rattle.pfc_semantics.specs.Configurations.{plain as none_entered}
 use Rattle.pfc_image_numbers.proofs.Rules.{IsClean, held, and_right}
 use Rattle.pfc_guard_laws.specs.Tops.{Standing, Comes}
-use Rattle.pfc_guard_laws.specs.Written.{SuitsName, SuitsExpr, SuitsSimple, SuitSummands, SuitsTerm, SuitMultipliers, SuitsFactor, SuitsDesig, SuitSelectors, SuitsSelector, SuitExprs, SuitsActual, SuitActuals}
+use Rattle.pfc_guard_laws.specs.Written.{SuitsName, SuitsExpr, SuitsSimple, SuitSummands, SuitsTerm, SuitMultipliers, SuitsFactor, SuitsDesig, SuitSelectors}
+use Rattle.pfc_guard_laws.specs.Written.{SuitsSelector, SuitExprs, SuitsActual, SuitActuals}
 use Rattle.pfc_checked_guards.specs.Subs.{SubsStand}
 use Rattle.pfc_checked_guards.specs.Order.{scope_of_sub}
 

@@ -3,9 +3,11 @@ use Rattle.std.proofs.Common.{◌≡◌, ℕ, ◌+◌, inl, inr, Bool, true, fal
 use Rattle.std.specs.List.{AllByRecursion}
 use Rattle.pfc_tree.specs.Symbols.{Text}
 use Rattle.pfc_tree.specs.trees.Stmts.{BodyTree, StmtTrees, body}
-use Rattle.pfc_tree.specs.trees.Parts.{KindTree, PartTree, PartTrees, SubTree, ModuleTree, ProcessTree, ProgramTree, procedure, function, guarded, consts, types, vars, sub_part, monitor, resource, process_part, no_parts, more_parts, sub, the_module, process}
+use Rattle.pfc_tree.specs.trees.Parts.{KindTree, PartTree, PartTrees, SubTree, ModuleTree, ProcessTree, ProgramTree, procedure, function, guarded, consts}
+use Rattle.pfc_tree.specs.trees.Parts.{types, vars, sub_part, monitor, resource, process_part, no_parts, more_parts, sub, the_module, process}
 use Rattle.pfc_tree.specs.forget.Parts.{forget_parts, forget_part, forget_sub, forget_module, forget_process, forget_kind, forget_program}
-use Rattle.pfc_tree.specs.lawful.Parts.{Home, of_program, of_resource as in_resource, of_other, HoldsModules, HoldsGuarded, IsLawfulKind, IsLawfulPart, AreLawfulParts, IsLawfulSub, IsLawfulModule, IsLawfulProcess, IsLawful}
+use Rattle.pfc_tree.specs.lawful.Parts.{Home, of_program, of_resource as in_resource, of_other, HoldsModules, HoldsGuarded, IsLawfulKind, IsLawfulPart}
+use Rattle.pfc_tree.specs.lawful.Parts.{AreLawfulParts, IsLawfulSub, IsLawfulModule, IsLawfulProcess, IsLawful}
 use Rattle.pfc_types.specs.Scopes.{Level, meaning_of, meaning_in, scope_at, here}
 use Rattle.pfc_types.specs.Blocks.{Blocks, State, sub_at, module_at}
 use Rattle.pfc_types.specs.declared.heads.SubSort.TheVariants.{Guarded}
@@ -13,11 +15,14 @@ use Rattle.pfc_types.specs.declared.scope.Meaning.TheVariants.{Sub}
 use Rattle.pfc_types.specs.declared.view.Around.{Around}
 use Rattle.pfc_types.specs.rules.Expressions.{Env, find}
 use Rattle.pfc_types.specs.rules.Statements.{within_accept, stmts_scopes, broken_stmts, broken_body}
-use Rattle.pfc_types.specs.rules.Bodies.{env_at, around_main, around_nothing, around_process, around_sub, around_guard, passed, passed_part, passed_groups, passed_entries, part_scopes, parts_scopes, level, broken_when, broken_init, broken_part, broken_parts, broken_sub, broken_module, broken_process}
+use Rattle.pfc_types.specs.rules.Bodies.{env_at, around_main, around_nothing, around_process, around_sub, around_guard, passed, passed_part, passed_groups}
+use Rattle.pfc_types.specs.rules.Bodies.{passed_entries, part_scopes, parts_scopes, level, broken_when, broken_init, broken_part, broken_parts, broken_sub}
+use Rattle.pfc_types.specs.rules.Bodies.{broken_module, broken_process}
 use Rattle.pfc_types.specs.rules.Whole.{finished, broken, faults_in}
 use Rattle.pfc_semantics.specs.Layouts.{Layout, main_layout, sub_layout_at}
 use Rattle.pfc_semantics.specs.Objects.{module_number}
-use Rattle.pfc_semantics.specs.Programs.{Block, Guard, Program, block_at, block_of, guard_of, part_blocks, parts_blocks, sub_blocks, module_blocks, process_blocks, init_block, module_inits, part_inits, parts_inits, env_of_main, program_of}
+use Rattle.pfc_semantics.specs.Programs.{Block, Guard, Program, block_at, block_of, guard_of, part_blocks, parts_blocks, sub_blocks, module_blocks}
+use Rattle.pfc_semantics.specs.Programs.{process_blocks, init_block, module_inits, part_inits, parts_inits, env_of_main, program_of}
 use Rattle.pfc_semantics.specs.Configurations.{Mark, plain, of_resource}
 use Rattle.pfc_translation.specs.Sites.{module_of}
 use Rattle.pfc_translation.specs.Calls.{number_or_none, resource_of}

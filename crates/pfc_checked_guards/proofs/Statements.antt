@@ -2,8 +2,12 @@
 use Rattle.std.proofs.Common.{◌≡◌, ℕ, ◌+◌, Bool, true, false, not, ◌&&◌, Option, Some, None, refl, arith}
 use Rattle.pfc_base.specs.declared.places.Place.{Place}
 use Rattle.pfc_tree.specs.Symbols.{Text}
-use Rattle.pfc_tree.specs.trees.Exprs.{ExprTree, DesigTree, ActualTrees, plain, sum, no_summands, product, no_multipliers, applied, desig, no_selectors, more_selectors, no_actuals}
-use Rattle.pfc_tree.specs.trees.Stmts.{StmtTree, StmtTrees, ArmTrees, AcceptTree, AltTrees, CommTree, empty, null, block, if_then, if_then_else, case_of, while_do, repeat_until, repeat_forever, for_do, cobegin, accepting, requeue, select, select_else, assign, send, receive, call, no_stmts, more_stmts, body, arm, no_arms, more_arms, accept, accept_do, alt, no_alts, more_alts, comm_accept, comm_send, comm_receive, timeout, terminate}
+use Rattle.pfc_tree.specs.trees.Exprs.{ExprTree, DesigTree, ActualTrees, plain, sum, no_summands, product, no_multipliers, applied, desig, no_selectors}
+use Rattle.pfc_tree.specs.trees.Exprs.{more_selectors, no_actuals}
+use Rattle.pfc_tree.specs.trees.Stmts.{StmtTree, StmtTrees, ArmTrees, AcceptTree, AltTrees, CommTree, empty, null, block, if_then, if_then_else, case_of}
+use Rattle.pfc_tree.specs.trees.Stmts.{while_do, repeat_until, repeat_forever, for_do, cobegin, accepting, requeue, select, select_else, assign, send, receive}
+use Rattle.pfc_tree.specs.trees.Stmts.{call, no_stmts, more_stmts, body, arm, no_arms, more_arms, accept, accept_do, alt, no_alts, more_alts, comm_accept}
+use Rattle.pfc_tree.specs.trees.Stmts.{comm_send, comm_receive, timeout, terminate}
 use Rattle.pfc_types.specs.Scopes.{meaning_of}
 use Rattle.pfc_types.specs.Blocks.{sub_at}
 use Rattle.pfc_types.specs.declared.types.TypeId.{TypeId}
@@ -13,11 +17,14 @@ use Rattle.pfc_types.specs.declared.scope.Meaning.TheVariants.{Constant, Named, 
 use Rattle.pfc_types.specs.declared.heads.SubSort.TheVariants.{Guarded}
 use Rattle.pfc_types.specs.rules.Routines.{is_any}
 use Rattle.pfc_types.specs.rules.Expressions.{Env, find, as_desig, desig_type, broken_expr, broken_desig}
-use Rattle.pfc_types.specs.rules.Statements.{names_any, carried_by, broken_target, broken_message, broken_receiver, broken_guard, broken_requeue, innermost, within_accept, scopes_in, stmts_scopes, arm_scopes, arms_scopes, accept_scopes, comm_scopes, alt_scopes, alts_scopes, accept_rules, broken_stmt, broken_stmts, broken_arms, broken_accept, broken_alts, broken_comm}
+use Rattle.pfc_types.specs.rules.Statements.{names_any, carried_by, broken_target, broken_message, broken_receiver, broken_guard, broken_requeue, innermost}
+use Rattle.pfc_types.specs.rules.Statements.{within_accept, scopes_in, stmts_scopes, arm_scopes, arms_scopes, accept_scopes, comm_scopes, alt_scopes}
+use Rattle.pfc_types.specs.rules.Statements.{alts_scopes, accept_rules, broken_stmt, broken_stmts, broken_arms, broken_accept, broken_alts, broken_comm}
 use Rattle.pfc_semantics.specs.Programs.{Program}
 use Rattle.pfc_image_numbers.proofs.Rules.{IsClean, held, and_right}
 use Rattle.pfc_guard_laws.specs.Tops.{Standing}
-use Rattle.pfc_guard_laws.specs.Written.{MayRequeue, SuitsName, SuitsRequeue, SuitsFactor, SuitsExpr, SuitsDesig, SuitsPerhaps, SuitActuals, SuitsStmt, SuitStmts, SuitArms, SuitsAccept, SuitsComm, SuitAlts}
+use Rattle.pfc_guard_laws.specs.Written.{MayRequeue, SuitsName, SuitsRequeue, SuitsFactor, SuitsExpr, SuitsDesig, SuitsPerhaps, SuitActuals, SuitsStmt}
+use Rattle.pfc_guard_laws.specs.Written.{SuitStmts, SuitArms, SuitsAccept, SuitsComm, SuitAlts}
 use Rattle.pfc_checked_guards.specs.Subs.{SubsStand}
 use Rattle.pfc_checked_guards.specs.Order.{InOrder, Along}
 use Rattle.pfc_checked_guards.proofs.Expressions.{under, expr_called, desig_called}

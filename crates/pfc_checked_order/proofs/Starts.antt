@@ -1,8 +1,10 @@
 -- Where the parts of a program begin.
-use Rattle.std.proofs.Common.{◌≡◌, ℕ, zero, suc, ◌+◌, ◌-◌, ◌≤◌, ◌<◌, ◌==◌, Bool, true, false, nat_lt, if◌then◌else◌, List, [], ◌∷◌, length, take, get_or, refl, ap, ◌∙◌, arith}
+use Rattle.std.proofs.Common.{◌≡◌, ℕ, zero, suc, ◌+◌, ◌-◌, ◌≤◌, ◌<◌, ◌==◌, Bool, true, false, nat_lt, if◌then◌else◌, List, [], ◌∷◌, length, take, get_or, refl}
+use Rattle.std.proofs.Common.{ap, ◌∙◌, arith}
 use Rattle.std.proofs.lemmas.Bool.Decides.{nat_tests}
 use Rattle.std.specs.List.{AllByRecursion}
-use Rattle.pfc_tree.specs.trees.Parts.{PartTree, PartTrees, consts, types, vars, sub_part, monitor, resource, process_part, no_parts, more_parts, the_module, ModuleTree}
+use Rattle.pfc_tree.specs.trees.Parts.{PartTree, PartTrees, consts, types, vars, sub_part, monitor, resource, process_part, no_parts, more_parts, the_module}
+use Rattle.pfc_tree.specs.trees.Parts.{ModuleTree}
 use Rattle.pfc_types.specs.declared.heads.ModuleHead.{ModuleHead}
 use Rattle.pfc_types.specs.rules.Bodies.{part_scopes, parts_scopes, module_scopes}
 use Rattle.pfc_state.specs.Waits.{same_truth}

@@ -1,12 +1,16 @@
 -- The code of an expression is plain: by induction over its phrases.
-use Rattle.std.proofs.Common.{◌+◌, ◌++◌, Bool, true, false, List, [], ◌∷◌, length, Option, Some, None, cond, if◌then◌else◌, max, refl, ap, ap₂, ◌∙◌, sym, length-append}
+use Rattle.std.proofs.Common.{◌+◌, ◌++◌, Bool, true, false, List, [], ◌∷◌, length, Option, Some, None, cond, if◌then◌else◌, max, refl, ap, ap₂, ◌∙◌, sym}
+use Rattle.std.proofs.Common.{length-append}
 use Rattle.pfc_translation.specs.Codes.{Lined}
 use Rattle.pfc_tree.specs.Symbols.{Text}
 use Rattle.pfc_code_laws.specs.Plain.{IsPlain}
 use Rattle.pfc_base.specs.declared.places.Place.{Place}
 use Rattle.pfc_tree.specs.declared.tree.Sign.{Sign}
 use Rattle.pfc_tree.specs.declared.tree.Sign.TheVariants.{Plus, Minus}
-use Rattle.pfc_tree.specs.trees.Exprs.{ExprTree, SimpleTree, SummandTrees, TermTree, MultiplierTrees, FactorTree, SelectorTrees, ExprTrees, ActualTree, ActualTrees, plain, related, sum, no_summands, more_summands, product, no_multipliers, more_multipliers, number, literal, negation, paren, applied, desig, index, field, no_selectors, more_selectors, no_exprs, more_exprs, actual, actual_width, no_actuals, more_actuals}
+use Rattle.pfc_tree.specs.trees.Exprs.{ExprTree, SimpleTree, SummandTrees, TermTree, MultiplierTrees, FactorTree, SelectorTrees, ExprTrees, ActualTree}
+use Rattle.pfc_tree.specs.trees.Exprs.{ActualTrees, plain, related, sum, no_summands, more_summands, product, no_multipliers, more_multipliers, number, literal}
+use Rattle.pfc_tree.specs.trees.Exprs.{negation, paren, applied, desig, index, field, no_selectors, more_selectors, no_exprs, more_exprs, actual, actual_width}
+use Rattle.pfc_tree.specs.trees.Exprs.{no_actuals, more_actuals}
 use Rattle.pfc_types.specs.declared.types.TypeId.{TypeId}
 use Rattle.pfc_types.specs.declared.scope.Meaning.{Meaning}
 use Rattle.pfc_types.specs.declared.scope.Meaning.TheVariants.{Constant, Named, Variable, Sub, Module, Process, Entry, Predeclared, Faulty}
@@ -17,12 +21,15 @@ use Rattle.pfc_types.specs.rules.Expressions.{find, first_type, field_type, sele
 use Rattle.pfc_semantics.specs.Expressions.{spot_of, char_in, form_in}
 use Rattle.pfc_semantics.specs.Operators.{simple_of}
 use Rattle.pfc_code.specs.declared.instructions.Instr.{Instr}
-use Rattle.pfc_code.specs.declared.instructions.Instr.TheVariants.{LIT, ADDR, REF, FLD, LOAD, OBJ, NEG, ABS, SQR, ODD, CHR, SUCC, PRED, NOT, EMPTY, CLOCK, RAND, EOF, EOLN}
+use Rattle.pfc_code.specs.declared.instructions.Instr.TheVariants.{LIT, ADDR, REF, FLD, LOAD, OBJ, NEG, ABS, SQR, ODD, CHR, SUCC, PRED, NOT, EMPTY, CLOCK, RAND}
+use Rattle.pfc_code.specs.declared.instructions.Instr.TheVariants.{EOF, EOLN}
 use Rattle.pfc_semantics.specs.Predeclared.{Function, abs, sqr, odd, ord, chr, succ, pred, eof, eoln, empty, clock, random, no_function, function_of}
 use Rattle.pfc_translation.specs.Sites.{Site, forms_of, blocks_of, type_cells, links_to, cell_of, refers}
 use Rattle.pfc_translation.specs.Codes.{Code, nothing, ◌⨾◌, one}
 use Rattle.pfc_translation.specs.Addresses.{base_code, type_behind, element_in, index_instr, field_cell}
-use Rattle.pfc_translation.specs.Expressions.{expr_code, simple_code, summands_code, term_code, multipliers_code, factor_code, sign_code, first_value, first_address, actual_code, lent_code, variable_code, args_code, selectors_code, indices_code, name_code, function_code, relation_instr, add_instr, multiply_instr, simple_number, call_instr}
+use Rattle.pfc_translation.specs.Expressions.{expr_code, simple_code, summands_code, term_code, multipliers_code, factor_code, sign_code, first_value}
+use Rattle.pfc_translation.specs.Expressions.{first_address, actual_code, lent_code, variable_code, args_code, selectors_code, indices_code, name_code}
+use Rattle.pfc_translation.specs.Expressions.{function_code, relation_instr, add_instr, multiply_instr, simple_number, call_instr}
 
 both : (a b : Code) → IsPlain a → IsPlain b → IsPlain (a ⨾ b)
 both a b p q = (

@@ -2,7 +2,8 @@
 use Rattle.std.proofs.Common.{◌≡◌, ℕ, Bool, true, false, length, Option, Some, None, refl, arith, length-append}
 use Rattle.pfc_tree.specs.Symbols.{Text}
 use Rattle.pfc_base.specs.declared.places.Place.{Place}
-use Rattle.pfc_tree.specs.trees.Exprs.{ExprTree, DesigTree, SelectorTrees, ActualTree, ActualTrees, desig, no_selectors, actual, actual_width, no_actuals, more_actuals}
+use Rattle.pfc_tree.specs.trees.Exprs.{ExprTree, DesigTree, SelectorTrees, ActualTree, ActualTrees, desig, no_selectors, actual, actual_width, no_actuals}
+use Rattle.pfc_tree.specs.trees.Exprs.{more_actuals}
 use Rattle.pfc_types.specs.Scopes.{meaning_in, meaning_of, scope_at}
 use Rattle.pfc_types.specs.Blocks.{sub_at, module_at, process_at, entry_at}
 use Rattle.pfc_types.specs.rules.Expressions.{find, as_desig, selected}
@@ -17,8 +18,12 @@ use Rattle.pfc_semantics.specs.Statements.{as_string, item_of, expr_of, behind_f
 use Rattle.pfc_translation.specs.Sites.{Site, blocks_of}
 use Rattle.pfc_translation.specs.Codes.{Code}
 use Rattle.pfc_translation.specs.Expressions.{address_code}
-use Rattle.pfc_translation.specs.Calls.{plain_item, wide_item, item_code, writes_code, input_code, reads_code, given_code, rank_code, first_object, procedure_code, sub_code, exported_code, module_code, requeue_code, activation_code, entry_code, process_code, field_code, called_variable, called_process, called_code, found_code, call_code}
-use Rattle.pfc_code_size.specs.Calls.{plain_item_size, wide_item_size, item_size, writes_size, input_size, reads_size, given_size, rank_size, first_object_size, procedure_size, sub_size, exported_size, module_size, requeue_size, activation_size, entry_size, process_size, part_size, field_size, called_variable_size, called_process_size, called_size, call_size}
+use Rattle.pfc_translation.specs.Calls.{plain_item, wide_item, item_code, writes_code, input_code, reads_code, given_code, rank_code, first_object}
+use Rattle.pfc_translation.specs.Calls.{procedure_code, sub_code, exported_code, module_code, requeue_code, activation_code, entry_code, process_code}
+use Rattle.pfc_translation.specs.Calls.{field_code, called_variable, called_process, called_code, found_code, call_code}
+use Rattle.pfc_code_size.specs.Calls.{plain_item_size, wide_item_size, item_size, writes_size, input_size, reads_size, given_size, rank_size, first_object_size}
+use Rattle.pfc_code_size.specs.Calls.{procedure_size, sub_size, exported_size, module_size, requeue_size, activation_size, entry_size, process_size, part_size}
+use Rattle.pfc_code_size.specs.Calls.{field_size, called_variable_size, called_process_size, called_size, call_size}
 use Rattle.pfc_code_size.proofs.Lengths.{expr_length, desig_length, args_length, part_length, first_value_length, first_address_length}
 
 -- ## Output and input

@@ -3,7 +3,10 @@ use Rattle.std.proofs.Common.{◌≡◌, ◌+◌, ℕ, Bool, true, false, List, 
 use Rattle.pfc_base.specs.declared.places.Place.{Place}
 use Rattle.pfc_tree.specs.declared.tree.Sign.{Sign}
 use Rattle.pfc_tree.specs.declared.tree.Sign.TheVariants.{Plus, Minus}
-use Rattle.pfc_tree.specs.trees.Exprs.{ExprTree, SimpleTree, SummandTrees, TermTree, MultiplierTrees, FactorTree, DesigTree, SelectorTrees, ExprTrees, ActualTree, ActualTrees, plain, related, sum, no_summands, more_summands, product, no_multipliers, more_multipliers, number, literal, negation, paren, applied, desig, index, field, no_selectors, more_selectors, no_exprs, more_exprs, actual, actual_width, no_actuals, more_actuals}
+use Rattle.pfc_tree.specs.trees.Exprs.{ExprTree, SimpleTree, SummandTrees, TermTree, MultiplierTrees, FactorTree, DesigTree, SelectorTrees, ExprTrees}
+use Rattle.pfc_tree.specs.trees.Exprs.{ActualTree, ActualTrees, plain, related, sum, no_summands, more_summands, product, no_multipliers, more_multipliers}
+use Rattle.pfc_tree.specs.trees.Exprs.{number, literal, negation, paren, applied, desig, index, field, no_selectors, more_selectors, no_exprs, more_exprs}
+use Rattle.pfc_tree.specs.trees.Exprs.{actual, actual_width, no_actuals, more_actuals}
 use Rattle.pfc_types.specs.declared.types.TypeId.{TypeId}
 use Rattle.pfc_types.specs.declared.scope.Meaning.{Meaning}
 use Rattle.pfc_types.specs.declared.scope.Meaning.TheVariants.{Constant, Named, Variable, Sub, Module, Process, Entry, Predeclared, Faulty}
@@ -17,8 +20,12 @@ use Rattle.pfc_semantics.specs.Predeclared.{Function, abs, sqr, odd, ord, chr, s
 use Rattle.pfc_translation.specs.Sites.{Site, forms_of, blocks_of}
 use Rattle.pfc_translation.specs.Codes.{Code, ◌⨾◌}
 use Rattle.pfc_translation.specs.Addresses.{base_code, type_behind, element_in}
-use Rattle.pfc_translation.specs.Expressions.{expr_code, simple_code, summands_code, term_code, multipliers_code, factor_code, sign_code, first_value, first_address, actual_code, lent_code, variable_code, args_code, selectors_code, indices_code, name_code, function_code, desig_code, object_code}
-use Rattle.pfc_code_size.specs.Expressions.{expr_size, simple_size, summands_size, term_size, multipliers_size, factor_size, sign_size, first_value_size, first_address_size, actual_size, lent_size, variable_size, args_size, selectors_size, indices_size, name_size, function_size, desig_size, object_size}
+use Rattle.pfc_translation.specs.Expressions.{expr_code, simple_code, summands_code, term_code, multipliers_code, factor_code, sign_code, first_value}
+use Rattle.pfc_translation.specs.Expressions.{first_address, actual_code, lent_code, variable_code, args_code, selectors_code, indices_code, name_code}
+use Rattle.pfc_translation.specs.Expressions.{function_code, desig_code, object_code}
+use Rattle.pfc_code_size.specs.Expressions.{expr_size, simple_size, summands_size, term_size, multipliers_size, factor_size, sign_size, first_value_size}
+use Rattle.pfc_code_size.specs.Expressions.{first_address_size, actual_size, lent_size, variable_size, args_size, selectors_size, indices_size, name_size}
+use Rattle.pfc_code_size.specs.Expressions.{function_size, desig_size, object_size}
 
 sign_length : (s : Site) (sign : Option (Sign × Place)) (at n : ℕ) → length ((sign_code s sign).put at n) ≡ sign_size sign
 sign_length s None at n = refl

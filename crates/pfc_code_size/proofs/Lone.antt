@@ -2,7 +2,8 @@
 use Rattle.std.proofs.Common.{◌≡◌, true, false, cond, Option, Some, None, refl, ap, ◌∙◌}
 use Rattle.pfc_base.specs.declared.places.Place.{Place}
 use Rattle.pfc_tree.specs.declared.tree.Sign.{Sign}
-use Rattle.pfc_tree.specs.trees.Exprs.{SummandTrees, TermTree, MultiplierTrees, FactorTree, sum, no_summands, more_summands, product, no_multipliers, more_multipliers}
+use Rattle.pfc_tree.specs.trees.Exprs.{SummandTrees, TermTree, MultiplierTrees, FactorTree, sum, no_summands, more_summands, product, no_multipliers}
+use Rattle.pfc_tree.specs.trees.Exprs.{more_multipliers}
 use Rattle.pfc_types.specs.Blocks.{Blocks}
 use Rattle.pfc_types.specs.rules.Expressions.{Env}
 use Rattle.pfc_code_size.specs.Lone.{no_multiplier, is_lone_sum}

@@ -7,7 +7,8 @@ use Rattle.pfc_types.specs.Scopes.{scope_at}
 use Rattle.pfc_types.specs.rules.Bodies.{passed_part, part_scopes}
 use Rattle.pfc_semantics.specs.Programs.{Block, Guard, Program, part_blocks, parts_blocks, part_inits, parts_inits, ends_of_resources, program_of}
 use Rattle.pfc_translation.specs.Sites.{Site}
-use Rattle.pfc_translation.specs.Images.{Piece, a_body, an_initial, a_resource, Coded, site_in, guard_code, statements_code, body_code, resource_end, pieces, coded, before_main, of_main, size_of, put_from, strings_in, image_over, image_of}
+use Rattle.pfc_translation.specs.Images.{Piece, a_body, an_initial, a_resource, Coded, site_in, guard_code, statements_code, body_code, resource_end, pieces}
+use Rattle.pfc_translation.specs.Images.{coded, before_main, of_main, size_of, put_from, strings_in, image_over, image_of}
 use Rattle.pfc_program.specs.declared.program.Program.{Program as Known}
 use Rattle.pfc_program.specs.Views.{tables_view, block_view, blocks_view}
 use Rattle.pfc_code_size.specs.Programs.{guard_size, statements_size, body_size, bodies_size, initials_size, all_size, program_size, known_size}

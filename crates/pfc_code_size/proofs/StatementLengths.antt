@@ -1,10 +1,14 @@
 -- The same of statements.
-use Rattle.std.proofs.Common.{◌≡◌, ◌+◌, ◌++◌, ◌*◌, int_le, ℕ, ℤ, Bool, true, false, List, [], ◌∷◌, length, map, drop, cond, Option, Some, None, refl, ap, ◌∙◌, sym, arith, length-append, zero-add}
+use Rattle.std.proofs.Common.{◌≡◌, ◌+◌, ◌++◌, ◌*◌, int_le, ℕ, ℤ, Bool, true, false, List, [], ◌∷◌, length, map, drop, cond, Option, Some, None, refl, ap, ◌∙◌}
+use Rattle.std.proofs.Common.{sym, arith, length-append, zero-add}
 use Rattle.std.proofs.Math.Nat.{zero-mul, suc-mul}
 use Rattle.pfc_tree.specs.declared.tree.Constant.{Constant}
 use Rattle.pfc_tree.specs.declared.tree.Spread.{Spread}
 use Rattle.pfc_tree.specs.trees.Exprs.{ExprTree, DesigTree}
-use Rattle.pfc_tree.specs.trees.Stmts.{StmtTree, StmtTrees, ArmTrees, AcceptTree, AltTree, AltTrees, CommTree, empty, null, block, if_then, if_then_else, case_of, while_do, repeat_until, repeat_forever, for_do, cobegin, accepting, requeue, select, select_else, assign, send, receive, call, no_stmts, more_stmts, body, arm, no_arms, more_arms, accept, accept_do, alt, no_alts, more_alts, comm_accept, comm_send, comm_receive, timeout, terminate}
+use Rattle.pfc_tree.specs.trees.Stmts.{StmtTree, StmtTrees, ArmTrees, AcceptTree, AltTree, AltTrees, CommTree, empty, null, block, if_then, if_then_else}
+use Rattle.pfc_tree.specs.trees.Stmts.{case_of, while_do, repeat_until, repeat_forever, for_do, cobegin, accepting, requeue, select, select_else, assign, send}
+use Rattle.pfc_tree.specs.trees.Stmts.{receive, call, no_stmts, more_stmts, body, arm, no_arms, more_arms, accept, accept_do, alt, no_alts, more_alts}
+use Rattle.pfc_tree.specs.trees.Stmts.{comm_accept, comm_send, comm_receive, timeout, terminate}
 use Rattle.pfc_types.specs.Types.{extent}
 use Rattle.pfc_types.specs.Scopes.{meaning_of}
 use Rattle.pfc_types.specs.rules.Constants.{Ordinal, constant_value}
@@ -15,9 +19,12 @@ use Rattle.pfc_semantics.specs.Expressions.{spot_of}
 use Rattle.pfc_semantics.specs.Remainders.{Replica, Alternative}
 use Rattle.pfc_semantics.specs.Alternatives.{replicas, replicas_from, replicas_by, alternative, spread_out, alternatives, message_of, receiver_of}
 use Rattle.pfc_translation.specs.Sites.{Site, at_line, in_accept, context_of, blocks_of}
-use Rattle.pfc_translation.specs.Selects.{message_code, receiver_code, send_code, receive_code, replica_code, comm_code, guarded_code, alternatives_code, first_of}
+use Rattle.pfc_translation.specs.Selects.{message_code, receiver_code, send_code, receive_code, replica_code, comm_code, guarded_code, alternatives_code}
+use Rattle.pfc_translation.specs.Selects.{first_of}
 use Rattle.pfc_translation.specs.Statements as code
-use Rattle.pfc_code_size.specs.Statements.{message_size, receiver_size, send_size, receive_size, comm_size, guarded_size, values_in, spread_size, alternatives_size, chosen_size, label_count, assign_size, stmt_size, stmts_size, arms_size, accepted_size, branch_size, branches_size}
+use Rattle.pfc_code_size.specs.Statements.{message_size, receiver_size, send_size, receive_size, comm_size, guarded_size, values_in, spread_size}
+use Rattle.pfc_code_size.specs.Statements.{alternatives_size, chosen_size, label_count, assign_size, stmt_size, stmts_size, arms_size, accepted_size}
+use Rattle.pfc_code_size.specs.Statements.{branch_size, branches_size}
 use Rattle.pfc_types.specs.Blocks.{Blocks}
 use Rattle.pfc_types.specs.rules.Expressions.{Env}
 use Rattle.pfc_code_size.proofs.Lengths.{expr_length, desig_length, object_length}

@@ -1,14 +1,17 @@
 -- Parts of a program add modules behind the others.
 use Rattle.std.proofs.Common.{◌≡◌, ℕ, Bool, true, false, List, [], ◌∷◌, ◌++◌, length, refl, sym, ap, ◌∙◌, append_assoc, append-nil}
-use Rattle.pfc_tree.specs.trees.Parts.{PartTree, PartTrees, ModuleTree, ProcessTree, consts, types, vars, sub_part, monitor, resource, process_part, no_parts, more_parts, the_module, process}
+use Rattle.pfc_tree.specs.trees.Parts.{PartTree, PartTrees, ModuleTree, ProcessTree, consts, types, vars, sub_part, monitor, resource, process_part, no_parts}
+use Rattle.pfc_tree.specs.trees.Parts.{more_parts, the_module, process}
 use Rattle.pfc_tree.specs.forget.Parts.{forget_part, forget_parts, forget_module, forget_process}
 use Rattle.pfc_tree.specs.lawful.Parts.{Home, of_program, of_resource, of_other, HoldsModules, IsLawfulPart, AreLawfulParts, IsLawfulModule, IsLawfulProcess}
 use Rattle.pfc_types.specs.Scopes.{Level, here}
 use Rattle.pfc_types.specs.Blocks.{State, add_module, open_scope}
 use Rattle.pfc_types.specs.declared.heads.ModuleHead.{ModuleHead}
 use Rattle.pfc_types.specs.declared.scope.Meaning.TheVariants.{Module}
-use Rattle.pfc_types.specs.rules.Declarations.{Owner, in_program, elsewhere, process_headed, process_cells, entries_state, exports_state, init_state, body_state, module_owner, cells_rule, part_state, parts_state, module_state, process_state}
-use Rattle.pfc_image_cells.proofs.Subs.{note_same, declare_same, consts_same, types_same, vars_same, entries_same, exports_same, body_same, init_same, process_headed_same, sub_modules}
+use Rattle.pfc_types.specs.rules.Declarations.{Owner, in_program, elsewhere, process_headed, process_cells, entries_state, exports_state, init_state}
+use Rattle.pfc_types.specs.rules.Declarations.{body_state, module_owner, cells_rule, part_state, parts_state, module_state, process_state}
+use Rattle.pfc_image_cells.proofs.Subs.{note_same, declare_same, consts_same, types_same, vars_same, entries_same, exports_same, body_same, init_same}
+use Rattle.pfc_image_cells.proofs.Subs.{process_headed_same, sub_modules}
 
 -- in a module and in a process stands none
 inner_modules :

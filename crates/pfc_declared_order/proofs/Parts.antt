@@ -2,14 +2,17 @@
 use Rattle.std.proofs.Common.{ℕ, ◌+◌, ◌≤◌, ◌<◌, inl, inr, Bool, true, false, List, [], ◌∷◌, ◌++◌, take, drop, Option, Some, None, refl, arith}
 use Rattle.std.specs.List.{AllByRecursion}
 use Rattle.pfc_tree.specs.trees.Stmts.{BodyTree, body}
-use Rattle.pfc_tree.specs.trees.Parts.{PartTree, PartTrees, SubTree, ModuleTree, ProcessTree, consts, types, vars, sub_part, monitor, resource, process_part, no_parts, more_parts, sub, the_module, process}
+use Rattle.pfc_tree.specs.trees.Parts.{PartTree, PartTrees, SubTree, ModuleTree, ProcessTree, consts, types, vars, sub_part, monitor, resource, process_part}
+use Rattle.pfc_tree.specs.trees.Parts.{no_parts, more_parts, sub, the_module, process}
 use Rattle.pfc_types.specs.Scopes.{Level, scope_at, here}
 use Rattle.pfc_types.specs.Blocks.{State}
 use Rattle.pfc_types.specs.declared.view.Around.{Around}
 use Rattle.pfc_types.specs.rules.Statements.{body_scopes}
-use Rattle.pfc_types.specs.rules.Bodies.{env_at, around_sub, around_process, around_guard, passed, passed_part, passed_groups, passed_entries, part_scopes, parts_scopes, sub_scopes, module_scopes, process_scopes, sub_name, process_name, level}
+use Rattle.pfc_types.specs.rules.Bodies.{env_at, around_sub, around_process, around_guard, passed, passed_part, passed_groups, passed_entries, part_scopes}
+use Rattle.pfc_types.specs.rules.Bodies.{parts_scopes, sub_scopes, module_scopes, process_scopes, sub_name, process_name, level}
 use Rattle.pfc_semantics.specs.Layouts.{Layout, sub_layout_at, process_layout}
-use Rattle.pfc_semantics.specs.Programs.{Block, Guard, block_of, guard_of, part_blocks, parts_blocks, sub_blocks, module_blocks, process_blocks, module_inits, part_inits}
+use Rattle.pfc_semantics.specs.Programs.{Block, Guard, block_of, guard_of, part_blocks, parts_blocks, sub_blocks, module_blocks, process_blocks, module_inits}
+use Rattle.pfc_semantics.specs.Programs.{part_inits}
 use Rattle.pfc_declared_order.specs.Parts.{IsSeenAt, IsInPart, IsOfPart, IsInitOfPart, seen_in, PartsStand}
 
 all_joined : {X : Type 0} (P : X → Type 0) (xs ys : List X) → AllByRecursion P xs → AllByRecursion P ys → AllByRecursion P (xs ++ ys)

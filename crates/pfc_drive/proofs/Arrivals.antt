@@ -1,5 +1,6 @@
 -- What the instruction of a next action does.
-use Rattle.std.proofs.Common.{◌≡◌, ℕ, zero, suc, ◌+◌, ◌≤◌, ℤ, Bool, if◌then◌else◌, List, [], ◌∷◌, ◌++◌, length, take, drop, get_or, set, reverse, Option, Some, Result, Ok, Err, refl, sym, ap, ap₂, ◌∙◌, subst, arith, length-append, slice_get}
+use Rattle.std.proofs.Common.{◌≡◌, ℕ, zero, suc, ◌+◌, ◌≤◌, ℤ, Bool, if◌then◌else◌, List, [], ◌∷◌, ◌++◌, length, take, drop, get_or, set, reverse, Option, Some}
+use Rattle.std.proofs.Common.{Result, Ok, Err, refl, sym, ap, ap₂, ◌∙◌, subst, arith, length-append, slice_get}
 use Rattle.std.proofs.lemmas.List.{length-reverse, take_at, reverse-reverse}
 use Rattle.std.proofs.lemmas.Option.{slice_get_within, get_or_from_slice_get}
 use Rattle.rand_pcg.specs.Lcg.{Lcg}
@@ -17,7 +18,8 @@ use Rattle.pfc_values.specs.Pieces.{shown, padded}
 use Rattle.pfc_meaning.specs.Values.{Value, ordinal, ordinal_of}
 use Rattle.pfc_meaning.specs.Store.{Location, value_at, stored, variables}
 use Rattle.pfc_meaning.specs.Operators.{simple_of}
-use Rattle.pfc_meaning.specs.Frames.{Rest, Use, Next, Task, store_whole, reads, copies_from, writes, turns, prints, inputs, skips, asks_eof, asks_eoln, draws, faults, finishes, going, holding}
+use Rattle.pfc_meaning.specs.Frames.{Rest, Use, Next, Task, store_whole, reads, copies_from, writes, turns, prints, inputs, skips, asks_eof, asks_eoln, draws}
+use Rattle.pfc_meaning.specs.Frames.{faults, finishes, going, holding}
 use Rattle.pfc_meaning.specs.Configurations.{Config, act, acted, faulted, read_in, skipped_in, drawn_in}
 use Rattle.pfc_machine.specs.Refs.{ref_of}
 use Rattle.pfc_machine.specs.Rows.{quiet, action, Row, goes, acts, ends_in, row, within, passed, is_before, value_behind}
@@ -26,11 +28,13 @@ use Rattle.pfc_machine.specs.Stacks.{Stack, Stacks, own_cells, stack_of, operand
 use Rattle.pfc_translation.specs.Calls.{write_instr, read_instr}
 use Rattle.pfc_relation.specs.Cells.{IsOf, is_number, AreCells, words_of}
 use Rattle.pfc_relation.specs.Standing.{Program, IsChecked, IsAt, IsWord, IsSimpleWord, IsWholeWord, forms_of, names_of, RestAt, UseAt, arrived}
-use Rattle.pfc_relation.specs.Following.{TaskAt, IsPiece, number, wide_number, string, wide_string, newline, IsFault, of_operands, of_number_width, of_string_width, IsWrite, of_value, of_kept, IsTurn, of_loop, of_count, Arrived}
+use Rattle.pfc_relation.specs.Following.{TaskAt, IsPiece, number, wide_number, string, wide_string, newline, IsFault, of_operands, of_number_width}
+use Rattle.pfc_relation.specs.Following.{of_string_width, IsWrite, of_value, of_kept, IsTurn, of_loop, of_count, Arrived}
 use Rattle.pfc_relation.proofs.Cells.{stored_first}
 use Rattle.pfc_relation.proofs.Words.{words_length, simple_word}
 use Rattle.pfc_drive.specs.Standing.{Holds}
-use Rattle.pfc_drive.specs.Deeds.{Deed, does, puts, refuses, ends, deed, by_row, Manages, item_read, line_skipped, number_drawn, printed, value_printed, text_printed}
+use Rattle.pfc_drive.specs.Deeds.{Deed, does, puts, refuses, ends, deed, by_row, Manages, item_read, line_skipped, number_drawn, printed, value_printed}
+use Rattle.pfc_drive.specs.Deeds.{text_printed}
 use Rattle.pfc_drive.proofs.Memory.{word_live, word_read, word_is, rewritten, word_written, rewritten_are}
 use Rattle.pfc_drive.proofs.Quiet.{fault_fits, fault_row, fault_manages}
 

@@ -1,5 +1,6 @@
 -- The run from a configuration on, by its first turn.
-use Rattle.std.proofs.Common.{◌≡◌, ℕ, zero, suc, ◌+◌, ◌-◌, ◌<◌, ◌≤◌, Bool, true, false, List, [], ◌∷◌, if◌then◌else◌, Option, Some, None, refl, sym, ap, ap₂, ◌∙◌, subst, arith, append-nil}
+use Rattle.std.proofs.Common.{◌≡◌, ℕ, zero, suc, ◌+◌, ◌-◌, ◌<◌, ◌≤◌, Bool, true, false, List, [], ◌∷◌, if◌then◌else◌, Option, Some, None, refl, sym, ap, ap₂}
+use Rattle.std.proofs.Common.{◌∙◌, subst, arith, append-nil}
 use Rattle.std.proofs.KnownBytes.{Appends-nil}
 use Rattle.pfc_io.specs.Writes.{AppendsFront}
 use Rattle.pfc_io.proofs.Written.{AppendsFront-none}

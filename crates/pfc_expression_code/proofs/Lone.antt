@@ -8,7 +8,8 @@ use Rattle.pfc_tree.specs.declared.tree.MulOp.{MulOp}
 use Rattle.pfc_tree.specs.declared.tree.Term.{Term, out-Term}
 use Rattle.pfc_tree.specs.declared.tree.Simple.{Simple, out-Simple}
 use Rattle.pfc_tree.specs.declared.tree.Factor.{Factor}
-use Rattle.pfc_tree.specs.trees.Exprs.{SimpleTree, TermTree, FactorTree, SummandTrees, MultiplierTrees, sum, product, no_summands, more_summands, no_multipliers, more_multipliers}
+use Rattle.pfc_tree.specs.trees.Exprs.{SimpleTree, TermTree, FactorTree, SummandTrees, MultiplierTrees, sum, product, no_summands, more_summands}
+use Rattle.pfc_tree.specs.trees.Exprs.{no_multipliers, more_multipliers}
 use Rattle.pfc_tree.specs.views.Exprs.{simple_view, factor_view, summands_view, multipliers_view}
 use Rattle.pfc_types.specs.rules.Expressions.{Env, simple_type, factor_type}
 use Rattle.pfc_expression_code.proofs.Nodes.{simple_view-out, term_view-out}

@@ -17,7 +17,8 @@ use Rattle.pfc_emit.specs.declared.emitter.EmitFault.{EmitFault}
 use Rattle.pfc_emit.specs.declared.emitter.EmitFault.TheVariants.{Full}
 use Rattle.pfc_code_laws.specs.Plain.{IsPlain}
 use Rattle.pfc_code_laws.proofs.Expressions.{plain_expr, plain_selectors, plain_args, plain_first, plain_first_address}
-use Rattle.pfc_expression_code.specs.Lists.{ways_of, single, expr_list, desig_list, object_list, args_list, first_value_list, first_address_list, selectors_list, part_list}
+use Rattle.pfc_expression_code.specs.Lists.{ways_of, single, expr_list, desig_list, object_list, args_list, first_value_list, first_address_list}
+use Rattle.pfc_expression_code.specs.Lists.{selectors_list, part_list}
 use Rattle.pfc_expression_code.specs.Putting.{Made, IsMade, IsTooLarge}
 use Rattle.pfc_expression_code.proofs.Same.{expr_same, part_same, object_same, args_same, first_value_same, first_address_same, selectors_same}
 

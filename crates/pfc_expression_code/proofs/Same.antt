@@ -3,7 +3,10 @@ use Rattle.std.proofs.Common.{◌≡◌, ◌++◌, ℕ, Bool, true, false, List,
 use Rattle.pfc_base.specs.declared.places.Place.{Place}
 use Rattle.pfc_tree.specs.declared.tree.Sign.{Sign}
 use Rattle.pfc_tree.specs.declared.tree.Sign.TheVariants.{Plus, Minus}
-use Rattle.pfc_tree.specs.trees.Exprs.{ExprTree, SimpleTree, SummandTrees, TermTree, MultiplierTrees, FactorTree, DesigTree, SelectorTrees, ExprTrees, ActualTree, ActualTrees, plain, related, sum, no_summands, more_summands, product, no_multipliers, more_multipliers, number, literal, negation, paren, applied, desig, index, field, no_selectors, more_selectors, no_exprs, more_exprs, actual, actual_width, no_actuals, more_actuals}
+use Rattle.pfc_tree.specs.trees.Exprs.{ExprTree, SimpleTree, SummandTrees, TermTree, MultiplierTrees, FactorTree, DesigTree, SelectorTrees, ExprTrees}
+use Rattle.pfc_tree.specs.trees.Exprs.{ActualTree, ActualTrees, plain, related, sum, no_summands, more_summands, product, no_multipliers, more_multipliers}
+use Rattle.pfc_tree.specs.trees.Exprs.{number, literal, negation, paren, applied, desig, index, field, no_selectors, more_selectors, no_exprs, more_exprs}
+use Rattle.pfc_tree.specs.trees.Exprs.{actual, actual_width, no_actuals, more_actuals}
 use Rattle.pfc_types.specs.declared.types.TypeId.{TypeId}
 use Rattle.pfc_types.specs.declared.scope.Meaning.{Meaning}
 use Rattle.pfc_types.specs.declared.scope.Meaning.TheVariants.{Constant, Named, Variable, Sub, Module, Process, Entry, Predeclared, Faulty}
@@ -18,9 +21,13 @@ use Rattle.pfc_semantics.specs.Predeclared.{Function, abs, sqr, odd, ord, chr, s
 use Rattle.pfc_translation.specs.Sites.{Site, forms_of, blocks_of}
 use Rattle.pfc_translation.specs.Codes.{Code, Lined, ◌⨾◌}
 use Rattle.pfc_translation.specs.Addresses.{base_code, type_behind, element_in}
-use Rattle.pfc_translation.specs.Expressions.{expr_code, simple_code, summands_code, term_code, multipliers_code, factor_code, sign_code, first_value, first_address, actual_code, lent_code, variable_code, args_code, selectors_code, indices_code, name_code, function_code, desig_code, object_code}
+use Rattle.pfc_translation.specs.Expressions.{expr_code, simple_code, summands_code, term_code, multipliers_code, factor_code, sign_code, first_value}
+use Rattle.pfc_translation.specs.Expressions.{first_address, actual_code, lent_code, variable_code, args_code, selectors_code, indices_code, name_code}
+use Rattle.pfc_translation.specs.Expressions.{function_code, desig_code, object_code}
 use Rattle.pfc_addresses.specs.Instructions.{base_instr}
-use Rattle.pfc_expression_code.specs.Lists.{ways_of, single, expr_list, simple_list, summands_list, term_list, multipliers_list, factor_list, sign_list, first_value_list, first_address_list, actual_list, lent_list, variable_list, args_list, selectors_list, indices_list, name_list, function_list, part_list, desig_list, object_list}
+use Rattle.pfc_expression_code.specs.Lists.{ways_of, single, expr_list, simple_list, summands_list, term_list, multipliers_list, factor_list, sign_list}
+use Rattle.pfc_expression_code.specs.Lists.{first_value_list, first_address_list, actual_list, lent_list, variable_list, args_list, selectors_list}
+use Rattle.pfc_expression_code.specs.Lists.{indices_list, name_list, function_list, part_list, desig_list, object_list}
 
 -- two lists one behind the other
 both : {a b c d : Lined} → a ≡ c → b ≡ d → a ++ b ≡ c ++ d

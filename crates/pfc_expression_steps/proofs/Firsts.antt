@@ -11,8 +11,10 @@ use Rattle.pfc_tree.specs.declared.tree.Factor.{Factor}
 use Rattle.pfc_tree.specs.declared.tree.Selector.{Selector}
 use Rattle.pfc_tree.specs.declared.tree.Simple.{Simple, out-Simple}
 use Rattle.pfc_tree.specs.declared.tree.Term.{Term, out-Term}
-use Rattle.pfc_tree.specs.trees.Exprs.{FactorTree, SelectorTree, ActualTree, DesigTree, ExprTree, SimpleTree, TermTree, related, sum, product, more_summands, more_multipliers, more_exprs, more_selectors}
-use Rattle.pfc_tree.specs.views.Exprs.{expr_view, simple_view, term_view, factor_view, selector_view, summands_view, multipliers_view, exprs_view, selectors_view, expr_of, factor_step, selector_step, actual_step, desig_step, expr_step, simple_step, term_step}
+use Rattle.pfc_tree.specs.trees.Exprs.{FactorTree, SelectorTree, ActualTree, DesigTree, ExprTree, SimpleTree, TermTree, related, sum, product, more_summands}
+use Rattle.pfc_tree.specs.trees.Exprs.{more_multipliers, more_exprs, more_selectors}
+use Rattle.pfc_tree.specs.views.Exprs.{expr_view, simple_view, term_view, factor_view, selector_view, summands_view, multipliers_view, exprs_view}
+use Rattle.pfc_tree.specs.views.Exprs.{selectors_view, expr_of, factor_step, selector_step, actual_step, desig_step, expr_step, simple_step, term_step}
 use Rattle.pfc_semantics.specs.Values.{Value, ordinal, ordinal_of}
 use Rattle.pfc_semantics.specs.Remainders.{Context, AwaitsValue, begin_sum, begin_product}
 use Rattle.pfc_semantics.specs.Expressions.{from_expr, from_simple, from_term, from_factor, from_summands, from_multipliers}

@@ -9,7 +9,9 @@ use Rattle.pfc_types.specs.declared.heads.Formal.{Formal}
 use Rattle.pfc_types.specs.declared.view.Around.{Around}
 use Rattle.pfc_semantics.specs.Displays.{Spot, TypedSpot}
 use Rattle.pfc_semantics.specs.Programs.{Block, block_number}
-use Rattle.pfc_semantics.specs.Remainders.{Context, AwaitsLocation, Action, by_reference, to_process, to_entry, read_for, assign_to, input_to, pass_variable, ask_empty, activate_with, enter_with, initial_to, wait_at, signal_at, delay_at, resume_at, send_to, receive_from, receive_into, offer_to, offer_from, offer_into}
+use Rattle.pfc_semantics.specs.Remainders.{Context, AwaitsLocation, Action, by_reference, to_process, to_entry, read_for, assign_to, input_to, pass_variable}
+use Rattle.pfc_semantics.specs.Remainders.{ask_empty, activate_with, enter_with, initial_to, wait_at, signal_at, delay_at, resume_at, send_to, receive_from}
+use Rattle.pfc_semantics.specs.Remainders.{receive_into, offer_to, offer_from, offer_into}
 use Rattle.pfc_semantics.specs.Rewriting.{from_location}
 use Rattle.pfc_translation.specs.Sites.{Site}
 use Rattle.pfc_translation.specs.Codes.{Code, ◌⨾◌, one}

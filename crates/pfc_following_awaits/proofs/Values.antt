@@ -1,5 +1,6 @@
 -- A value meets what waits for it.
-use Rattle.std.proofs.Common.{◌≡◌, ℕ, suc, ◌+◌, ◌≤◌, ℤ, if◌then◌else◌, List, [], ◌∷◌, ◌++◌, length, reverse, Option, Some, None, refl, sym, ap, ◌∙◌, subst, arith, append_assoc}
+use Rattle.std.proofs.Common.{◌≡◌, ℕ, suc, ◌+◌, ◌≤◌, ℤ, if◌then◌else◌, List, [], ◌∷◌, ◌++◌, length, reverse, Option, Some, None, refl, sym, ap, ◌∙◌, subst}
+use Rattle.std.proofs.Common.{arith, append_assoc}
 use Rattle.std.proofs.lemmas.List.{length-append, length-reverse}
 use Rattle.pfc_base.specs.declared.places.Place.{Place}
 use Rattle.pfc_code.specs.declared.instructions.Instr.TheVariants.{STORE, NOT}
@@ -18,7 +19,10 @@ use Rattle.pfc_semantics.specs.Values.{Value, ordinal, ordinal_of}
 use Rattle.pfc_semantics.specs.Displays.{Spot}
 use Rattle.pfc_semantics.specs.Operators.{compared}
 use Rattle.pfc_semantics.specs.Programs.{Block}
-use Rattle.pfc_semantics.specs.Remainders.{Context, Alternative, Selecting, Argument, Remainder, AwaitsValue, Call, Action, begin_sum, add_to, begin_product, multiply_by, compare_with, compare_to, invert, apply, index_into, pass_value, store_at, choose, choose_arm, while_true, until_true, count_from, count_to, show, show_wide, pad, set_count, delay_with, sleep_for, send_on, open_if, offer_value, offer_wait, pass_own, pass_other, by_value, turn, turns}
+use Rattle.pfc_semantics.specs.Remainders.{Context, Alternative, Selecting, Argument, Remainder, AwaitsValue, Call, Action, begin_sum, add_to, begin_product}
+use Rattle.pfc_semantics.specs.Remainders.{multiply_by, compare_with, compare_to, invert, apply, index_into, pass_value, store_at, choose, choose_arm}
+use Rattle.pfc_semantics.specs.Remainders.{while_true, until_true, count_from, count_to, show, show_wide, pad, set_count, delay_with, sleep_for, send_on}
+use Rattle.pfc_semantics.specs.Remainders.{open_if, offer_value, offer_wait, pass_own, pass_other, by_value, turn, turns}
 use Rattle.pfc_semantics.specs.Alternatives.{context}
 use Rattle.pfc_semantics.specs.Expressions.{form_in, from_summands, from_multipliers, from_selectors, from_indices, from_args}
 use Rattle.pfc_semantics.specs.Statements.{again, counting, from_stmt, from_until}
@@ -26,7 +30,8 @@ use Rattle.pfc_semantics.specs.Rewriting.{from_remainder, from_location, from_va
 use Rattle.pfc_translation.specs.Sites.{Site}
 use Rattle.pfc_translation.specs.Codes.{◌⨾◌, one}
 use Rattle.pfc_translation.specs.Addresses.{element_in, type_behind, index_instr}
-use Rattle.pfc_translation.specs.Expressions.{relation_instr, add_instr, multiply_instr, sign_code, expr_code, simple_code, summands_code, multipliers_code, args_code, selectors_code, indices_code}
+use Rattle.pfc_translation.specs.Expressions.{relation_instr, add_instr, multiply_instr, sign_code, expr_code, simple_code, summands_code, multipliers_code}
+use Rattle.pfc_translation.specs.Expressions.{args_code, selectors_code, indices_code}
 use Rattle.pfc_translation.specs.Statements.{label_count, stmt_code, stmts_code, arms_code}
 use Rattle.pfc_code_laws.proofs.Expressions.{plain_simple}
 use Rattle.pfc_standing_code.specs.Sizes.{IsSized}
@@ -44,7 +49,8 @@ use Rattle.pfc_standing_code.proofs.Sizes.{sized_plain}
 use Rattle.pfc_following_expressions.proofs.Glue.{front, back, head, lone, tail, stands_over}
 use Rattle.pfc_following_expressions.proofs.Held.{held_grown, sign_changes, simple_changes}
 use Rattle.pfc_following_expressions.proofs.Moves.{fits, next_move, add_move, multiply_move, relation_move, test_move, follows_moved}
-use Rattle.pfc_following_expressions.proofs.Expressions.{env_in, value_moved, element_follows, finish_follows, sign_follows, add_held, multiply_held, index_held, simple_follows, summands_follow, multipliers_follow, selectors_follow, indices_follow}
+use Rattle.pfc_following_expressions.proofs.Expressions.{env_in, value_moved, element_follows, finish_follows, sign_follows, add_held, multiply_held}
+use Rattle.pfc_following_expressions.proofs.Expressions.{index_held, simple_follows, summands_follow, multipliers_follow, selectors_follow, indices_follow}
 use Rattle.pfc_following_expressions.proofs.Anywhere.{arguments_follow}
 use Rattle.pfc_following_statements.proofs.Items.{shows, pad_follows, width_follows}
 use Rattle.pfc_following_selects.proofs.Counts.{shaped_is_of, words_count}

@@ -1,11 +1,13 @@
 -- The code of an expression, of a variable and of arguments follows the next action of its source text.
 --
 -- The names in view are given with the program's own types and blocks.
-use Rattle.std.proofs.Common.{◌≡◌, ℕ, suc, ◌+◌, ◌≤◌, ℤ, pos, ◌+ℤ◌, ◌-ℤ◌, nat_abs, Bool, true, false, if◌then◌else◌, List, [], ◌∷◌, ◌++◌, length, option_map, Option, Some, None, Ok, Err, refl, sym, ap, ◌∙◌, subst, arith, append_assoc, append-nil}
+use Rattle.std.proofs.Common.{◌≡◌, ℕ, suc, ◌+◌, ◌≤◌, ℤ, pos, ◌+ℤ◌, ◌-ℤ◌, nat_abs, Bool, true, false, if◌then◌else◌, List, [], ◌∷◌, ◌++◌, length, option_map}
+use Rattle.std.proofs.Common.{Option, Some, None, Ok, Err, refl, sym, ap, ◌∙◌, subst, arith, append_assoc, append-nil}
 use Rattle.pfc_base.specs.declared.places.Place.{Place}
 use Rattle.pfc_base.specs.declared.faults.RunFault.TheVariants.{Index}
 use Rattle.pfc_code.specs.declared.instructions.Instr.{Instr}
-use Rattle.pfc_code.specs.declared.instructions.Instr.TheVariants.{LIT, ADDR, REF, IDX, FLD, LOAD, OBJ, NEG, ABS, SQR, ODD, CHR, SUCC, PRED, NOT, EMPTY, CLOCK, RAND, EOF, EOLN}
+use Rattle.pfc_code.specs.declared.instructions.Instr.TheVariants.{LIT, ADDR, REF, IDX, FLD, LOAD, OBJ, NEG, ABS, SQR, ODD, CHR, SUCC, PRED, NOT, EMPTY, CLOCK}
+use Rattle.pfc_code.specs.declared.instructions.Instr.TheVariants.{RAND, EOF, EOLN}
 use Rattle.pfc_tree.specs.Symbols.{Text}
 use Rattle.pfc_tree.specs.declared.tree.Sign.{Sign}
 use Rattle.pfc_tree.specs.declared.tree.Sign.TheVariants.{Plus, Minus}
@@ -13,7 +15,10 @@ use Rattle.pfc_tree.specs.declared.tree.AddOp.{AddOp}
 use Rattle.pfc_tree.specs.declared.tree.AddOp.TheVariants.{Add, Sub, Or}
 use Rattle.pfc_tree.specs.declared.tree.MulOp.{MulOp}
 use Rattle.pfc_tree.specs.declared.tree.MulOp.TheVariants.{Mul, Div, Mod, And}
-use Rattle.pfc_tree.specs.trees.Exprs.{ExprTree, SimpleTree, SummandTrees, TermTree, MultiplierTrees, FactorTree, SelectorTrees, ExprTrees, ActualTree, ActualTrees, plain, related, sum, no_summands, more_summands, product, no_multipliers, more_multipliers, number, literal, negation, paren, applied as used, desig, index, field, no_selectors, more_selectors, no_exprs, more_exprs, actual, actual_width, no_actuals, more_actuals}
+use Rattle.pfc_tree.specs.trees.Exprs.{ExprTree, SimpleTree, SummandTrees, TermTree, MultiplierTrees, FactorTree, SelectorTrees, ExprTrees, ActualTree}
+use Rattle.pfc_tree.specs.trees.Exprs.{ActualTrees, plain, related, sum, no_summands, more_summands, product, no_multipliers, more_multipliers, number, literal}
+use Rattle.pfc_tree.specs.trees.Exprs.{negation, paren, applied as used, desig, index, field, no_selectors, more_selectors, no_exprs, more_exprs, actual}
+use Rattle.pfc_tree.specs.trees.Exprs.{actual_width, no_actuals, more_actuals}
 use Rattle.pfc_types.specs.Types.{Forms, condition, array_form, is_simple, field_form, cells_in}
 use Rattle.pfc_types.specs.Scopes.{Level, meaning_of}
 use Rattle.pfc_types.specs.Blocks.{sub_at}
@@ -35,15 +40,23 @@ use Rattle.pfc_semantics.specs.Displays.{Spot, TypedSpot, within}
 use Rattle.pfc_semantics.specs.Operators.{simple_of, signed, added, multiplied, compared}
 use Rattle.pfc_semantics.specs.Predeclared.{Function, abs, sqr, odd, ord, chr, succ, pred, eof, eoln, empty, clock, random, no_function, function_of}
 use Rattle.pfc_semantics.specs.Programs.{Block}
-use Rattle.pfc_semantics.specs.Remainders.{Context, Argument, by_value, by_reference, AwaitsValue, AwaitsLocation, Call, Action, begin_sum, add_to, begin_product, multiply_by, compare_with, compare_to, invert, apply, index_into, pass_value, read_for, pass_variable, ask_empty, to_function, reads, asks_empty}
-use Rattle.pfc_semantics.specs.Expressions.{with_number, char_in, spot_of, place_among, field_place, form_in, field_spot, element_in as element_within, element_spot, with_element, finish_call, from_function, from_name, from_expr, from_simple, from_summands, from_term, from_multipliers, from_factor, from_argument, from_reference, from_actual, from_lent, from_variable, from_args, from_selectors, from_indices}
+use Rattle.pfc_semantics.specs.Remainders.{Context, Argument, by_value, by_reference, AwaitsValue, AwaitsLocation, Call, Action, begin_sum, add_to}
+use Rattle.pfc_semantics.specs.Remainders.{begin_product, multiply_by, compare_with, compare_to, invert, apply, index_into, pass_value, read_for, pass_variable}
+use Rattle.pfc_semantics.specs.Remainders.{ask_empty, to_function, reads, asks_empty}
+use Rattle.pfc_semantics.specs.Expressions.{with_number, char_in, spot_of, place_among, field_place, form_in, field_spot, element_in as element_within}
+use Rattle.pfc_semantics.specs.Expressions.{element_spot, with_element, finish_call, from_function, from_name, from_expr, from_simple, from_summands, from_term}
+use Rattle.pfc_semantics.specs.Expressions.{from_multipliers, from_factor, from_argument, from_reference, from_actual, from_lent, from_variable, from_args}
+use Rattle.pfc_semantics.specs.Expressions.{from_selectors, from_indices}
 use Rattle.pfc_translation.specs.Sites.{Site, type_cells, links_to, cell_of, refers}
 use Rattle.pfc_translation.specs.Codes.{Code, nothing, ◌⨾◌, one}
 use Rattle.pfc_translation.specs.Addresses.{base_code, element_in, type_behind, index_instr, fields_before, field_cell}
-use Rattle.pfc_translation.specs.Expressions.{relation_instr, add_instr, multiply_instr, sign_code, simple_number, function_code, call_instr, name_code, expr_code, simple_code, summands_code, term_code, multipliers_code, factor_code, first_value, first_address, actual_code, lent_code, variable_code, args_code, selectors_code, indices_code}
+use Rattle.pfc_translation.specs.Expressions.{relation_instr, add_instr, multiply_instr, sign_code, simple_number, function_code, call_instr, name_code}
+use Rattle.pfc_translation.specs.Expressions.{expr_code, simple_code, summands_code, term_code, multipliers_code, factor_code, first_value, first_address}
+use Rattle.pfc_translation.specs.Expressions.{actual_code, lent_code, variable_code, args_code, selectors_code, indices_code}
 use Rattle.pfc_translation.specs.Calls.{formals_cells}
 use Rattle.pfc_translation.specs.Operands.{takes, leaves}
-use Rattle.pfc_code_laws.proofs.Expressions.{plain_expr, plain_simple, plain_term, plain_factor, plain_first, plain_first_address, plain_actual, plain_lent, plain_args, plain_selectors, plain_indices}
+use Rattle.pfc_code_laws.proofs.Expressions.{plain_expr, plain_simple, plain_term, plain_factor, plain_first, plain_first_address, plain_actual, plain_lent}
+use Rattle.pfc_code_laws.proofs.Expressions.{plain_args, plain_selectors, plain_indices}
 use Rattle.pfc_standing_code.specs.Sizes.{IsSized}
 use Rattle.pfc_cells.specs.Shapes.{IsPath, here}
 use Rattle.pfc_standing_code.specs.Shapes.{Shape, a_number, a_whole, shape_of, shape_cells, is_number, is_object_type}
@@ -51,14 +64,18 @@ use Rattle.pfc_standing_code.specs.Settings.{Setting, of_own, site_of, IsAt, Sta
 use Rattle.pfc_standing_code.specs.Effects.{Arm, of_own_effect, numbered, CanPerform}
 use Rattle.pfc_standing_code.specs.ValueTypes.{IsValueType}
 use Rattle.pfc_standing_code.proofs.ValueTypes.{awaited_value}
-use Rattle.pfc_standing_code.specs.Typed.{unlined, IsDeclared, IsArray, IsField, InExpressions, IsSub, Either, IsPassed, IsFunction, IsUse, HasShape, HasShapeSimple, AreSummands, HasShapeTerm, AreMultipliers, HasShapeFactor, IsGivenFirst, IsLentFirst, IsGiven, IsLent, IsVariable, AreArguments, AreSelectors, AreIndices}
+use Rattle.pfc_standing_code.specs.Typed.{unlined, IsDeclared, IsArray, IsField, InExpressions, IsSub, Either, IsPassed, IsFunction, IsUse, HasShape}
+use Rattle.pfc_standing_code.specs.Typed.{HasShapeSimple, AreSummands, HasShapeTerm, AreMultipliers, HasShapeFactor, IsGivenFirst, IsLentFirst, IsGiven, IsLent}
+use Rattle.pfc_standing_code.specs.Typed.{IsVariable, AreArguments, AreSelectors, AreIndices}
 use Rattle.pfc_standing_code.specs.Words.{first_word, IsWord, IsPart, IsObject, IsChecked, AreHeld, none_held, one_more}
 use Rattle.pfc_standing_code.specs.Awaits.{has_argument, is_asked, finishing, TakesValue, TakesLocation, CallsAt}
 use Rattle.pfc_standing_code.specs.Following.{Follows, arrives}
 use Rattle.pfc_standing_code.proofs.Trials.{sub_own, asked_own}
 use Rattle.pfc_standing_code.proofs.Sizes.{sized_plain, sized_base, sized_both}
 use Rattle.pfc_following_expressions.proofs.Glue.{held_behind, held_after, room_for, room_after, front, back, head, lone, tail, stands_moved, stands_over}
-use Rattle.pfc_following_expressions.proofs.Held.{held_grown, changes_one, shaped_cells, sign_changes, base_changes, expr_changes, simple_changes, term_changes, factor_changes, first_changes, first_address_changes, given_changes, lent_changes, args_change, indices_change, part_changes}
+use Rattle.pfc_following_expressions.proofs.Held.{held_grown, changes_one, shaped_cells, sign_changes, base_changes, expr_changes, simple_changes, term_changes}
+use Rattle.pfc_following_expressions.proofs.Held.{factor_changes, first_changes, first_address_changes, given_changes, lent_changes, args_change}
+use Rattle.pfc_following_expressions.proofs.Held.{indices_change, part_changes}
 use Rattle.pfc_following_expressions.proofs.Moves.{fits, next_move, fault_at, outcome_move, add_move, multiply_move, relation_move, follows_moved}
 use Rattle.pfc_following_expressions.proofs.Places.{word_is_address, element_kept, field_kept}
 

@@ -1,5 +1,6 @@
 -- The alternatives of a select are gone through, up to its decision.
-use Rattle.std.proofs.Common.{◌≡◌, ℕ, suc, ◌+◌, ◌<◌, ◌≤◌, ℤ, pos, Bool, if◌then◌else◌, List, [], ◌∷◌, length, drop, Option, Some, None, refl, sym, ap, ◌∙◌, subst, arith}
+use Rattle.std.proofs.Common.{◌≡◌, ℕ, suc, ◌+◌, ◌<◌, ◌≤◌, ℤ, pos, Bool, if◌then◌else◌, List, [], ◌∷◌, length, drop, Option, Some, None, refl, sym, ap, ◌∙◌}
+use Rattle.std.proofs.Common.{subst, arith}
 use Rattle.pfc_code.specs.declared.instructions.Instr.TheVariants.{LIT, STORE, JF, ARMS, ARMR, ARMA, ARMT, ARMX}
 use Rattle.pfc_tree.specs.trees.Exprs.{ExprTree}
 use Rattle.pfc_tree.specs.trees.Stmts.{StmtTrees, CommTree, accept, accept_do, comm_accept, comm_send, comm_receive, timeout, terminate}
@@ -10,13 +11,16 @@ use Rattle.pfc_types.specs.declared.view.Around.{Around}
 use Rattle.pfc_semantics.specs.Values.{ordinal}
 use Rattle.pfc_semantics.specs.Displays.{TypedSpot}
 use Rattle.pfc_semantics.specs.Programs.{Block}
-use Rattle.pfc_semantics.specs.Remainders.{Context, Replica, Accepting, Alternative, Selecting, Remainder, to_accept, to_end, offer_to, offer_from, offer_wait, open_if, go_through}
-use Rattle.pfc_semantics.specs.Alternatives.{message_of, receiver_of, accepting_of, with_open, from_seconds, from_message, from_receiver, from_comm, from_opened, from_guard, from_replica, from_alternatives}
+use Rattle.pfc_semantics.specs.Remainders.{Context, Replica, Accepting, Alternative, Selecting, Remainder, to_accept, to_end, offer_to, offer_from, offer_wait}
+use Rattle.pfc_semantics.specs.Remainders.{open_if, go_through}
+use Rattle.pfc_semantics.specs.Alternatives.{message_of, receiver_of, accepting_of, with_open, from_seconds, from_message, from_receiver, from_comm}
+use Rattle.pfc_semantics.specs.Alternatives.{from_opened, from_guard, from_replica, from_alternatives}
 use Rattle.pfc_translation.specs.Sites.{Site}
 use Rattle.pfc_translation.specs.Codes.{Code, ◌⨾◌, one, over}
 use Rattle.pfc_translation.specs.Addresses.{base_code}
 use Rattle.pfc_translation.specs.Expressions.{expr_code, desig_code}
-use Rattle.pfc_translation.specs.Selects.{message_code, message_cells, receiver_code, receiver_cells, accept_cell, accept_cells, entry_of, replica_code, comm_code, guarded_code, alternative_code, alternatives_code, first_of}
+use Rattle.pfc_translation.specs.Selects.{message_code, message_cells, receiver_code, receiver_cells, accept_cell, accept_cells, entry_of, replica_code}
+use Rattle.pfc_translation.specs.Selects.{comm_code, guarded_code, alternative_code, alternatives_code, first_of}
 use Rattle.pfc_standing_code.specs.Shapes.{a_number, a_whole, shape_of, shape_cells, is_number}
 use Rattle.pfc_standing_code.specs.Settings.{Setting, of_own, site_of, IsAt, Stands, arrived}
 use Rattle.pfc_standing_code.specs.Effects.{Arm}

@@ -1,5 +1,6 @@
 -- An alternative that is found open becomes one of the machine's, and on go those behind it.
-use Rattle.std.proofs.Common.{◌≡◌, ℕ, zero, suc, ◌+◌, ◌<◌, ◌≤◌, ℤ, pos, Bool, true, false, if◌then◌else◌, List, [], ◌∷◌, ◌++◌, length, take, drop, reverse, Option, Some, None, refl, sym, ap, ◌∙◌, subst, arith}
+use Rattle.std.proofs.Common.{◌≡◌, ℕ, zero, suc, ◌+◌, ◌<◌, ◌≤◌, ℤ, pos, Bool, true, false, if◌then◌else◌, List, [], ◌∷◌, ◌++◌, length, take, drop, reverse}
+use Rattle.std.proofs.Common.{Option, Some, None, refl, sym, ap, ◌∙◌, subst, arith}
 use Rattle.std.specs.Prelude.{int_lt}
 use Rattle.std.proofs.lemmas.Bool.Decides.{nat_tests}
 use Rattle.std.proofs.lemmas.List.{length-append}
@@ -16,7 +17,8 @@ use Rattle.pfc_types.specs.declared.view.Around.{Around}
 use Rattle.pfc_semantics.specs.Values.{Value, ordinal}
 use Rattle.pfc_semantics.specs.Displays.{Spot}
 use Rattle.pfc_semantics.specs.Programs.{Block}
-use Rattle.pfc_semantics.specs.Remainders.{Context, Offer, Open, Alternative, Selecting, Remainder, to_send, to_receive, to_wait, offer_value, offer_into, faults}
+use Rattle.pfc_semantics.specs.Remainders.{Context, Offer, Open, Alternative, Selecting, Remainder, to_send, to_receive, to_wait, offer_value, offer_into}
+use Rattle.pfc_semantics.specs.Remainders.{faults}
 use Rattle.pfc_semantics.specs.Alternatives.{with_open, a_signal, from_seconds, from_message, from_receiver, from_alternatives}
 use Rattle.pfc_translation.specs.Sites.{Site}
 use Rattle.pfc_translation.specs.Codes.{Code, nothing, ◌⨾◌, over}
@@ -30,7 +32,8 @@ use Rattle.pfc_standing_code.specs.Settings.{Setting, of_own, site_of, IsAt}
 use Rattle.pfc_standing_code.specs.Effects.{Arm, onward, refuses, arming, effect_of, CanPerform}
 use Rattle.pfc_standing_code.specs.TypedStatements.{IsChannel, IsCarried, IsMessage, IsReceiver}
 use Rattle.pfc_standing_code.specs.Words.{IsWord, IsObject, IsChecked}
-use Rattle.pfc_standing_code.specs.Performs.{BranchAt, CommBranchAt, AlternativesAt, SelectAt, CommAt, IsOpen, AreOpen, of_message, of_signal, into_variable, into_nothing}
+use Rattle.pfc_standing_code.specs.Performs.{BranchAt, CommBranchAt, AlternativesAt, SelectAt, CommAt, IsOpen, AreOpen, of_message, of_signal, into_variable}
+use Rattle.pfc_standing_code.specs.Performs.{into_nothing}
 use Rattle.pfc_standing_code.specs.Awaits.{ArmAt, HasMessage}
 use Rattle.pfc_standing_code.specs.Following.{Follows, moves}
 use Rattle.pfc_standing_code.proofs.Sizes.{sized_expr, sized_desig}

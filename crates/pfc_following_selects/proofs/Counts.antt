@@ -1,5 +1,6 @@
 -- A value has as many words as its type has cells.
-use Rattle.std.proofs.Common.{◌≡◌, ℕ, suc, ◌+◌, ◌*◌, ℤ, Bool, true, false, if◌then◌else◌, List, [], ◌∷◌, ◌++◌, length, take, drop, reverse, refl, sym, ap, ◌∙◌, subst, arith}
+use Rattle.std.proofs.Common.{◌≡◌, ℕ, suc, ◌+◌, ◌*◌, ℤ, Bool, true, false, if◌then◌else◌, List, [], ◌∷◌, ◌++◌, length, take, drop, reverse, refl, sym, ap, ◌∙◌}
+use Rattle.std.proofs.Common.{subst, arith}
 use Rattle.std.proofs.lemmas.List.{length-append, length-reverse}
 use Rattle.std.proofs.lemmas.List.Sums.{sum_by-cons}
 use Rattle.std.proofs.Math.Seq.{take-append-add, drop-append-add}
@@ -10,7 +11,8 @@ use Rattle.pfc_types.specs.declared.types.TypeId.{TypeId}
 use Rattle.pfc_semantics.specs.Values.{Value, Values}
 use Rattle.pfc_translation.specs.Addresses.{fields_before}
 use Rattle.pfc_cells.specs.Shapes.{words_of, words_in}
-use Rattle.pfc_standing_code.specs.Shapes.{Shape, a_number, a_whole, shape_of, shape_cells, IsSound, IsOf, is_number, is_array, is_record, AreOf, none_of, one_of, AreFieldsOf, no_field, one_field, IsShaped}
+use Rattle.pfc_standing_code.specs.Shapes.{Shape, a_number, a_whole, shape_of, shape_cells, IsSound, IsOf, is_number, is_array, is_record, AreOf, none_of}
+use Rattle.pfc_standing_code.specs.Shapes.{one_of, AreFieldsOf, no_field, one_field, IsShaped}
 use Rattle.pfc_following_expressions.proofs.Held.{shaped_cells}
 
 module _ (forms : Forms) (sound : IsSound forms) where

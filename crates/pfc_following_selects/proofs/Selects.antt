@@ -1,11 +1,13 @@
 -- The code of a whole select stands as its alternatives, its decision and its branches.
-use Rattle.std.proofs.Common.{◌≡◌, ℕ, zero, suc, ◌+◌, ◌≤◌, ℤ, pos, ◌+ℤ◌, Bool, true, false, if◌then◌else◌, List, [], ◌∷◌, ◌++◌, map, length, Option, Some, None, refl, sym, ap, ◌∙◌, subst, arith}
+use Rattle.std.proofs.Common.{◌≡◌, ℕ, zero, suc, ◌+◌, ◌≤◌, ℤ, pos, ◌+ℤ◌, Bool, true, false, if◌then◌else◌, List, [], ◌∷◌, ◌++◌, map, length, Option, Some, None}
+use Rattle.std.proofs.Common.{refl, sym, ap, ◌∙◌, subst, arith}
 use Rattle.std.specs.Prelude.{int_le}
 use Rattle.pfc_base.specs.declared.places.Place.{Place}
 use Rattle.pfc_code.specs.declared.instructions.Instr.TheVariants.{JMP, EACC, SEL}
 use Rattle.pfc_tree.specs.declared.tree.Spread.{Spread}
 use Rattle.pfc_tree.specs.trees.Exprs.{ExprTree}
-use Rattle.pfc_tree.specs.trees.Stmts.{StmtTrees, AltTree, AltTrees, CommTree, accept, accept_do, alt, no_alts, more_alts, comm_accept, comm_send, comm_receive, timeout, terminate}
+use Rattle.pfc_tree.specs.trees.Stmts.{StmtTrees, AltTree, AltTrees, CommTree, accept, accept_do, alt, no_alts, more_alts, comm_accept, comm_send, comm_receive}
+use Rattle.pfc_tree.specs.trees.Stmts.{timeout, terminate}
 use Rattle.pfc_types.specs.Types.{extent}
 use Rattle.pfc_types.specs.Scopes.{Level}
 use Rattle.pfc_types.specs.rules.Constants.{Ordinal, constant_value}
@@ -16,23 +18,27 @@ use Rattle.pfc_semantics.specs.Displays.{Spot}
 use Rattle.pfc_semantics.specs.Programs.{Block}
 use Rattle.pfc_semantics.specs.Remainders.{Context, Replica, Accepting, Alternative, Otherwise, Selecting, Remainder}
 use Rattle.pfc_semantics.specs.Expressions.{spot_of}
-use Rattle.pfc_semantics.specs.Alternatives.{replicas_from, replicas_between, replicas_by, replicas, alternative, spread_out, alternatives, accepting_of, from_alternatives, select_begun}
+use Rattle.pfc_semantics.specs.Alternatives.{replicas_from, replicas_between, replicas_by, replicas, alternative, spread_out, alternatives, accepting_of}
+use Rattle.pfc_semantics.specs.Alternatives.{from_alternatives, select_begun}
 use Rattle.pfc_translation.specs.Sites.{Site, at_line, in_accept, context_of, blocks_of}
 use Rattle.pfc_translation.specs.Codes.{Code, nothing, ◌⨾◌, one, over, with_arms}
 use Rattle.pfc_translation.specs.Selects.{replica_code, alternatives_code}
-use Rattle.pfc_translation.specs.Statements.{spread_of, spread_replicas, chosen_code, replica_branches, branches_from, sel_code, select_code, stmt_code, stmts_code, met_code, branch_code, branches_code, distances}
+use Rattle.pfc_translation.specs.Statements.{spread_of, spread_replicas, chosen_code, replica_branches, branches_from, sel_code, select_code, stmt_code}
+use Rattle.pfc_translation.specs.Statements.{stmts_code, met_code, branch_code, branches_code, distances}
 use Rattle.pfc_standing_code.specs.Sizes.{IsSized}
 use Rattle.pfc_standing_code.specs.Settings.{Setting, of_own, site_of, IsAt, Stands, arrived, jump}
 use Rattle.pfc_standing_code.specs.TypedStatements.{IsSimpleVariable, IsReplica, IsSpread, AcceptsEntry, AreTyped, IsMetTyped, IsAltTyped, AreAltsTyped}
 use Rattle.pfc_standing_code.specs.Words.{IsChecked}
 use Rattle.pfc_standing_code.specs.Performs.{MetAt, BranchAt, accepted_in, CommBranchAt, BranchesAt, DecidesAt, SelectAt, StmtThen, StmtsThen}
 use Rattle.pfc_standing_code.specs.Following.{Follows}
-use Rattle.pfc_standing_code.proofs.Sizes.{sized_then, sized_nothing, sized_replica, sized_chosen, sized_alternatives, sized_stmt, sized_stmts, sized_met, sized_branch, sized_branches}
+use Rattle.pfc_standing_code.proofs.Sizes.{sized_then, sized_nothing, sized_replica, sized_chosen, sized_alternatives, sized_stmt, sized_stmts, sized_met}
+use Rattle.pfc_standing_code.proofs.Sizes.{sized_branch, sized_branches}
 use Rattle.pfc_following_expressions.proofs.Glue.{Changes, changes_both, front, back, head, lone, tail, stands_moved}
 use Rattle.pfc_following_expressions.proofs.Held.{held_grown, changes_one, changes_nothing}
 use Rattle.pfc_following_expressions.proofs.Expressions.{env_in}
 use Rattle.pfc_following_statements.proofs.HeldCalls.{replica_changes, alternatives_change}
-use Rattle.pfc_following_statements.proofs.HeldStatements.{alternatives_fit, chosen_changes, met_change, stmt_changes, stmts_change, branch_changes, branches_change}
+use Rattle.pfc_following_statements.proofs.HeldStatements.{alternatives_fit, chosen_changes, met_change, stmt_changes, stmts_change, branch_changes}
+use Rattle.pfc_following_statements.proofs.HeldStatements.{branches_change}
 use Rattle.pfc_following_selects.specs.Phrases.{Behind}
 use Rattle.pfc_following_selects.proofs.Jumps.{performs_jumped, performs_at}
 use Rattle.pfc_following_selects.proofs.Alternatives.{all_follow}

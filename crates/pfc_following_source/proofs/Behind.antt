@@ -1,5 +1,6 @@
 -- Behind the instruction of an action code stands for what is left.
-use Rattle.std.proofs.Common.{◌≡◌, ℕ, zero, suc, ◌+◌, ◌<◌, ◌≤◌, ℤ, Bool, true, false, if◌then◌else◌, List, [], ◌∷◌, ◌++◌, length, drop, reverse, Option, Some, None, refl, sym, ap, ◌∙◌, subst, arith, append_assoc}
+use Rattle.std.proofs.Common.{◌≡◌, ℕ, zero, suc, ◌+◌, ◌<◌, ◌≤◌, ℤ, Bool, true, false, if◌then◌else◌, List, [], ◌∷◌, ◌++◌, length, drop, reverse, Option, Some}
+use Rattle.std.proofs.Common.{None, refl, sym, ap, ◌∙◌, subst, arith, append_assoc}
 use Rattle.std.specs.Prelude.{set}
 use Rattle.std.proofs.lemmas.List.{length-append, length-reverse}
 use Rattle.std.proofs.lemmas.List.Sums.{sum_by-cons, sum_by-append}
@@ -7,7 +8,8 @@ use Rattle.std.proofs.lemmas.Option.{same_Some}
 use Rattle.std.proofs.lemmas.Bool.Decides.{nat_tests}
 use Rattle.std.proofs.Math.Seq.{drop-append_seam}
 use Rattle.pfc_code.specs.declared.instructions.Instr.{Instr}
-use Rattle.pfc_code.specs.declared.instructions.Instr.TheVariants.{LOAD, STORE, TURN, FORW, FORT, GRD, COEND, SINI, SWAIT, SSIG, EACC, ARMS, ARMR, ARMT, SEL, DELAY, RESUME, EMPTY, SLEEP, CLOCK, RAND, WRS, WRNL, RDNL, EOF, EOLN}
+use Rattle.pfc_code.specs.declared.instructions.Instr.TheVariants.{LOAD, STORE, TURN, FORW, FORT, GRD, COEND, SINI, SWAIT, SSIG, EACC, ARMS, ARMR, ARMT, SEL}
+use Rattle.pfc_code.specs.declared.instructions.Instr.TheVariants.{DELAY, RESUME, EMPTY, SLEEP, CLOCK, RAND, WRS, WRNL, RDNL, EOF, EOLN}
 use Rattle.pfc_code.specs.Operands.{receiving}
 use Rattle.pfc_types.specs.Types.{Forms, form_of, is_simple}
 use Rattle.pfc_types.specs.Blocks.{module_at}
@@ -23,7 +25,11 @@ use Rattle.pfc_semantics.specs.Displays.{Spot}
 use Rattle.pfc_semantics.specs.Objects.{module_number}
 use Rattle.pfc_semantics.specs.Operators.{simple_of}
 use Rattle.pfc_semantics.specs.Programs.{Block, block_number}
-use Rattle.pfc_semantics.specs.Remainders.{Context, Replica, Accepting, Offer, Open, Otherwise, Way, Scan, Argument, by_value, by_reference, Remainder, AwaitsValue, Call, Action, to_send, to_receive, to_accept, to_wait, to_end, leave, own, to_procedure, to_function, to_module, to_requeue, to_process, to_entry, reads, writes, turns, calls, finishes, prints, inputs, skips, asks_eof, asks_eoln, asks_clock, asks_empty, draws, joins, initials, waits, signals, delays, resumes, sleeps, meets, decides, parts, scans, bars, passes, faults}
+use Rattle.pfc_semantics.specs.Remainders.{Context, Replica, Accepting, Offer, Open, Otherwise, Way, Scan, Argument, by_value, by_reference, Remainder}
+use Rattle.pfc_semantics.specs.Remainders.{AwaitsValue, Call, Action, to_send, to_receive, to_accept, to_wait, to_end, leave, own, to_procedure, to_function}
+use Rattle.pfc_semantics.specs.Remainders.{to_module, to_requeue, to_process, to_entry, reads, writes, turns, calls, finishes, prints, inputs, skips, asks_eof}
+use Rattle.pfc_semantics.specs.Remainders.{asks_eoln, asks_clock, asks_empty, draws, joins, initials, waits, signals, delays, resumes, sleeps, meets, decides}
+use Rattle.pfc_semantics.specs.Remainders.{parts, scans, bars, passes, faults}
 use Rattle.pfc_semantics.specs.Statements.{behind}
 use Rattle.pfc_semantics.specs.Channels.{behind_open}
 use Rattle.pfc_semantics.specs.Rendezvous.{meeting_of}
@@ -37,9 +43,11 @@ use Rattle.pfc_standing_code.specs.Settings.{View, Setting, of_own, site_of, wit
 use Rattle.pfc_standing_code.specs.Effects.{Arm}
 use Rattle.pfc_standing_code.specs.Typed.{unlined}
 use Rattle.pfc_standing_code.specs.Words.{IsChecked, IsArgument, AreHeldAt, none_held, one_more}
-use Rattle.pfc_standing_code.specs.Performs.{BranchAt, DecidesAt, IsSent, of_message, of_signal, IsReceived, into_variable, into_nothing, IsOpen, AreOpen, WayAt, own_block, own_room, behind_scan, own_again, Tries, IsCheckedFor, Performs}
+use Rattle.pfc_standing_code.specs.Performs.{BranchAt, DecidesAt, IsSent, of_message, of_signal, IsReceived, into_variable, into_nothing, IsOpen, AreOpen}
+use Rattle.pfc_standing_code.specs.Performs.{WayAt, own_block, own_room, behind_scan, own_again, Tries, IsCheckedFor, Performs}
 use Rattle.pfc_standing_code.specs.Awaits.{PerformsAnywhere, BehindScanAt, TakesValue, CallsAt}
-use Rattle.pfc_standing_code.specs.Following.{IsPiece, number, wide_number, string, wide_string, newline, IsWrite, of_value, of_kept, IsTurn, of_loop, of_count, MeetsBy, ArrivedBy, names_of, AreChecked}
+use Rattle.pfc_standing_code.specs.Following.{IsPiece, number, wide_number, string, wide_string, newline, IsWrite, of_value, of_kept, IsTurn, of_loop, of_count}
+use Rattle.pfc_standing_code.specs.Following.{MeetsBy, ArrivedBy, names_of, AreChecked}
 use Rattle.pfc_standing_code.proofs.Checked.{checked_for, checked_with}
 use Rattle.pfc_standing_code.proofs.Parts.{words_once}
 use Rattle.pfc_kept_code.proofs.Seen.{branch_seen}
@@ -49,7 +57,8 @@ use Rattle.pfc_following_selects.specs.Phrases.{Behind}
 use Rattle.pfc_following_selects.proofs.Counts.{words_count}
 use Rattle.pfc_following_selects.proofs.Jumps.{behind_performs}
 use Rattle.pfc_following_selects.proofs.Branches.{branch_performs, meeting_performs}
-use Rattle.pfc_following_source.specs.Behind.{GoesOnAt, Over, GoesOn, GivesNumber, GivesValue, BehindWayBack, BehindCall, BehindAccept, BehindMeeting, branch_of, BehindOpen, BehindAll, BehindElse, BehindScan, BehindPass, in_trial, LeavesBehind}
+use Rattle.pfc_following_source.specs.Behind.{GoesOnAt, Over, GoesOn, GivesNumber, GivesValue, BehindWayBack, BehindCall, BehindAccept, BehindMeeting}
+use Rattle.pfc_following_source.specs.Behind.{branch_of, BehindOpen, BehindAll, BehindElse, BehindScan, BehindPass, in_trial, LeavesBehind}
 
 -- a value of a simple type is a number
 module _ (forms : Forms) (sound : IsSound forms) where

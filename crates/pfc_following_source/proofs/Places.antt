@@ -3,7 +3,10 @@ use Rattle.std.proofs.Common.{ℕ, ◌<◌, ℤ, Bool, List, length, Option, Som
 use Rattle.std.proofs.lemmas.Option.{slice_get_within}
 use Rattle.pfc_code.specs.declared.instructions.Instr.{Instr}
 use Rattle.pfc_semantics.specs.Programs.{Block}
-use Rattle.pfc_semantics.specs.Remainders.{Context, Offer, Open, Otherwise, Remainder, Call, Action, to_send, to_receive, to_accept, to_wait, to_end, to_procedure, to_function, to_module, to_requeue, to_process, to_entry, reads, writes, turns, calls, finishes, prints, inputs, skips, asks_eof, asks_eoln, asks_clock, asks_empty, draws, joins, initials, waits, signals, delays, resumes, sleeps, meets, decides, parts, scans, bars, passes, faults}
+use Rattle.pfc_semantics.specs.Remainders.{Context, Offer, Open, Otherwise, Remainder, Call, Action, to_send, to_receive, to_accept, to_wait, to_end}
+use Rattle.pfc_semantics.specs.Remainders.{to_procedure, to_function, to_module, to_requeue, to_process, to_entry, reads, writes, turns, calls, finishes}
+use Rattle.pfc_semantics.specs.Remainders.{prints, inputs, skips, asks_eof, asks_eoln, asks_clock, asks_empty, draws, joins, initials, waits, signals, delays}
+use Rattle.pfc_semantics.specs.Remainders.{resumes, sleeps, meets, decides, parts, scans, bars, passes, faults}
 use Rattle.pfc_semantics.specs.Values.{Value}
 use Rattle.pfc_semantics.specs.Displays.{Spot}
 use Rattle.pfc_base.specs.declared.faults.RunFault.{RunFault}
@@ -13,7 +16,8 @@ use Rattle.pfc_standing_code.specs.Settings.{Setting, IsAt}
 use Rattle.pfc_standing_code.specs.Effects.{Arm}
 use Rattle.pfc_standing_code.specs.Performs.{DecidesAt}
 use Rattle.pfc_standing_code.specs.Awaits.{CallsAt}
-use Rattle.pfc_standing_code.specs.Following.{IsPiece, number, wide_number, string, wide_string, newline, IsFault, of_operands, of_number_width, of_string_width, IsWrite, of_value, of_kept, IsTurn, of_loop, of_count, MeetsBy, Arrived}
+use Rattle.pfc_standing_code.specs.Following.{IsPiece, number, wide_number, string, wide_string, newline, IsFault, of_operands, of_number_width}
+use Rattle.pfc_standing_code.specs.Following.{of_string_width, IsWrite, of_value, of_kept, IsTurn, of_loop, of_count, MeetsBy, Arrived}
 
 abbrev There : Setting → ℕ → Type 0
 There g at = at < length g.code

@@ -13,7 +13,11 @@ use Rattle.pfc_stacks.specs.Effects.{value_behind}
 use Rattle.pfc_semantics.specs.Values.{Value, ordinal}
 use Rattle.pfc_semantics.specs.Displays.{Spot}
 use Rattle.pfc_semantics.specs.Programs.{Block}
-use Rattle.pfc_semantics.specs.Remainders.{Context, Accepting, Offer, Open, Otherwise, Way, Scan, Tried, Remainder, AwaitsValue, Call, Action, to_send, to_receive, to_accept, to_wait, to_end, leave, own, try_guard, try_other, to_procedure, to_function, to_module, to_requeue, to_process, to_entry, reads, writes, turns, calls, finishes, prints, inputs, skips, asks_eof, asks_eoln, asks_clock, asks_empty, draws, joins, initials, waits, signals, delays, resumes, sleeps, meets, decides, parts, scans, bars, passes, faults}
+use Rattle.pfc_semantics.specs.Remainders.{Context, Accepting, Offer, Open, Otherwise, Way, Scan, Tried, Remainder, AwaitsValue, Call, Action, to_send}
+use Rattle.pfc_semantics.specs.Remainders.{to_receive, to_accept, to_wait, to_end, leave, own, try_guard, try_other, to_procedure, to_function, to_module}
+use Rattle.pfc_semantics.specs.Remainders.{to_requeue, to_process, to_entry, reads, writes, turns, calls, finishes, prints, inputs, skips, asks_eof, asks_eoln}
+use Rattle.pfc_semantics.specs.Remainders.{asks_clock, asks_empty, draws, joins, initials, waits, signals, delays, resumes, sleeps, meets, decides, parts}
+use Rattle.pfc_semantics.specs.Remainders.{scans, bars, passes, faults}
 use Rattle.pfc_semantics.specs.Statements.{behind}
 use Rattle.pfc_semantics.specs.Channels.{behind_open}
 use Rattle.pfc_semantics.specs.Rendezvous.{meeting_of}

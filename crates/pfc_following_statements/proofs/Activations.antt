@@ -4,7 +4,8 @@ use Rattle.pfc_base.specs.declared.places.Place.{Place}
 use Rattle.pfc_code.specs.declared.instructions.Instr.{Instr}
 use Rattle.pfc_code.specs.declared.instructions.Instr.TheVariants.{OBJ, NEW, ECALL}
 use Rattle.pfc_tree.specs.Symbols.{Text}
-use Rattle.pfc_tree.specs.trees.Exprs.{DesigTree, SelectorTrees, ExprTrees, ActualTrees, desig, index, field, no_selectors, more_selectors, no_exprs, more_exprs}
+use Rattle.pfc_tree.specs.trees.Exprs.{DesigTree, SelectorTrees, ExprTrees, ActualTrees, desig, index, field, no_selectors, more_selectors, no_exprs}
+use Rattle.pfc_tree.specs.trees.Exprs.{more_exprs}
 use Rattle.pfc_types.specs.Types.{Forms, array_form, field_form}
 use Rattle.pfc_types.specs.Scopes.{Level, meaning_of, meaning_in, scope_at}
 use Rattle.pfc_types.specs.Blocks.{module_at, process_at, entry_at}
@@ -23,16 +24,19 @@ use Rattle.pfc_semantics.specs.Predeclared.{procedure_of}
 use Rattle.pfc_semantics.specs.Programs.{Block, block_number}
 use Rattle.pfc_semantics.specs.Remainders.{Context, Remainder, AwaitsLocation, Call, Action, activate_with, enter_with, to_process, to_entry}
 use Rattle.pfc_semantics.specs.Expressions.{spot_of, form_in, from_selectors, from_args}
-use Rattle.pfc_semantics.specs.Statements.{name_in_process, process_of_type, from_activation, from_entry, from_process, from_field, from_called_variable, from_called_process, from_exported, from_module, from_called, from_call}
+use Rattle.pfc_semantics.specs.Statements.{name_in_process, process_of_type, from_activation, from_entry, from_process, from_field, from_called_variable}
+use Rattle.pfc_semantics.specs.Statements.{from_called_process, from_exported, from_module, from_called, from_call}
 use Rattle.pfc_translation.specs.Sites.{Site, blocks_of}
 use Rattle.pfc_translation.specs.Codes.{Code, ◌⨾◌, one}
 use Rattle.pfc_translation.specs.Addresses.{base_code, element_in, type_behind}
 use Rattle.pfc_translation.specs.Expressions.{args_code, selectors_code}
-use Rattle.pfc_translation.specs.Calls.{formals_cells, exported_code, module_code, activation_code, entry_code, process_code, field_code, called_variable, called_process, called_code, found_code, call_code}
+use Rattle.pfc_translation.specs.Calls.{formals_cells, exported_code, module_code, activation_code, entry_code, process_code, field_code, called_variable}
+use Rattle.pfc_translation.specs.Calls.{called_process, called_code, found_code, call_code}
 use Rattle.pfc_code_laws.proofs.Expressions.{plain_selectors}
 use Rattle.pfc_standing_code.specs.Settings.{Setting, of_own, site_of, IsAt, Stands}
 use Rattle.pfc_standing_code.specs.Typed.{IsDeclared, IsField as IsPartField, AreArguments, AreSelectors, AreIndices}
-use Rattle.pfc_standing_code.specs.TypedStatements.{HasProcessForm, IsProcessType, IsActivation, IsEntryCall, IsEntry, IsProcess, IsField, IsCalledVariable, IsCalledProcess, IsExported, IsModuleCall, IsCalled, IsCall}
+use Rattle.pfc_standing_code.specs.TypedStatements.{HasProcessForm, IsProcessType, IsActivation, IsEntryCall, IsEntry, IsProcess, IsField, IsCalledVariable}
+use Rattle.pfc_standing_code.specs.TypedStatements.{IsCalledProcess, IsExported, IsModuleCall, IsCalled, IsCall}
 use Rattle.pfc_standing_code.specs.Words.{first_word, IsWord, IsObject, IsChecked, none_held}
 use Rattle.pfc_standing_code.specs.Performs.{Performs}
 use Rattle.pfc_standing_code.specs.Awaits.{ObjectThen, TakesLocation, CallsAt}

@@ -13,7 +13,8 @@ use Rattle.pfc_translation.specs.Statements.{assign_code}
 use Rattle.pfc_standing_code.specs.Settings.{Setting, site_of}
 use Rattle.pfc_following_expressions.proofs.Expressions.{env_in}
 use Rattle.pfc_following_expressions.proofs.Anywhere.{anywhere}
-use Rattle.pfc_following_statements.specs.Phrases.{AssignmentFollows, SendFollows, ReceiveFollows, WriteFollows, ReadFollows, CallFollows, ModuleCallFollows, RequeueFollows, ProcedureFollows, ActivationFollows, EntryCallFollows, EveryCallFollows}
+use Rattle.pfc_following_statements.specs.Phrases.{AssignmentFollows, SendFollows, ReceiveFollows, WriteFollows, ReadFollows, CallFollows, ModuleCallFollows}
+use Rattle.pfc_following_statements.specs.Phrases.{RequeueFollows, ProcedureFollows, ActivationFollows, EntryCallFollows, EveryCallFollows}
 use Rattle.pfc_following_statements.proofs.Simple.{assign_follows, send_follows, receive_follows}
 use Rattle.pfc_following_statements.proofs.Items.{writes_follow, reads_follow, sub_follows, exported_follows, requeue_follows}
 use Rattle.pfc_following_statements.proofs.Procedures.{procedure_follows}

@@ -1,11 +1,14 @@
 -- How many operands the code of an assignment, a call or a communication leaves: as many as before.
-use Rattle.std.proofs.Common.{◌≡◌, ℕ, zero, suc, ◌+◌, ◌<◌, pos, Bool, true, false, if◌then◌else◌, List, [], ◌∷◌, drop, Option, Some, None, refl, sym, ap, ◌∙◌, subst, arith}
+use Rattle.std.proofs.Common.{◌≡◌, ℕ, zero, suc, ◌+◌, ◌<◌, pos, Bool, true, false, if◌then◌else◌, List, [], ◌∷◌, drop, Option, Some, None, refl, sym, ap, ◌∙◌}
+use Rattle.std.proofs.Common.{subst, arith}
 use Rattle.std.proofs.lemmas.Bool.Decides.{nat_tests}
 use Rattle.pfc_base.specs.declared.places.Place.{Place}
 use Rattle.pfc_code.specs.declared.instructions.Instr.{Instr}
-use Rattle.pfc_code.specs.declared.instructions.Instr.TheVariants.{LIT, STORE, OBJ, REQ, NEW, SINI, SWAIT, SSIG, ECALL, ARMS, ARMR, ARMA, ARMT, ARMX, JF, DELAY, RESUME, SLEEP, WRI, WRB, WRC, WRNL, RDI, RDC, RDNL}
+use Rattle.pfc_code.specs.declared.instructions.Instr.TheVariants.{LIT, STORE, OBJ, REQ, NEW, SINI, SWAIT, SSIG, ECALL, ARMS, ARMR, ARMA, ARMT, ARMX, JF, DELAY}
+use Rattle.pfc_code.specs.declared.instructions.Instr.TheVariants.{RESUME, SLEEP, WRI, WRB, WRC, WRNL, RDI, RDC, RDNL}
 use Rattle.pfc_tree.specs.Symbols.{Text}
-use Rattle.pfc_tree.specs.trees.Exprs.{ExprTree, DesigTree, SelectorTrees, ActualTree, ActualTrees, desig, no_selectors, actual, actual_width, no_actuals, more_actuals}
+use Rattle.pfc_tree.specs.trees.Exprs.{ExprTree, DesigTree, SelectorTrees, ActualTree, ActualTrees, desig, no_selectors, actual, actual_width, no_actuals}
+use Rattle.pfc_tree.specs.trees.Exprs.{more_actuals}
 use Rattle.pfc_tree.specs.trees.Stmts.{CommTree, comm_accept, comm_send, comm_receive, timeout, terminate}
 use Rattle.pfc_types.specs.Types.{semaphore, condition}
 use Rattle.pfc_types.specs.Scopes.{meaning_of, meaning_in, scope_at}
@@ -32,16 +35,23 @@ use Rattle.pfc_translation.specs.Sites.{Site, context_of, forms_of, blocks_of, t
 use Rattle.pfc_translation.specs.Codes.{Code, nothing, ◌⨾◌, instruction, one, string}
 use Rattle.pfc_translation.specs.Addresses.{base_code}
 use Rattle.pfc_translation.specs.Expressions.{expr_code, args_code, address_code, desig_code, object_code, first_value, first_address, call_instr}
-use Rattle.pfc_translation.specs.Calls.{write_instr, plain_item, wide_item, item_code, writes_code, read_instr, input_code, reads_code, given_code, rank_code, first_object, procedure_code, enter_instr, exported_code, module_code, resource_of, requeue_code, activation_code, formals_cells, entry_code, process_code, field_code, called_variable, called_process, called_code, found_code, call_code}
+use Rattle.pfc_translation.specs.Calls.{write_instr, plain_item, wide_item, item_code, writes_code, read_instr, input_code, reads_code, given_code, rank_code}
+use Rattle.pfc_translation.specs.Calls.{first_object, procedure_code, enter_instr, exported_code, module_code, resource_of, requeue_code, activation_code}
+use Rattle.pfc_translation.specs.Calls.{formals_cells, entry_code, process_code, field_code, called_variable, called_process, called_code, found_code}
+use Rattle.pfc_translation.specs.Calls.{call_code}
 use Rattle.pfc_code.specs.Operands.{receiving}
 use Rattle.pfc_translation.specs.Operands.{takes, leaves, arguments}
-use Rattle.pfc_translation.specs.Selects.{message_code, message_cells, receiver_code, receiver_cells, entry_of, accept_cell, accept_cells, replica_code, comm_code, guarded_code, alternative_code, first_of, alternatives_code}
+use Rattle.pfc_translation.specs.Selects.{message_code, message_cells, receiver_code, receiver_cells, entry_of, accept_cell, accept_cells, replica_code}
+use Rattle.pfc_translation.specs.Selects.{comm_code, guarded_code, alternative_code, first_of, alternatives_code}
 use Rattle.pfc_translation.specs.Statements.{assign_code}
 use Rattle.pfc_standing_code.specs.Shapes.{a_number, shape_of, shape_cells, IsSound}
 use Rattle.pfc_standing_code.specs.Typed.{HasShape, IsLentFirst, AreArguments, AreSelectors, IsDesig}
-use Rattle.pfc_standing_code.specs.TypedStatements.{IsAssignment, IsMessage, IsReceiver, IsSend, IsReceive, IsItem, IsWritten, AreWritten, IsRead, AreRead, IsNumber, IsRank, IsProcedure, IsActivation, IsEntry, IsProcess, IsField, IsCalledVariable, IsCalledProcess, IsExported, IsModuleCall, IsCalled, IsCall, IsRequeue, IsGuard, IsComm, IsAlternative, AreAlternatives}
+use Rattle.pfc_standing_code.specs.TypedStatements.{IsAssignment, IsMessage, IsReceiver, IsSend, IsReceive, IsItem, IsWritten, AreWritten, IsRead, AreRead}
+use Rattle.pfc_standing_code.specs.TypedStatements.{IsNumber, IsRank, IsProcedure, IsActivation, IsEntry, IsProcess, IsField, IsCalledVariable, IsCalledProcess}
+use Rattle.pfc_standing_code.specs.TypedStatements.{IsExported, IsModuleCall, IsCalled, IsCall, IsRequeue, IsGuard, IsComm, IsAlternative, AreAlternatives}
 use Rattle.pfc_following_expressions.proofs.Glue.{Changes, changes_both}
-use Rattle.pfc_following_expressions.proofs.Held.{changes_one, changes_nothing, changes_as, base_changes, expr_changes, first_changes, first_address_changes, args_change, part_changes, desig_changes}
+use Rattle.pfc_following_expressions.proofs.Held.{changes_one, changes_nothing, changes_as, base_changes, expr_changes, first_changes, first_address_changes}
+use Rattle.pfc_following_expressions.proofs.Held.{args_change, part_changes, desig_changes}
 
 pub changes_instruction : (p : Program) (s : Site) (i : ℕ → ℕ → Instr) (a b : ℕ) → ((at n : ℕ) → takes p (i at n) ≡ a) → ((at n : ℕ) → leaves p (i at n) ≡ b) → Changes p (instruction s i) a b
 changes_instruction p s i a b t l at n held = let before = t at n in let after = l at n in omega (arith, before, after)

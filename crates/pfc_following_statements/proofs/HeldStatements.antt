@@ -1,13 +1,18 @@
 -- How many operands the code of a statement leaves: as many as before. And the alternatives of a select fit, one for each value of a
 -- replicated one.
-use Rattle.std.proofs.Common.{◌≡◌, ℕ, zero, suc, ◌+◌, ◌-◌, ℤ, pos, ◌+ℤ◌, Bool, true, false, if◌then◌else◌, List, [], ◌∷◌, ◌++◌, map, length, Option, Some, None, refl}
+use Rattle.std.proofs.Common.{◌≡◌, ℕ, zero, suc, ◌+◌, ◌-◌, ℤ, pos, ◌+ℤ◌, Bool, true, false, if◌then◌else◌, List, [], ◌∷◌, ◌++◌, map, length, Option, Some, None}
+use Rattle.std.proofs.Common.{refl}
 use Rattle.std.specs.Prelude.{int_le}
 use Rattle.pfc_code.specs.declared.instructions.Instr.{Instr}
-use Rattle.pfc_code.specs.declared.instructions.Instr.TheVariants.{LIT, STORE, NOT, JMP, JF, TURN, FORB, FORW, FORT, CEQ, CERR, SEND, RECV, COEND, ACC, EACC, SEL}
+use Rattle.pfc_code.specs.declared.instructions.Instr.TheVariants.{LIT, STORE, NOT, JMP, JF, TURN, FORB, FORW, FORT, CEQ, CERR, SEND, RECV, COEND, ACC, EACC}
+use Rattle.pfc_code.specs.declared.instructions.Instr.TheVariants.{SEL}
 use Rattle.pfc_tree.specs.declared.tree.Constant.{Constant}
 use Rattle.pfc_tree.specs.declared.tree.Spread.{Spread}
 use Rattle.pfc_tree.specs.trees.Exprs.{ExprTree}
-use Rattle.pfc_tree.specs.trees.Stmts.{StmtTree, StmtTrees, ArmTrees, AcceptTree, AltTree, AltTrees, CommTree, empty, null, block, if_then, if_then_else, case_of, while_do, repeat_until, repeat_forever, for_do, cobegin, accepting, requeue, select, select_else, assign, send, receive, call, no_stmts, more_stmts, body, arm, no_arms, more_arms, accept, accept_do, alt, no_alts, more_alts, comm_accept, comm_send, comm_receive, timeout, terminate}
+use Rattle.pfc_tree.specs.trees.Stmts.{StmtTree, StmtTrees, ArmTrees, AcceptTree, AltTree, AltTrees, CommTree, empty, null, block, if_then, if_then_else}
+use Rattle.pfc_tree.specs.trees.Stmts.{case_of, while_do, repeat_until, repeat_forever, for_do, cobegin, accepting, requeue, select, select_else, assign, send}
+use Rattle.pfc_tree.specs.trees.Stmts.{receive, call, no_stmts, more_stmts, body, arm, no_arms, more_arms, accept, accept_do, alt, no_alts, more_alts}
+use Rattle.pfc_tree.specs.trees.Stmts.{comm_accept, comm_send, comm_receive, timeout, terminate}
 use Rattle.pfc_types.specs.Types.{extent}
 use Rattle.pfc_types.specs.Scopes.{meaning_of}
 use Rattle.pfc_types.specs.rules.Constants.{Ordinal, constant_value}
@@ -23,12 +28,15 @@ use Rattle.pfc_translation.specs.Addresses.{base_code}
 use Rattle.pfc_translation.specs.Expressions.{expr_code}
 use Rattle.pfc_translation.specs.Operands.{takes, leaves}
 use Rattle.pfc_translation.specs.Selects.{message_cells, receiver_cells, entry_of, accept_cell, accept_cells, accept_code, replica_code, alternatives_code}
-use Rattle.pfc_translation.specs.Statements.{label_of, labels_code, label_count, spread_replicas, chosen_code, sel_code, select_code, stmt_code, stmts_code, tests_code, arms_code, accepted_code, met_code, branch_code, branches_code, distances}
+use Rattle.pfc_translation.specs.Statements.{label_of, labels_code, label_count, spread_replicas, chosen_code, sel_code, select_code, stmt_code, stmts_code}
+use Rattle.pfc_translation.specs.Statements.{tests_code, arms_code, accepted_code, met_code, branch_code, branches_code, distances}
 use Rattle.pfc_standing_code.specs.Shapes.{a_number, IsSound}
-use Rattle.pfc_standing_code.specs.TypedStatements.{IsSimpleVariable, IsGuard, IsSpread, IsComm, AreAlternatives, IsTyped, AreTyped, AreArmsTyped, IsAcceptTyped, IsMetTyped, IsAltTyped, AreAltsTyped}
+use Rattle.pfc_standing_code.specs.TypedStatements.{IsSimpleVariable, IsGuard, IsSpread, IsComm, AreAlternatives, IsTyped, AreTyped, AreArmsTyped}
+use Rattle.pfc_standing_code.specs.TypedStatements.{IsAcceptTyped, IsMetTyped, IsAltTyped, AreAltsTyped}
 use Rattle.pfc_following_expressions.proofs.Glue.{Changes, changes_both}
 use Rattle.pfc_following_expressions.proofs.Held.{changes_one, changes_nothing, changes_as, base_changes, expr_changes}
-use Rattle.pfc_following_statements.proofs.HeldCalls.{changes_instruction, number_over, assign_changes, requeue_changes, call_changes, send_changes, receive_changes, alternatives_change}
+use Rattle.pfc_following_statements.proofs.HeldCalls.{changes_instruction, number_over, assign_changes, requeue_changes, call_changes, send_changes}
+use Rattle.pfc_following_statements.proofs.HeldCalls.{receive_changes, alternatives_change}
 
 -- ## Alternatives
 

@@ -1,5 +1,6 @@
 -- The code of `write` and of `read` follows the next action of its source text, and so do calls of subs and requeues.
-use Rattle.std.proofs.Common.{◌≡◌, ℕ, suc, ◌+◌, ◌≤◌, ℤ, Bool, true, false, List, [], ◌∷◌, length, Option, Some, None, Result, Ok, Err, refl, sym, ap, ◌∙◌, subst, arith}
+use Rattle.std.proofs.Common.{◌≡◌, ℕ, suc, ◌+◌, ◌≤◌, ℤ, Bool, true, false, List, [], ◌∷◌, length, Option, Some, None, Result, Ok, Err, refl, sym, ap, ◌∙◌}
+use Rattle.std.proofs.Common.{subst, arith}
 use Rattle.pfc_base.specs.declared.faults.RunFault.{RunFault}
 use Rattle.pfc_code.specs.declared.instructions.Instr.TheVariants.{REQ, WRNL, RDNL}
 use Rattle.pfc_tree.specs.Symbols.{Text}
@@ -14,13 +15,16 @@ use Rattle.pfc_semantics.specs.Values.{ordinal}
 use Rattle.pfc_semantics.specs.Objects.{module_number}
 use Rattle.pfc_semantics.specs.Operators.{simple_of}
 use Rattle.pfc_semantics.specs.Programs.{Block, block_number}
-use Rattle.pfc_semantics.specs.Remainders.{Context, Remainder, Action, write_on, read_on, show, show_wide, pad, input_to, to_procedure, to_module, to_requeue, prints, inputs}
+use Rattle.pfc_semantics.specs.Remainders.{Context, Remainder, Action, write_on, read_on, show, show_wide, pad, input_to, to_procedure, to_module, to_requeue}
+use Rattle.pfc_semantics.specs.Remainders.{prints, inputs}
 use Rattle.pfc_semantics.specs.Expressions.{from_expr, from_args}
-use Rattle.pfc_semantics.specs.Statements.{as_string, item_of, from_piece, from_width, shown_as, from_string, from_wide_string, from_item, from_writes, from_input, from_reads}
+use Rattle.pfc_semantics.specs.Statements.{as_string, item_of, from_piece, from_width, shown_as, from_string, from_wide_string, from_item, from_writes}
+use Rattle.pfc_semantics.specs.Statements.{from_input, from_reads}
 use Rattle.pfc_translation.specs.Sites.{Site}
 use Rattle.pfc_translation.specs.Codes.{◌⨾◌, one, string}
 use Rattle.pfc_translation.specs.Expressions.{expr_code, desig_code, args_code, call_instr}
-use Rattle.pfc_translation.specs.Calls.{write_instr, read_instr, plain_item, wide_item, item_code, writes_code, input_code, reads_code, formals_cells, enter_instr, resource_of, sub_code}
+use Rattle.pfc_translation.specs.Calls.{write_instr, read_instr, plain_item, wide_item, item_code, writes_code, input_code, reads_code, formals_cells}
+use Rattle.pfc_translation.specs.Calls.{enter_instr, resource_of, sub_code}
 use Rattle.pfc_standing_code.specs.Shapes.{a_number}
 use Rattle.pfc_standing_code.specs.Settings.{Setting, of_own, AreOver, site_of, IsAt, Stands, arrived}
 use Rattle.pfc_standing_code.specs.Typed.{ByName, FromOutside, ByRequeue, HasShape}
@@ -28,7 +32,8 @@ use Rattle.pfc_standing_code.specs.TypedStatements.{IsItem, IsWritten, AreWritte
 use Rattle.pfc_standing_code.specs.Words.{IsChecked, none_held}
 use Rattle.pfc_standing_code.specs.Performs.{Performs}
 use Rattle.pfc_standing_code.specs.Awaits.{PadAt, of_number, of_string}
-use Rattle.pfc_standing_code.specs.Following.{number, wide_number, string as piece_string, wide_string, newline, of_number_width, of_string_width, Follows, arrives}
+use Rattle.pfc_standing_code.specs.Following.{number, wide_number, string as piece_string, wide_string, newline, of_number_width, of_string_width, Follows}
+use Rattle.pfc_standing_code.specs.Following.{arrives}
 use Rattle.pfc_standing_code.proofs.Sizes.{sized_expr, sized_desig, sized_args, sized_item, sized_input}
 use Rattle.pfc_following_expressions.proofs.Glue.{front, back, lone}
 use Rattle.pfc_following_expressions.proofs.Held.{held_grown, expr_changes, desig_changes, args_change}

@@ -9,7 +9,8 @@ use Rattle.pfc_types.specs.declared.view.Around.{Around}
 use Rattle.pfc_semantics.specs.Values.{ordinal_of}
 use Rattle.pfc_semantics.specs.Displays.{Spot, TypedSpot}
 use Rattle.pfc_semantics.specs.Programs.{Block}
-use Rattle.pfc_semantics.specs.Remainders.{Context, Remainder, AwaitsLocation, Action, initial_to, set_count, wait_at, signal_at, delay_at, delay_with, resume_at, sleep_for, initials, waits, signals, delays, resumes, sleeps}
+use Rattle.pfc_semantics.specs.Remainders.{Context, Remainder, AwaitsLocation, Action, initial_to, set_count, wait_at, signal_at, delay_at, delay_with}
+use Rattle.pfc_semantics.specs.Remainders.{resume_at, sleep_for, initials, waits, signals, delays, resumes, sleeps}
 use Rattle.pfc_semantics.specs.Expressions.{from_expr, from_reference, from_argument}
 use Rattle.pfc_semantics.specs.Statements.{expr_of, behind_first, from_initial, from_delay, from_procedure}
 use Rattle.pfc_semantics.specs.Predeclared.{Procedure, reader, writer, initial, wait, signal, delay, resume, sleep, no_procedure}

@@ -11,7 +11,8 @@ use Rattle.pfc_types.specs.declared.types.TypeForm.TheVariants.{Channel, Array, 
 use Rattle.pfc_types.specs.declared.view.Around.{Around}
 use Rattle.pfc_semantics.specs.Displays.{Spot}
 use Rattle.pfc_semantics.specs.Programs.{Block}
-use Rattle.pfc_semantics.specs.Remainders.{Context, Remainder, Action, assign_to, store_at, send_to, send_on, receive_from, receive_into, to_send, to_receive, writes, meets}
+use Rattle.pfc_semantics.specs.Remainders.{Context, Remainder, Action, assign_to, store_at, send_to, send_on, receive_from, receive_into, to_send, to_receive}
+use Rattle.pfc_semantics.specs.Remainders.{writes, meets}
 use Rattle.pfc_semantics.specs.Expressions.{from_expr, from_desig}
 use Rattle.pfc_semantics.specs.Statements.{from_assign, plain_open, from_sent, from_received}
 use Rattle.pfc_translation.specs.Sites.{Site, forms_of, type_cells}

@@ -11,7 +11,8 @@ use Rattle.pfc_semantics.specs.Predeclared.{Procedure}
 use Rattle.pfc_semantics.specs.Programs.{Block}
 use Rattle.pfc_semantics.specs.Remainders.{Context, Remainder, Action}
 use Rattle.pfc_semantics.specs.Alternatives.{message_of, receiver_of}
-use Rattle.pfc_semantics.specs.Statements.{from_assign, from_send, from_receive, from_writes, from_reads, from_called, from_exported, from_requeue, from_procedure, from_activation, from_entry_call, from_call}
+use Rattle.pfc_semantics.specs.Statements.{from_assign, from_send, from_receive, from_writes, from_reads, from_called, from_exported, from_requeue}
+use Rattle.pfc_semantics.specs.Statements.{from_procedure, from_activation, from_entry_call, from_call}
 use Rattle.pfc_translation.specs.Codes.{Code, ◌⨾◌}
 use Rattle.pfc_translation.specs.Addresses.{base_code}
 use Rattle.pfc_translation.specs.Expressions.{selectors_code}
@@ -20,7 +21,8 @@ use Rattle.pfc_translation.specs.Selects.{send_code, receive_code}
 use Rattle.pfc_translation.specs.Statements.{assign_code}
 use Rattle.pfc_standing_code.specs.Settings.{Setting, of_own, AreOver, site_of, Stands}
 use Rattle.pfc_standing_code.specs.Typed.{ByName, FromOutside, ByRequeue}
-use Rattle.pfc_standing_code.specs.TypedStatements.{IsAssignment, IsSend, IsReceive, AreWritten, AreRead, IsProcedure, IsSubCall, IsActivation, IsEntryCall, IsCall}
+use Rattle.pfc_standing_code.specs.TypedStatements.{IsAssignment, IsSend, IsReceive, AreWritten, AreRead, IsProcedure, IsSubCall, IsActivation, IsEntryCall}
+use Rattle.pfc_standing_code.specs.TypedStatements.{IsCall}
 use Rattle.pfc_standing_code.specs.Words.{IsChecked}
 use Rattle.pfc_standing_code.specs.Performs.{Performs}
 use Rattle.pfc_standing_code.specs.Following.{Follows}

@@ -5,9 +5,13 @@ use Rattle.pfc_semantics.specs.Programs.{Block}
 use Rattle.pfc_semantics.specs.Alternatives.{context}
 use Rattle.pfc_standing_code.specs.Settings.{Setting}
 use Rattle.pfc_following_expressions.proofs.Anywhere.{anywhere}
-use Rattle.pfc_following_structures.specs.Structured.{NothingFollows, BlockFollows, ListFollows, IfFollows, IfElseFollows, CaseFollows, ArmListFollows, WhileFollows, RepeatFollows, ForeverFollows, ForFollows, CobeginFollows, AcceptFollows, AssignFollows, SendsFollow, ReceivesFollow, CallsFollow, RequeuesFollow, SelectStatementsFollow, EveryStatementFollows, EveryListFollows}
+use Rattle.pfc_following_structures.specs.Structured.{NothingFollows, BlockFollows, ListFollows, IfFollows, IfElseFollows, CaseFollows, ArmListFollows}
+use Rattle.pfc_following_structures.specs.Structured.{WhileFollows, RepeatFollows, ForeverFollows, ForFollows, CobeginFollows, AcceptFollows, AssignFollows}
+use Rattle.pfc_following_structures.specs.Structured.{SendsFollow, ReceivesFollow, CallsFollow, RequeuesFollow, SelectStatementsFollow, EveryStatementFollows}
+use Rattle.pfc_following_structures.specs.Structured.{EveryListFollows}
 use Rattle.pfc_following_structures.specs.Left.{UntilFollows, PassFollows, PassEndFollows, ReplicaFollows}
-use Rattle.pfc_following_structures.proofs.Compound.{empty_follows, null_follows, block_follows, none_follow, more_follow, if_follows, if_else_follows, while_follows, repeat_follows, forever_follows, until_follows, cobegin_follows, accept_follows}
+use Rattle.pfc_following_structures.proofs.Compound.{empty_follows, null_follows, block_follows, none_follow, more_follow, if_follows, if_else_follows}
+use Rattle.pfc_following_structures.proofs.Compound.{while_follows, repeat_follows, forever_follows, until_follows, cobegin_follows, accept_follows}
 use Rattle.pfc_following_structures.proofs.Cases.{case_follows, no_arms_follow, more_arms_follow}
 use Rattle.pfc_following_structures.proofs.Counting.{first_pass, behind_follows, for_follows}
 use Rattle.pfc_following_structures.proofs.Replicas.{replica_follows}

@@ -1,6 +1,8 @@
 -- Every statement follows its next action.
 use Rattle.std.proofs.Common.{◌≡◌, ◌≤◌, List}
-use Rattle.pfc_tree.specs.trees.Stmts.{StmtTree, StmtTrees, ArmTrees, empty, null, block, if_then, if_then_else, case_of, while_do, repeat_until, repeat_forever, for_do, cobegin, accepting, requeue, select, select_else, assign, send, receive, call, no_stmts, more_stmts, body, arm, no_arms, more_arms}
+use Rattle.pfc_tree.specs.trees.Stmts.{StmtTree, StmtTrees, ArmTrees, empty, null, block, if_then, if_then_else, case_of, while_do, repeat_until}
+use Rattle.pfc_tree.specs.trees.Stmts.{repeat_forever, for_do, cobegin, accepting, requeue, select, select_else, assign, send, receive, call, no_stmts}
+use Rattle.pfc_tree.specs.trees.Stmts.{more_stmts, body, arm, no_arms, more_arms}
 use Rattle.pfc_types.specs.Scopes.{Level}
 use Rattle.pfc_types.specs.rules.Expressions.{Env}
 use Rattle.pfc_types.specs.declared.view.Around.{Around}
@@ -9,7 +11,8 @@ use Rattle.pfc_standing_code.specs.Settings.{Setting, of_own}
 use Rattle.pfc_standing_code.specs.Words.{IsChecked}
 use Rattle.pfc_following_expressions.proofs.Expressions.{env_in}
 use Rattle.pfc_following_structures.specs.Structured.{StatementFollows, StatementsFollow, ArmsFollow}
-use Rattle.pfc_following_structures.proofs.Compound.{empty_follows, null_follows, block_follows, none_follow, more_follow, if_follows, if_else_follows, while_follows, repeat_follows, forever_follows, cobegin_follows, accept_follows}
+use Rattle.pfc_following_structures.proofs.Compound.{empty_follows, null_follows, block_follows, none_follow, more_follow, if_follows, if_else_follows}
+use Rattle.pfc_following_structures.proofs.Compound.{while_follows, repeat_follows, forever_follows, cobegin_follows, accept_follows}
 use Rattle.pfc_following_structures.proofs.Cases.{case_follows, no_arms_follow, more_arms_follow}
 use Rattle.pfc_following_structures.proofs.Counting.{for_follows}
 use Rattle.pfc_following_structures.proofs.Selecting.{selected_follows, selected_else_follows}

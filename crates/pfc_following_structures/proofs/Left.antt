@@ -3,7 +3,8 @@ use Rattle.std.proofs.Common.{◌≡◌, ℕ, ◌+◌, ◌≤◌, ℤ, List, [],
 use Rattle.pfc_tree.specs.trees.Stmts.{StmtTree, repeat_until, no_stmts, more_stmts}
 use Rattle.pfc_types.specs.rules.Expressions.{Env}
 use Rattle.pfc_semantics.specs.Programs.{Block}
-use Rattle.pfc_semantics.specs.Remainders.{Remainder, Action, ends, perform, in_names, turn, until, behind_pass, next_pass, write_on, read_on, at_coend, part_from, write_again, go_through, try_guard, scan_on, try_other}
+use Rattle.pfc_semantics.specs.Remainders.{Remainder, Action, ends, perform, in_names, turn, until, behind_pass, next_pass, write_on, read_on, at_coend}
+use Rattle.pfc_semantics.specs.Remainders.{part_from, write_again, go_through, try_guard, scan_on, try_other}
 use Rattle.pfc_semantics.specs.Alternatives.{context}
 use Rattle.pfc_semantics.specs.Statements.{again}
 use Rattle.pfc_semantics.specs.Rewriting.{from_remainder}

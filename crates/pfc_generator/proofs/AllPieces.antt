@@ -2,13 +2,15 @@
 use Rattle.std.proofs.Common.{◌≡◌, ℕ, ◌+◌, ◌++◌, Bool, true, false, List, [], ◌∷◌, length, map, Some, None, refl, ap, ap₂, ◌∙◌, length-append}
 use Rattle.std.proofs.lemmas.List.{append_assoc}
 use Rattle.pfc_tree.specs.trees.Stmts.{body}
-use Rattle.pfc_tree.specs.trees.Parts.{PartTree, PartTrees, SubTree, ModuleTree, ProcessTree, consts, types, vars, sub_part, monitor, resource, process_part, no_parts, more_parts, sub, the_module, process}
+use Rattle.pfc_tree.specs.trees.Parts.{PartTree, PartTrees, SubTree, ModuleTree, ProcessTree, consts, types, vars, sub_part, monitor, resource, process_part}
+use Rattle.pfc_tree.specs.trees.Parts.{no_parts, more_parts, sub, the_module, process}
 use Rattle.pfc_types.specs.Blocks.{State}
 use Rattle.pfc_types.specs.Scopes.{Level, scope_at}
 use Rattle.pfc_types.specs.rules.Bodies.{passed, passed_part, passed_groups, passed_entries, part_scopes, level}
 use Rattle.pfc_semantics.specs.Programs.{Block, part_blocks, parts_blocks, sub_blocks, module_blocks, process_blocks, part_inits, parts_inits, module_inits}
 use Rattle.pfc_translation.specs.Images.{Piece, a_body, an_initial, resource_end, pieces}
-use Rattle.pfc_generator.specs.Pieces.{part_bodies, parts_bodies, sub_bodies, module_bodies, process_bodies, has_body, has_initial, initial_of, behind_initial, pieces_of}
+use Rattle.pfc_generator.specs.Pieces.{part_bodies, parts_bodies, sub_bodies, module_bodies, process_bodies, has_body, has_initial, initial_of, behind_initial}
+use Rattle.pfc_generator.specs.Pieces.{pieces_of}
 use Rattle.pfc_generator.proofs.Placed.{take_front, drop_front}
 
 -- ## How many bodies a part has

@@ -5,7 +5,8 @@ use Rattle.std.proofs.lemmas.List.{append_assoc, append-nil}
 use Rattle.pfc_tree.specs.Symbols.{Text}
 use Rattle.pfc_semantics.specs.Programs.{Program}
 use Rattle.pfc_translation.specs.Codes.{Code, Lined}
-use Rattle.pfc_translation.specs.Images.{Piece, a_body, an_initial, a_resource, Coded, coded, body_code, statements_code, scan_code, is_initial, before_main, of_main, put_from, size_of, strings_in, scan_at, scans_from}
+use Rattle.pfc_translation.specs.Images.{Piece, a_body, an_initial, a_resource, Coded, coded, body_code, statements_code, scan_code, is_initial, before_main}
+use Rattle.pfc_translation.specs.Images.{of_main, put_from, size_of, strings_in, scan_at, scans_from}
 use Rattle.pfc_expression_code.specs.Putting.{IsMade}
 use Rattle.pfc_blocks.specs.Making.{Placing}
 use Rattle.pfc_generator.specs.Making.{SoFar, nothing_made, placing, IsPut, body_placing, placings_from, AreSized, IsComplete}

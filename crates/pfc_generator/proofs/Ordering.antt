@@ -2,7 +2,8 @@
 use Rattle.std.proofs.Common.{◌≡◌, ◌≤◌, ℕ, ◌+◌, ◌++◌, List, [], ◌∷◌, length, sym, ap, ◌∙◌, subst, arith, length-append}
 use Rattle.pfc_semantics.specs.Programs.{Program}
 use Rattle.pfc_translation.specs.Codes.{Code, Lined}
-use Rattle.pfc_translation.specs.Images.{Piece, a_body, an_initial, a_resource, Coded, coded, body_code, statements_code, scan_code, of_main, put_from, size_of, strings_in, most_arms}
+use Rattle.pfc_translation.specs.Images.{Piece, a_body, an_initial, a_resource, Coded, coded, body_code, statements_code, scan_code, of_main, put_from, size_of}
+use Rattle.pfc_translation.specs.Images.{strings_in, most_arms}
 use Rattle.std.proofs.lemmas.List.{append_assoc}
 use Rattle.pfc_generator.specs.Making.{AreOrdered}
 

@@ -3,7 +3,8 @@ use Rattle.std.specs.Prelude.{◌≡◌, ◌≤◌, ℕ, ◌+◌, max, List, [],
 use Rattle.pfc_semantics.specs.Programs.{Block, Program}
 use Rattle.pfc_translation.specs.Sites.{level_of}
 use Rattle.pfc_translation.specs.Codes.{Code}
-use Rattle.pfc_translation.specs.Images.{Piece, a_body, an_initial, a_resource, Coded, guard_code, body_code, statements_code, scan_code, before_main, of_main, put_from, size_of, strings_in, most_arms, scans_from}
+use Rattle.pfc_translation.specs.Images.{Piece, a_body, an_initial, a_resource, Coded, guard_code, body_code, statements_code, scan_code, before_main, of_main}
+use Rattle.pfc_translation.specs.Images.{put_from, size_of, strings_in, most_arms, scans_from}
 use Rattle.pfc_expression_code.specs.Putting.{Made, IsMade}
 use Rattle.pfc_blocks.specs.Making.{Placing}
 

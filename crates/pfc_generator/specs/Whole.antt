@@ -2,7 +2,8 @@
 use Rattle.std.specs.Prelude.{◌≡◌, ◌≤◌, max, List, [], ◌∷◌, ◌++◌, length, map}
 use Rattle.pfc_semantics.specs.Programs.{Program}
 use Rattle.pfc_translation.specs.Codes.{Lined}
-use Rattle.pfc_translation.specs.Images.{Piece, a_body, Coded, coded, body_code, before_main, of_main, size_of, put_from, strings_in, most_arms, scans_from, instructions}
+use Rattle.pfc_translation.specs.Images.{Piece, a_body, Coded, coded, body_code, before_main, of_main, size_of, put_from, strings_in, most_arms, scans_from}
+use Rattle.pfc_translation.specs.Images.{instructions}
 use Rattle.pfc_program.specs.declared.program.Program.{Program as HeldProgram}
 use Rattle.pfc_addresses.specs.Sites.{whole_view}
 use Rattle.pfc_code.specs.declared.instructions.Instr.{Instr}

@@ -1,7 +1,9 @@
 -- Loops read back what lists write.
-use Rattle.std.proofs.Common.{◌≡◌, ℕ, zero, suc, ◌+◌, ◌≤◌, List, [], ◌∷◌, ◌++◌, length, Bool, true, false, Option, Some, Ok, refl, sym, ap, ◌∙◌, append_assoc, append-nil, length-append, arith}
+use Rattle.std.proofs.Common.{◌≡◌, ℕ, zero, suc, ◌+◌, ◌≤◌, List, [], ◌∷◌, ◌++◌, length, Bool, true, false, Option, Some, Ok, refl, sym, ap, ◌∙◌, append_assoc}
+use Rattle.std.proofs.Common.{append-nil, length-append, arith}
 use Rattle.pfc_tree.specs.Symbols.{Symbol}
-use Rattle.pfc_grammar.specs.Reading.{Reader, pure, then_read, bind, stop, branch_at, branch, choose_at, choose, many_turns, many_onto, many, some_of, list_of, end_turns, end_onto, list_end, while_turns, while_onto, many_while}
+use Rattle.pfc_grammar.specs.Reading.{Reader, pure, then_read, bind, stop, branch_at, branch, choose_at, choose, many_turns, many_onto, many, some_of, list_of}
+use Rattle.pfc_grammar.specs.Reading.{end_turns, end_onto, list_end, while_turns, while_onto, many_while}
 use Rattle.pfc_grammar.proofs.Complete.{over, over-zero, limited, limited_at, Complete, Skips, Lacks, Heads, after, complete_bind, complete_take}
 
 -- What a loop reads: items, each behind a symbol that f takes, and then no such symbol.

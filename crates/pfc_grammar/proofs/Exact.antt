@@ -1,5 +1,6 @@
 -- Reading a whole program: what it says of the list of kinds, exactly.
-use Rattle.std.proofs.Common.{◌≡◌, ℕ, zero, suc, ◌+◌, ◌-◌, ◌≤◌, ◌<◌, ◌⊎◌, ⊎_elim, inl, inr, List, [], ◌∷◌, ◌++◌, length, take, drop, get_or, Bool, true, false, Result, Ok, Err, All, nat_le, refl, sym, ap, subst, ◌∙◌, append_assoc, append-nil, length-append, add-one, arith}
+use Rattle.std.proofs.Common.{◌≡◌, ℕ, zero, suc, ◌+◌, ◌-◌, ◌≤◌, ◌<◌, ◌⊎◌, ⊎_elim, inl, inr, List, [], ◌∷◌, ◌++◌, length, take, drop, get_or, Bool, true, false}
+use Rattle.std.proofs.Common.{Result, Ok, Err, All, nat_le, refl, sym, ap, subst, ◌∙◌, append_assoc, append-nil, length-append, add-one, arith}
 use Rattle.std.proofs.lemmas.Bool.{leb-true, leb-false, le-leb}
 use Rattle.std.proofs.lemmas.List.Elements.{All-head, All-cons}
 use Rattle.std.proofs.Math.Seq.{get_or-append_seam}
@@ -8,7 +9,8 @@ use Rattle.pfc_tree.specs.shapes.Parts.{ProgramShape}
 use Rattle.pfc_tree.specs.tokens.Parts.{tokens_of}
 use Rattle.pfc_tree.specs.lawful.Parts.{IsLawful}
 use Rattle.pfc_tree.specs.depths.Parts.{depths_of}
-use Rattle.pfc_tree.specs.Grammar.{most_depth, Continues, BeginsProgram, up_to, StopsAt, StopsAtEnd, IsUnexpected, IsTooDeep, IsDeep, IsSyntaxFault, unexpected, deep}
+use Rattle.pfc_tree.specs.Grammar.{most_depth, Continues, BeginsProgram, up_to, StopsAt, StopsAtEnd, IsUnexpected, IsTooDeep, IsDeep, IsSyntaxFault, unexpected}
+use Rattle.pfc_tree.specs.Grammar.{deep}
 use Rattle.pfc_tree.proofs.depths.Parts.{program_even}
 use Rattle.pfc_grammar.specs.Outcomes.{IsRead}
 use Rattle.pfc_grammar.specs.Reading as reading

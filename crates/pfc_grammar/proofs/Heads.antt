@@ -19,7 +19,8 @@ use Rattle.pfc_tree.specs.lawful.Parts.{Home, of_program, of_resource, of_other}
 use Rattle.pfc_tree.specs.tokens.Exprs.{sign_symbol, relation_symbol, add_symbol, mul_symbol}
 use Rattle.pfc_tree.specs.tokens.Stmts.{direction_symbol}
 use Rattle.pfc_grammar.specs.Reading.{Reader, bind, branch, take_as}
-use Rattle.pfc_grammar.specs.Heads.{if_equal, as_word, as_sign, as_name, as_number, as_literal, as_plus_minus, as_relation, as_add_op, as_mul_op, as_selector, as_direction, as_word_of_resource, as_word_of_program, takes, is_word}
+use Rattle.pfc_grammar.specs.Heads.{if_equal, as_word, as_sign, as_name, as_number, as_literal, as_plus_minus, as_relation, as_add_op, as_mul_op, as_selector}
+use Rattle.pfc_grammar.specs.Heads.{as_direction, as_word_of_resource, as_word_of_program, takes, is_word}
 use Rattle.pfc_grammar.proofs.Lists.{none, or_taken}
 use Rattle.pfc_grammar.proofs.Sound.{Sound, here, sound_branch, sound_bind, sound_pure, sound_stop}
 

@@ -2,7 +2,8 @@
 -- and with that one.
 use Rattle.std.proofs.Common.{◌≡◌, ℕ, List, [], ◌∷◌, ◌++◌, length, Bool, true, false, Option, Some, None, Ok, Err, refl, sym, ap, subst, ◌∙◌, append_assoc}
 use Rattle.pfc_tree.specs.Symbols.{Symbol}
-use Rattle.pfc_grammar.specs.Reading.{Halt, bad, deep, Outcome, Reader, pure, then_read, bind, stop, stop_deep, branch_at, branch, choose_at, choose, take_as, finish}
+use Rattle.pfc_grammar.specs.Reading.{Halt, bad, deep, Outcome, Reader, pure, then_read, bind, stop, stop_deep, branch_at, branch, choose_at, choose, take_as}
+use Rattle.pfc_grammar.specs.Reading.{finish}
 
 abbrev pub head_of : List Symbol → Option Symbol
 head_of [] = None

@@ -1,8 +1,11 @@
 -- Loops look no further than at the symbol on which they end, whatever the number of turns that is great enough.
-use Rattle.std.proofs.Common.{◌≡◌, ℕ, zero, suc, ◌+◌, ◌≤◌, List, [], ◌∷◌, ◌++◌, length, Bool, true, false, Option, Some, None, Ok, Err, refl, ap, subst, ◌∙◌, length-append, arith}
+use Rattle.std.proofs.Common.{◌≡◌, ℕ, zero, suc, ◌+◌, ◌≤◌, List, [], ◌∷◌, ◌++◌, length, Bool, true, false, Option, Some, None, Ok, Err, refl, ap, subst, ◌∙◌}
+use Rattle.std.proofs.Common.{length-append, arith}
 use Rattle.pfc_tree.specs.Symbols.{Symbol}
-use Rattle.pfc_grammar.specs.Reading.{Halt, Outcome, Reader, pure, then_read, bind, branch_at, branch, choose_at, choose, many_turns, many_onto, many, some_of, list_of, end_turns, end_onto, list_end, while_turns, while_onto, many_while}
-use Rattle.pfc_grammar.proofs.Local.{head_of, same_heads, EndsOk, Ends, Gives, Local, joined_ends, ends_same, ends_halted, not_taken, untaken, has_test, tested, local_bind, local_branch, local_stop}
+use Rattle.pfc_grammar.specs.Reading.{Halt, Outcome, Reader, pure, then_read, bind, branch_at, branch, choose_at, choose, many_turns, many_onto, many, some_of}
+use Rattle.pfc_grammar.specs.Reading.{list_of, end_turns, end_onto, list_end, while_turns, while_onto, many_while}
+use Rattle.pfc_grammar.proofs.Local.{head_of, same_heads, EndsOk, Ends, Gives, Local, joined_ends, ends_same, ends_halted, not_taken, untaken, has_test, tested}
+use Rattle.pfc_grammar.proofs.Local.{local_bind, local_branch, local_stop}
 
 few : (u v : List Symbol) (s : Symbol) (n : ℕ) (rest : List Symbol) → u ≡ v ++ rest → length (s ∷ u) ≤ suc n → length rest ≤ n
 few u v s n rest e h =

@@ -1,6 +1,7 @@
 -- What is read is lawful and writes the symbols that were taken; where a reading halts, the symbols so far begin
 -- something lawful. Both are one fact on a reader, which goes through the combinators.
-use Rattle.std.proofs.Common.{◌≡◌, ℕ, suc, List, [], ◌∷◌, ◌++◌, length, Bool, true, false, Option, Some, None, Ok, Err, refl, sym, ap, ◌∙◌, append_assoc, is_some}
+use Rattle.std.proofs.Common.{◌≡◌, ℕ, suc, List, [], ◌∷◌, ◌++◌, length, Bool, true, false, Option, Some, None, Ok, Err, refl, sym, ap, ◌∙◌, append_assoc}
+use Rattle.std.proofs.Common.{is_some}
 use Rattle.pfc_tree.specs.Symbols.{Symbol}
 use Rattle.pfc_grammar.specs.Reading.{Halt, bad, deep, Outcome, Reader, pure, then_read, bind, stop, stop_deep, branch_at, branch, choose_at, choose}
 use Rattle.pfc_grammar.proofs.Lists.{Apart, none, or_taken, or-both, apart_none, apart_less}

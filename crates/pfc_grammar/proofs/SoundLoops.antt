@@ -1,8 +1,11 @@
 -- Loops read lawful lists.
-use Rattle.std.proofs.Common.{◌≡◌, ℕ, zero, suc, ◌+◌, ◌≤◌, List, [], ◌∷◌, ◌++◌, length, Bool, true, false, ◌||◌, Option, Some, None, is_some, Ok, Err, refl, sym, ap, subst, ◌∙◌, append_assoc, append-nil, length-append, arith}
+use Rattle.std.proofs.Common.{◌≡◌, ℕ, zero, suc, ◌+◌, ◌≤◌, List, [], ◌∷◌, ◌++◌, length, Bool, true, false, ◌||◌, Option, Some, None, is_some, Ok, Err, refl}
+use Rattle.std.proofs.Common.{sym, ap, subst, ◌∙◌, append_assoc, append-nil, length-append, arith}
 use Rattle.pfc_tree.specs.Symbols.{Symbol}
-use Rattle.pfc_grammar.specs.Reading.{Halt, bad, deep, Outcome, Reader, pure, then_read, bind, branch_at, branch, choose_at, choose, many_turns, many_onto, many, some_of, list_of, end_turns, end_onto, list_end, while_turns, while_onto, many_while}
-use Rattle.pfc_grammar.proofs.Lists.{Apart, none, or_taken, or-both, apart_none, apart_less, flat, flat-snoc, separated, separated-snoc, Each, each-snoc, behind_last, behind_last-snoc, Chain, chain-snoc}
+use Rattle.pfc_grammar.specs.Reading.{Halt, bad, deep, Outcome, Reader, pure, then_read, bind, branch_at, branch, choose_at, choose, many_turns, many_onto}
+use Rattle.pfc_grammar.specs.Reading.{many, some_of, list_of, end_turns, end_onto, list_end, while_turns, while_onto, many_while}
+use Rattle.pfc_grammar.proofs.Lists.{Apart, none, or_taken, or-both, apart_none, apart_less, flat, flat-snoc, separated, separated-snoc, Each, each-snoc}
+use Rattle.pfc_grammar.proofs.Lists.{behind_last, behind_last-snoc, Chain, chain-snoc}
 use Rattle.pfc_grammar.proofs.Sound.{When, Goes, Took, Halts, Sound, here, joined, wrapped, behind_symbol, sound_bind, sound_branch, sound_stop}
 
 -- fronts that are equal at each list are as good as one

@@ -1,8 +1,11 @@
 -- What one symbol says: a word, a sign, a name, a number, a literal or an operator.
 use Rattle.std.specs.Prelude.{ℕ, ℤ, pos, negsuc, Bool, true, false, ◌||◌, Option, Some, None, nat_eq}
 use Rattle.pfc_base.specs.declared.tokens.Kind.TheVariants.{Word, Sign, Name, Number, Literal}
-use Rattle.pfc_base.specs.declared.word.TheConstants.{ACCEPT, AND, ARRAY, BEGIN, CASE, CHANNEL, COBEGIN, CONST, DIV, DOWNTO, FOR, FUNCTION, GUARDED, IF, MOD, MONITOR, NOT, NULL, OR, PRI, PROCEDURE, PROCESS, RECORD, REPEAT, REQUEUE, RESOURCE, SELECT, TO, TYPE, VAR, WHILE}
-use Rattle.pfc_base.specs.declared.sign.TheConstants.{PLUS, MINUS, STAR, EQUAL, NOT_EQUAL, LESS, LESS_EQUAL, GREATER, GREATER_EQUAL, OPEN_PAREN, OPEN_BRACKET, DOT}
+use Rattle.pfc_base.specs.declared.word.TheConstants.{ACCEPT, AND, ARRAY, BEGIN, CASE, CHANNEL, COBEGIN, CONST, DIV, DOWNTO, FOR, FUNCTION, GUARDED, IF, MOD}
+use Rattle.pfc_base.specs.declared.word.TheConstants.{MONITOR, NOT, NULL, OR, PRI, PROCEDURE, PROCESS, RECORD, REPEAT, REQUEUE, RESOURCE, SELECT, TO, TYPE, VAR}
+use Rattle.pfc_base.specs.declared.word.TheConstants.{WHILE}
+use Rattle.pfc_base.specs.declared.sign.TheConstants.{PLUS, MINUS, STAR, EQUAL, NOT_EQUAL, LESS, LESS_EQUAL, GREATER, GREATER_EQUAL, OPEN_PAREN, OPEN_BRACKET}
+use Rattle.pfc_base.specs.declared.sign.TheConstants.{DOT}
 use Rattle.pfc_tree.specs.declared.tree.Sign as plus_or_minus
 use Rattle.pfc_tree.specs.declared.tree.Sign.TheVariants.{Plus, Minus}
 use Rattle.pfc_tree.specs.declared.tree.Relation.{Relation}

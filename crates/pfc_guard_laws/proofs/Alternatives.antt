@@ -4,7 +4,8 @@ use Rattle.std.specs.Prelude.{int_lt}
 use Rattle.pfc_base.specs.declared.faults.RunFault.TheVariants.{Below}
 use Rattle.pfc_tree.specs.declared.tree.Spread.{Spread}
 use Rattle.pfc_tree.specs.trees.Exprs.{ExprTree, DesigTree}
-use Rattle.pfc_tree.specs.trees.Stmts.{StmtTrees, AcceptTree, AltTrees, CommTree, accept, accept_do, alt, no_alts, more_alts, comm_accept, comm_send, comm_receive, timeout, terminate}
+use Rattle.pfc_tree.specs.trees.Stmts.{StmtTrees, AcceptTree, AltTrees, CommTree, accept, accept_do, alt, no_alts, more_alts, comm_accept, comm_send}
+use Rattle.pfc_tree.specs.trees.Stmts.{comm_receive, timeout, terminate}
 use Rattle.pfc_types.specs.rules.Expressions.{as_desig}
 use Rattle.pfc_types.specs.rules.Statements.{names_any, comm_scopes, alt_scopes}
 use Rattle.pfc_values.specs.Numbers.{is_true}
@@ -12,8 +13,11 @@ use Rattle.pfc_semantics.specs.Values.{Value, ordinal_of}
 use Rattle.pfc_semantics.specs.Displays.{Spot}
 use Rattle.pfc_semantics.specs.Programs.{Program}
 use Rattle.pfc_guard_laws.specs.Tops.{Standing}
-use Rattle.pfc_semantics.specs.Remainders.{Context, Replica, Offer, Alternative, Selecting, Scan, Remainder, Action, to_send, to_receive, to_accept, to_wait, to_end, open_if, offer_value, offer_wait, offer_to, offer_from, offer_into, faults}
-use Rattle.pfc_semantics.specs.Alternatives.{replicas, alternative, spread_out, alternatives, accepting_of, message_of, receiver_of, a_signal, with_open, from_seconds, from_message, from_receiver, from_comm, from_opened, from_guard, from_replica, from_alternatives, select_begun}
+use Rattle.pfc_semantics.specs.Remainders.{Context, Replica, Offer, Alternative, Selecting, Scan, Remainder, Action, to_send, to_receive, to_accept, to_wait}
+use Rattle.pfc_semantics.specs.Remainders.{to_end, open_if, offer_value, offer_wait, offer_to, offer_from, offer_into, faults}
+use Rattle.pfc_semantics.specs.Alternatives.{replicas, alternative, spread_out, alternatives, accepting_of, message_of, receiver_of, a_signal, with_open}
+use Rattle.pfc_semantics.specs.Alternatives.{from_seconds, from_message, from_receiver, from_comm, from_opened, from_guard, from_replica, from_alternatives}
+use Rattle.pfc_semantics.specs.Alternatives.{select_begun}
 use Rattle.pfc_guard_laws.specs.Written.{SuitsExpr, SuitsDesig, SuitsPerhaps, SuitsTarget, SuitStmts, SuitsAccept, SuitsComm, SuitAlts}
 use Rattle.pfc_guard_laws.specs.Remainders.{SuitsOffer, SuitsOpen, SuitsAlternative, SuitAlternatives, SuitsSelecting, SuitsRemainder, SuitsAction}
 use Rattle.pfc_guard_laws.proofs.Lists.{all_append, all_push, all_map}

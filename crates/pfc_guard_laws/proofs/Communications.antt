@@ -10,12 +10,16 @@ use Rattle.pfc_types.specs.rules.Statements.{within_accept}
 use Rattle.pfc_semantics.specs.Values.{Value}
 use Rattle.pfc_semantics.specs.Displays.{Spot}
 use Rattle.pfc_semantics.specs.Programs.{Program}
-use Rattle.pfc_semantics.specs.Remainders.{Context, Replica, Accepting, Offer, Open, Otherwise, Selecting, Scan, Remainder, to_send, to_receive, to_accept, to_wait, to_end, perform, in_names, part_from}
+use Rattle.pfc_semantics.specs.Remainders.{Context, Replica, Accepting, Offer, Open, Otherwise, Selecting, Scan, Remainder, to_send, to_receive, to_accept}
+use Rattle.pfc_semantics.specs.Remainders.{to_wait, to_end, perform, in_names, part_from}
 use Rattle.pfc_semantics.specs.Statements.{behind}
 use Rattle.pfc_semantics.specs.Configurations.{Hand, empty_hand, offering, asking, barred_at, Activation, Config, activity_of, goes_on}
-use Rattle.pfc_semantics.specs.Channels.{arm_of, is_communication, communications, behind_replica, behind_open, Side, is_arm, first_open, side_in, side_of, goes_behind, delivered, sent_into, sent_to, received_out, received_from}
+use Rattle.pfc_semantics.specs.Channels.{arm_of, is_communication, communications, behind_replica, behind_open, Side, is_arm, first_open, side_in, side_of}
+use Rattle.pfc_semantics.specs.Channels.{goes_behind, delivered, sent_into, sent_to, received_out, received_from}
 use Rattle.pfc_semantics.specs.Rendezvous.{parameters_taken, meeting_of, met_by, called_into, called_at, asked, accepts_from}
-use Rattle.pfc_semantics.specs.Selects.{communicates_by, communicates, partner_at, meets_or_waits, meets_at, matched_places, place_taken, open_at, takes, Timeout, timeout_at, or_timeout, open_timeout, latest, waits_until, waits_or_closed, times_out, goes_otherwise, decides_by}
+use Rattle.pfc_semantics.specs.Selects.{communicates_by, communicates, partner_at, meets_or_waits, meets_at, matched_places, place_taken, open_at, takes}
+use Rattle.pfc_semantics.specs.Selects.{Timeout, timeout_at, or_timeout, open_timeout, latest, waits_until, waits_or_closed, times_out, goes_otherwise}
+use Rattle.pfc_semantics.specs.Selects.{decides_by}
 use Rattle.pfc_guard_laws.specs.Tops.{Tops, Standing}
 use Rattle.pfc_guard_laws.specs.Remainders.{SuitsOffer, SuitsOpen, SuitOpens, SuitsOtherwise, SuitsSelecting, SuitsRemainder}
 use Rattle.pfc_guard_laws.specs.Configurations.{standing_in, SuitsHand, SuitsConfig}

@@ -1,5 +1,6 @@
 -- Behind every action what is left calls what the rules ask, and each guard is of its own resource.
-use Rattle.std.proofs.Common.{◌≡◌, ◌≢◌, ℕ, ℤ, pos, negsuc, zero, suc, ◌+◌, Bool, true, false, nat_le, if◌then◌else◌, List, [], ◌∷◌, ◌++◌, Option, Some, None, is_some, Result, Ok, Err, refl, ap, sym, ◌∙◌, subst}
+use Rattle.std.proofs.Common.{◌≡◌, ◌≢◌, ℕ, ℤ, pos, negsuc, zero, suc, ◌+◌, Bool, true, false, nat_le, if◌then◌else◌, List, [], ◌∷◌, ◌++◌, Option, Some, None}
+use Rattle.std.proofs.Common.{is_some, Result, Ok, Err, refl, ap, sym, ◌∙◌, subst}
 use Rattle.std.specs.Prelude.{◌*◌, ◌/◌}
 use Rattle.rand_pcg.specs.Lcg.{Lcg}
 use Rattle.pfc_base.specs.declared.faults.RunFault.{RunFault}
@@ -25,14 +26,21 @@ use Rattle.pfc_semantics.specs.Objects.{module_number}
 use Rattle.pfc_semantics.specs.Operators.{simple_of}
 use Rattle.pfc_semantics.specs.Displays.{Spot}
 use Rattle.pfc_semantics.specs.Programs.{Guard, Block, Program, block_at}
-use Rattle.pfc_semantics.specs.Remainders.{Context, Argument, Bar, Call, Remainder, AwaitsValue, Scan, Tried, Way, leave, own as trying, in_names, scan_on, try_guard, try_other, to_procedure, to_function, to_module, to_requeue, to_process, to_entry, Action, reads, writes, turns, calls, finishes, prints, inputs, skips, asks_eof, asks_eoln, asks_clock, asks_empty, draws, joins, initials, waits, signals, delays, resumes, sleeps, meets, decides, parts, scans, bars, passes, faults}
+use Rattle.pfc_semantics.specs.Remainders.{Context, Argument, Bar, Call, Remainder, AwaitsValue, Scan, Tried, Way, leave, own as trying, in_names, scan_on}
+use Rattle.pfc_semantics.specs.Remainders.{try_guard, try_other, to_procedure, to_function, to_module, to_requeue, to_process, to_entry, Action, reads, writes}
+use Rattle.pfc_semantics.specs.Remainders.{turns, calls, finishes, prints, inputs, skips, asks_eof, asks_eoln, asks_clock, asks_empty, draws, joins, initials}
+use Rattle.pfc_semantics.specs.Remainders.{waits, signals, delays, resumes, sleeps, meets, decides, parts, scans, bars, passes, faults}
 use Rattle.pfc_semantics.specs.Rewriting.{going, holding}
-use Rattle.pfc_semantics.specs.Configurations.{Mark, plain, of_monitor, of_resource, Caller, of_nobody, of_remainder, of_value, Activation, Activity, Hand, empty_hand, offering, asking, barred_at, Config, Effect, activity_of, goes_on, showing, value_for, number_for, written_for, all_passed, with_table, counted, with_counted, monitors_held, with_monitors, resources_held, with_resources, body_of}
+use Rattle.pfc_semantics.specs.Configurations.{Mark, plain, of_monitor, of_resource, Caller, of_nobody, of_remainder, of_value, Activation, Activity, Hand}
+use Rattle.pfc_semantics.specs.Configurations.{empty_hand, offering, asking, barred_at, Config, Effect, activity_of, goes_on, showing, value_for, number_for}
+use Rattle.pfc_semantics.specs.Configurations.{written_for, all_passed, with_table, counted, with_counted, monitors_held, with_monitors, resources_held}
+use Rattle.pfc_semantics.specs.Configurations.{with_resources, body_of}
 use Rattle.pfc_semantics.specs.Calls.{cells_above, new_number, new_values, new_activation, activated, result_in, unless_full}
 use Rattle.pfc_semantics.specs.Processes.{declaration_of, process_block, created, creates, joined, ended_activity, without_all, ended_process}
 use Rattle.pfc_semantics.specs.Semaphores.{initials_at, signals_to}
 use Rattle.pfc_semantics.specs.Monitors.{enters_monitor}
-use Rattle.pfc_semantics.specs.Resources.{bar_of, guarded_body, enters_resource, scan_of, tried, tried_at, scanned_all, scanned_to, passed_by, way_to, resource_marked, requeued_in, requeues}
+use Rattle.pfc_semantics.specs.Resources.{bar_of, guarded_body, enters_resource, scan_of, tried, tried_at, scanned_all, scanned_to, passed_by, way_to}
+use Rattle.pfc_semantics.specs.Resources.{resource_marked, requeued_in, requeues}
 use Rattle.pfc_semantics.specs.Channels.{Side, side_of}
 use Rattle.pfc_semantics.specs.Rendezvous.{called_at, enters}
 use Rattle.pfc_semantics.specs.Selects.{latest, matched_places}
@@ -43,7 +51,8 @@ use Rattle.pfc_guard_laws.specs.Written.{IsCalled, IsEntered, IsOfModule, Requeu
 use Rattle.pfc_guard_laws.specs.Remainders.{SuitsBar, SuitsWay, SuitsScan, SuitsRemainder, SuitsAwaiting, SuitsCalling, SuitsAction}
 use Rattle.pfc_guard_laws.specs.Configurations.{SuitsInOrder, mark_in, scope_in, standing_in, StandsOn, SuitsCaller, SuitActivations, SuitsHand, SuitsConfig}
 use Rattle.pfc_guard_laws.proofs.Ordering.{none_ordered, first_ordered, below_ordered, replaced_ordered}
-use Rattle.pfc_guard_laws.proofs.Steps.{SuitsEffect, instead, other_instead, effect_either, full_suits, unguarded_suits, bar_suits, entered_suits, body_suits, guarded_suits, with_activity_suits, instead_suits, on_it_goes, it_holds, it_shows, activated_suits, left_suits}
+use Rattle.pfc_guard_laws.proofs.Steps.{SuitsEffect, instead, other_instead, effect_either, full_suits, unguarded_suits, bar_suits, entered_suits, body_suits}
+use Rattle.pfc_guard_laws.proofs.Steps.{guarded_suits, with_activity_suits, instead_suits, on_it_goes, it_holds, it_shows, activated_suits, left_suits}
 use Rattle.pfc_guard_laws.proofs.Communications.{partner_suits, called_at_suits, meets_suit, decides_suit}
 
 -- who is ready is not finished

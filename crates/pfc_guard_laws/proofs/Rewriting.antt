@@ -9,15 +9,24 @@ use Rattle.pfc_semantics.specs.Displays.{TypedSpot}
 use Rattle.pfc_semantics.specs.Operators.{signed, added, multiplied, compared}
 use Rattle.pfc_semantics.specs.Programs.{Program}
 use Rattle.pfc_guard_laws.specs.Tops.{Standing}
-use Rattle.pfc_semantics.specs.Remainders.{Context, Tried, Scan, Remainder, AwaitsValue, AwaitsLocation, ends, perform, in_names, turn, until, behind_pass, next_pass, write_on, read_on, at_coend, part_from, write_again, go_through, try_guard, scan_on, try_other, begin_sum, add_to, begin_product, multiply_by, compare_with, compare_to, invert, apply, index_into, pass_value, store_at, choose, choose_arm, while_true, until_true, count_from, count_to, show, show_wide, pad, set_count, delay_with, sleep_for, send_on, open_if, offer_value, offer_wait, pass_own, pass_other, read_for, assign_to, input_to, pass_variable, ask_empty, activate_with, enter_with, initial_to, wait_at, signal_at, delay_at, resume_at, send_to, receive_from, receive_into, offer_to, offer_from, offer_into, by_value, by_reference, to_process, to_entry, to_send, to_receive, writes, turns, initials, bars, scans, passes}
+use Rattle.pfc_semantics.specs.Remainders.{Context, Tried, Scan, Remainder, AwaitsValue, AwaitsLocation, ends, perform, in_names, turn, until, behind_pass}
+use Rattle.pfc_semantics.specs.Remainders.{next_pass, write_on, read_on, at_coend, part_from, write_again, go_through, try_guard, scan_on, try_other, begin_sum}
+use Rattle.pfc_semantics.specs.Remainders.{add_to, begin_product, multiply_by, compare_with, compare_to, invert, apply, index_into, pass_value, store_at}
+use Rattle.pfc_semantics.specs.Remainders.{choose, choose_arm, while_true, until_true, count_from, count_to, show, show_wide, pad, set_count, delay_with}
+use Rattle.pfc_semantics.specs.Remainders.{sleep_for, send_on, open_if, offer_value, offer_wait, pass_own, pass_other, read_for, assign_to, input_to}
+use Rattle.pfc_semantics.specs.Remainders.{pass_variable, ask_empty, activate_with, enter_with, initial_to, wait_at, signal_at, delay_at, resume_at, send_to}
+use Rattle.pfc_semantics.specs.Remainders.{receive_from, receive_into, offer_to, offer_from, offer_into, by_value, by_reference, to_process, to_entry, to_send}
+use Rattle.pfc_semantics.specs.Remainders.{to_receive, writes, turns, initials, bars, scans, passes}
 use Rattle.pfc_semantics.specs.Expressions.{element_spot, from_summands, from_multipliers, from_selectors, from_indices}
 use Rattle.pfc_semantics.specs.Alternatives.{context, with_open, from_alternatives}
 use Rattle.pfc_semantics.specs.Statements.{from_stmt, from_until, from_bounds, from_width, shown_as, counting, again}
 use Rattle.pfc_semantics.specs.Rewriting.{from_other, from_remainder, from_location, from_value, Doing, going, holding, next}
 use Rattle.pfc_guard_laws.specs.Remainders.{SuitsBar, SuitsScan, SuitsRemainder, SuitsAwaiting, SuitsGoal, SuitsAction, SuitsDoing}
-use Rattle.pfc_guard_laws.proofs.Expressions.{either, number_on, element_on, function_ends, expr_suits, simple_suits, summands_suit, multipliers_suit, args_suit, selectors_suit, indices_suit}
+use Rattle.pfc_guard_laws.proofs.Expressions.{either, number_on, element_on, function_ends, expr_suits, simple_suits, summands_suit, multipliers_suit}
+use Rattle.pfc_guard_laws.proofs.Expressions.{args_suit, selectors_suit, indices_suit}
 use Rattle.pfc_guard_laws.proofs.Alternatives.{open_suits, seconds_suit, message_suits, receiver_suits, opened_suits, guard_suits, alternatives_suit}
-use Rattle.pfc_guard_laws.proofs.Statements.{width_suits, writes_suit, reads_suit, delay_suits, sent_suits, received_suits, pass_begins, bounds_suit, pass_suits, until_suits, stmt_suits, stmts_suit, arms_suit}
+use Rattle.pfc_guard_laws.proofs.Statements.{width_suits, writes_suit, reads_suit, delay_suits, sent_suits, received_suits, pass_begins, bounds_suit}
+use Rattle.pfc_guard_laws.proofs.Statements.{pass_suits, until_suits, stmt_suits, stmts_suit, arms_suit}
 
 -- what is so of a scan does not tell past which ticket it goes
 abbrev pub GoesPast : (Scan → Type 0) → Type 0

@@ -8,7 +8,8 @@ use Rattle.pfc_world.specs.Transitions.{ticked}
 use Rattle.pfc_world.specs.Settling.{may_all_end, settled}
 use Rattle.pfc_semantics.specs.Programs.{Block, Program}
 use Rattle.pfc_semantics.specs.Remainders.{Action, Bar, Scan, Remainder, in_names, scans, bars}
-use Rattle.pfc_semantics.specs.Configurations.{plain, Activation, Activity, Hand, barred_at, Config, Effect, nobody, activity_of, body_of, initialising, main_activation, idle_activity, start, done_at, after}
+use Rattle.pfc_semantics.specs.Configurations.{plain, Activation, Activity, Hand, barred_at, Config, Effect, nobody, activity_of, body_of, initialising}
+use Rattle.pfc_semantics.specs.Configurations.{main_activation, idle_activity, start, done_at, after}
 use Rattle.pfc_semantics.specs.Processes.{ended_activity}
 use Rattle.pfc_semantics.specs.Steps.{next_of, effect, line_of}
 use Rattle.pfc_semantics.specs.Events.{step}

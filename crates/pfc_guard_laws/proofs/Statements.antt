@@ -4,8 +4,11 @@ use Rattle.std.specs.Ordering.{int_eq}
 use Rattle.pfc_base.specs.declared.places.Place.{Place}
 use Rattle.pfc_base.specs.declared.faults.RunFault.{RunFault}
 use Rattle.pfc_tree.specs.Symbols.{Text}
-use Rattle.pfc_tree.specs.trees.Exprs.{ExprTree, DesigTree, SelectorTrees, ActualTree, ActualTrees, plain, sum, no_summands, product, no_multipliers, applied as used, desig, no_selectors, more_selectors, actual, actual_width, no_actuals, more_actuals}
-use Rattle.pfc_tree.specs.trees.Stmts.{StmtTree, StmtTrees, ArmTrees, empty, null, block, if_then, if_then_else, case_of, while_do, repeat_until, repeat_forever, for_do, cobegin, accepting, requeue, select, select_else, assign, send, receive, call, no_stmts, more_stmts, body, arm, no_arms, more_arms}
+use Rattle.pfc_tree.specs.trees.Exprs.{ExprTree, DesigTree, SelectorTrees, ActualTree, ActualTrees, plain, sum, no_summands, product, no_multipliers}
+use Rattle.pfc_tree.specs.trees.Exprs.{applied as used, desig, no_selectors, more_selectors, actual, actual_width, no_actuals, more_actuals}
+use Rattle.pfc_tree.specs.trees.Stmts.{StmtTree, StmtTrees, ArmTrees, empty, null, block, if_then, if_then_else, case_of, while_do, repeat_until}
+use Rattle.pfc_tree.specs.trees.Stmts.{repeat_forever, for_do, cobegin, accepting, requeue, select, select_else, assign, send, receive, call, no_stmts}
+use Rattle.pfc_tree.specs.trees.Stmts.{more_stmts, body, arm, no_arms, more_arms}
 use Rattle.pfc_types.specs.Scopes.{meaning_of, meaning_in, scope_at}
 use Rattle.pfc_types.specs.Blocks.{sub_at, module_at, process_at, entry_at}
 use Rattle.pfc_types.specs.rules.Expressions.{Env, find, as_desig, expr_type, desig_type, selected}
@@ -22,11 +25,21 @@ use Rattle.pfc_semantics.specs.Displays.{Spot, TypedSpot}
 use Rattle.pfc_semantics.specs.Predeclared.{Procedure, reader, writer, initial, wait, signal, delay, resume, sleep, no_procedure, procedure_of}
 use Rattle.pfc_semantics.specs.Programs.{Program}
 use Rattle.pfc_guard_laws.specs.Tops.{Standing}
-use Rattle.pfc_semantics.specs.Remainders.{Context, Count, Otherwise, Scan, Remainder, Action, to_send, to_receive, turn, until, next_pass, write_on, read_on, at_coend, store_at, choose, choose_arm, while_true, until_true, count_from, count_to, show, show_wide, pad, set_count, delay_with, sleep_for, send_on, assign_to, input_to, activate_with, enter_with, initial_to, wait_at, signal_at, delay_at, resume_at, send_to, receive_from, receive_into, to_procedure, to_module, to_requeue, to_process, to_entry, writes, turns, prints, inputs, skips, joins, initials, waits, signals, delays, resumes, sleeps, meets}
+use Rattle.pfc_semantics.specs.Remainders.{Context, Count, Otherwise, Scan, Remainder, Action, to_send, to_receive, turn, until, next_pass, write_on, read_on}
+use Rattle.pfc_semantics.specs.Remainders.{at_coend, store_at, choose, choose_arm, while_true, until_true, count_from, count_to, show, show_wide, pad}
+use Rattle.pfc_semantics.specs.Remainders.{set_count, delay_with, sleep_for, send_on, assign_to, input_to, activate_with, enter_with, initial_to, wait_at}
+use Rattle.pfc_semantics.specs.Remainders.{signal_at, delay_at, resume_at, send_to, receive_from, receive_into, to_procedure, to_module, to_requeue, to_process}
+use Rattle.pfc_semantics.specs.Remainders.{to_entry, writes, turns, prints, inputs, skips, joins, initials, waits, signals, delays, resumes, sleeps, meets}
 use Rattle.pfc_semantics.specs.Expressions.{spot_of, from_expr, from_args}
 use Rattle.pfc_semantics.specs.Alternatives.{context, alternatives, select_begun, message_of, receiver_of}
-use Rattle.pfc_semantics.specs.Statements.{behind, from_assign, as_string, from_piece, from_width, shown_as, from_string, from_wide_string, from_item, from_writes, item_of, from_input, from_reads, expr_of, behind_first, from_initial, from_delay, from_procedure, from_activation, from_entry_call, from_entry, name_in_process, process_of_type, from_process, from_field, from_called_variable, from_called_process, from_exported, from_module, from_called, from_call, from_requeue, plain_open, from_sent, from_send, from_received, from_receive, is_past, counting, next_count, begin_pass, from_bounds, from_pass, again, from_until, are_labels, from_stmt, from_stmts, from_arms}
-use Rattle.pfc_guard_laws.specs.Written.{SuitsExport, SuitsModule, SuitsCalled, SuitsRequeue, SuitsExpr, SuitsDesig, SuitSelectors, SuitsActual, SuitActuals, SuitsPerhaps, SuitsTarget, SuitsCall, SuitsStmt, SuitStmts, SuitArms}
+use Rattle.pfc_semantics.specs.Statements.{behind, from_assign, as_string, from_piece, from_width, shown_as, from_string, from_wide_string, from_item}
+use Rattle.pfc_semantics.specs.Statements.{from_writes, item_of, from_input, from_reads, expr_of, behind_first, from_initial, from_delay, from_procedure}
+use Rattle.pfc_semantics.specs.Statements.{from_activation, from_entry_call, from_entry, name_in_process, process_of_type, from_process, from_field}
+use Rattle.pfc_semantics.specs.Statements.{from_called_variable, from_called_process, from_exported, from_module, from_called, from_call, from_requeue}
+use Rattle.pfc_semantics.specs.Statements.{plain_open, from_sent, from_send, from_received, from_receive, is_past, counting, next_count, begin_pass}
+use Rattle.pfc_semantics.specs.Statements.{from_bounds, from_pass, again, from_until, are_labels, from_stmt, from_stmts, from_arms}
+use Rattle.pfc_guard_laws.specs.Written.{SuitsExport, SuitsModule, SuitsCalled, SuitsRequeue, SuitsExpr, SuitsDesig, SuitSelectors, SuitsActual, SuitActuals}
+use Rattle.pfc_guard_laws.specs.Written.{SuitsPerhaps, SuitsTarget, SuitsCall, SuitsStmt, SuitStmts, SuitArms}
 use Rattle.pfc_guard_laws.specs.Remainders.{SuitsCount, SuitsRemainder, SuitsAction}
 use Rattle.pfc_guard_laws.proofs.Expressions.{either, expr_suits, desig_suits, args_suit, selectors_suit, argument_suits, reference_suits}
 use Rattle.pfc_guard_laws.proofs.Alternatives.{perhaps_unless, target_unless, begun_suits, accepted_suits, all_suit, alternatives_suit}

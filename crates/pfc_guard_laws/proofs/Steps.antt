@@ -1,5 +1,6 @@
 -- What changes of configurations leave: activities.
-use Rattle.std.proofs.Common.{◌≡◌, ◌≢◌, ℕ, zero, suc, Bool, true, false, if◌then◌else◌, List, [], ◌∷◌, get_or, set, Option, Some, None, Ok, Err, refl, ap, sym, ◌∙◌, subst, arith}
+use Rattle.std.proofs.Common.{◌≡◌, ◌≢◌, ℕ, zero, suc, Bool, true, false, if◌then◌else◌, List, [], ◌∷◌, get_or, set, Option, Some, None, Ok, Err, refl, ap, sym}
+use Rattle.std.proofs.Common.{◌∙◌, subst, arith}
 use Rattle.std.proofs.lemmas.Bool.Decides.{nat_tests}
 use Rattle.std.specs.Prelude.{◌==◌, nat_le}
 use Rattle.pfc_base.specs.declared.faults.RunFault.TheVariants.{Stack}
@@ -9,7 +10,8 @@ use Rattle.pfc_semantics.specs.Store.{with_room, without}
 use Rattle.pfc_semantics.specs.Programs.{Block, Guard, Program, block_at}
 use Rattle.pfc_semantics.specs.Remainders.{Context, Argument, Scan, Remainder, AwaitsValue, ends}
 use Rattle.pfc_semantics.specs.Rewriting.{Doing, going, holding}
-use Rattle.pfc_semantics.specs.Configurations.{Mark, of_resource, Caller, Activation, Activity, Hand, Config, Effect, body_of, nobody, activity_of, with_activity, doing_next, goes_on, holds, showing, all_passed}
+use Rattle.pfc_semantics.specs.Configurations.{Mark, of_resource, Caller, Activation, Activity, Hand, Config, Effect, body_of, nobody, activity_of}
+use Rattle.pfc_semantics.specs.Configurations.{with_activity, doing_next, goes_on, holds, showing, all_passed}
 use Rattle.pfc_semantics.specs.Calls.{most_cells, unless_full, new_number, new_values, new_activation, activated, left_by}
 use Rattle.pfc_semantics.specs.Resources.{bar_of, guarded_body}
 use Rattle.pfc_translation.specs.Calls.{resource_of}
@@ -17,7 +19,8 @@ use Rattle.pfc_translation.specs.Images.{site_in}
 use Rattle.pfc_guard_laws.specs.Tops.{Tops, Standing, standing_at, Comes, IsOrdered, Lives}
 use Rattle.pfc_guard_laws.specs.Written.{IsUnguarded, IsInResource, SuitStmts}
 use Rattle.pfc_guard_laws.specs.Remainders.{SuitsBar, SuitsRemainder, SuitsAwaiting, SuitsDoing}
-use Rattle.pfc_guard_laws.specs.Configurations.{SuitsBody, SuitsBlock, SuitsInOrder, scope_in, standing_in, StandsOn, SuitsCaller, SuitActivations, SuitsHand, SuitsActivity, SuitsConfig}
+use Rattle.pfc_guard_laws.specs.Configurations.{SuitsBody, SuitsBlock, SuitsInOrder, scope_in, standing_in, StandsOn, SuitsCaller, SuitActivations, SuitsHand}
+use Rattle.pfc_guard_laws.specs.Configurations.{SuitsActivity, SuitsConfig}
 use Rattle.pfc_guard_laws.proofs.Statements.{behind_suits}
 use Rattle.pfc_guard_laws.proofs.Ordering.{none_ordered, called_ordered}
 use Rattle.pfc_guard_laws.proofs.Found.{guarded_there, found_suits}

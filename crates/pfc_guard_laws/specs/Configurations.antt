@@ -3,7 +3,8 @@ use Rattle.std.specs.Prelude.{ℕ, ◌≡◌, ◌≢◌, List, [], ◌∷◌, Op
 use Rattle.std.specs.List.{AllByRecursion}
 use Rattle.pfc_semantics.specs.Programs.{Guard, Block, Program}
 use Rattle.pfc_semantics.specs.Remainders.{Way, Scan, Action, leave, own as trying, scans, passes}
-use Rattle.pfc_semantics.specs.Configurations.{Mark, plain, of_resource, Caller, of_nobody, of_remainder, of_value, Activation, Hand, empty_hand, offering, asking, barred_at, Activity, Config, declared_block, activity_of}
+use Rattle.pfc_semantics.specs.Configurations.{Mark, plain, of_resource, Caller, of_nobody, of_remainder, of_value, Activation, Hand, empty_hand, offering}
+use Rattle.pfc_semantics.specs.Configurations.{asking, barred_at, Activity, Config, declared_block, activity_of}
 use Rattle.pfc_translation.specs.Calls.{resource_of}
 use Rattle.pfc_translation.specs.Images.{site_in}
 use Rattle.pfc_run_rules.specs.Rules.{HasLeft}

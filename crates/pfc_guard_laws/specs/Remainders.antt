@@ -6,10 +6,21 @@ use Rattle.pfc_types.specs.rules.Expressions.{Env}
 use Rattle.pfc_types.specs.rules.Statements.{within_accept, scopes_in, comm_scopes}
 use Rattle.pfc_semantics.specs.Programs.{Program}
 use Rattle.pfc_guard_laws.specs.Tops.{Tops, Standing}
-use Rattle.pfc_semantics.specs.Remainders.{Count, Offer, Open, Alternative, Otherwise, Selecting, Bar, Way, Scan, Remainder, AwaitsValue, AwaitsLocation, Call, Action, to_send, to_receive, to_accept, to_wait, to_end, leave, own, ends, perform, in_names, turn, until, behind_pass, next_pass, write_on, read_on, at_coend, part_from, write_again, go_through, try_guard, scan_on, try_other, begin_sum, add_to, begin_product, multiply_by, compare_with, compare_to, invert, apply, index_into, pass_value, store_at, choose, choose_arm, while_true, until_true, count_from, count_to, show, show_wide, pad, set_count, delay_with, sleep_for, send_on, open_if, offer_value, offer_wait, pass_own, pass_other, read_for, assign_to, input_to, pass_variable, ask_empty, activate_with, enter_with, initial_to, wait_at, signal_at, delay_at, resume_at, send_to, receive_from, receive_into, offer_to, offer_from, offer_into, to_procedure, to_function, to_module, to_requeue, to_process, to_entry, reads, writes, turns, calls, finishes, prints, inputs, skips, asks_eof, asks_eoln, asks_clock, asks_empty, draws, joins, initials, waits, signals, delays, resumes, sleeps, meets, decides, parts, scans, bars, passes, faults}
+use Rattle.pfc_semantics.specs.Remainders.{Count, Offer, Open, Alternative, Otherwise, Selecting, Bar, Way, Scan, Remainder, AwaitsValue, AwaitsLocation, Call}
+use Rattle.pfc_semantics.specs.Remainders.{Action, to_send, to_receive, to_accept, to_wait, to_end, leave, own, ends, perform, in_names, turn, until}
+use Rattle.pfc_semantics.specs.Remainders.{behind_pass, next_pass, write_on, read_on, at_coend, part_from, write_again, go_through, try_guard, scan_on}
+use Rattle.pfc_semantics.specs.Remainders.{try_other, begin_sum, add_to, begin_product, multiply_by, compare_with, compare_to, invert, apply, index_into}
+use Rattle.pfc_semantics.specs.Remainders.{pass_value, store_at, choose, choose_arm, while_true, until_true, count_from, count_to, show, show_wide, pad}
+use Rattle.pfc_semantics.specs.Remainders.{set_count, delay_with, sleep_for, send_on, open_if, offer_value, offer_wait, pass_own, pass_other, read_for}
+use Rattle.pfc_semantics.specs.Remainders.{assign_to, input_to, pass_variable, ask_empty, activate_with, enter_with, initial_to, wait_at, signal_at, delay_at}
+use Rattle.pfc_semantics.specs.Remainders.{resume_at, send_to, receive_from, receive_into, offer_to, offer_from, offer_into, to_procedure, to_function}
+use Rattle.pfc_semantics.specs.Remainders.{to_module, to_requeue, to_process, to_entry, reads, writes, turns, calls, finishes, prints, inputs, skips, asks_eof}
+use Rattle.pfc_semantics.specs.Remainders.{asks_eoln, asks_clock, asks_empty, draws, joins, initials, waits, signals, delays, resumes, sleeps, meets, decides}
+use Rattle.pfc_semantics.specs.Remainders.{parts, scans, bars, passes, faults}
 use Rattle.pfc_semantics.specs.Rewriting.{Doing, going, holding}
 use Rattle.pfc_run_rules.specs.Rules.{IsOfItsBlock}
-use Rattle.pfc_guard_laws.specs.Written.{IsCalled, IsEntered, MayRequeue, SuitsExpr, SuitsSimple, SuitSummands, SuitMultipliers, SuitSelectors, SuitExprs, SuitActuals, SuitsPerhaps, SuitsTarget, SuitsStmt, SuitStmts, SuitArms, SuitsComm}
+use Rattle.pfc_guard_laws.specs.Written.{IsCalled, IsEntered, MayRequeue, SuitsExpr, SuitsSimple, SuitSummands, SuitMultipliers, SuitSelectors, SuitExprs}
+use Rattle.pfc_guard_laws.specs.Written.{SuitActuals, SuitsPerhaps, SuitsTarget, SuitsStmt, SuitStmts, SuitArms, SuitsComm}
 
 -- ## Guards and scans; a guard is tried wherever a process stands
 

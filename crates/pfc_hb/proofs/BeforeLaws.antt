@@ -1,10 +1,12 @@
 -- The order of events, and that its computed reading is the relation.
-use Rattle.std.proofs.Common.{◌≡◌, ℕ, zero, suc, ◌<◌, ◌≤◌, ◌⊎◌, inl, inr, Bool, true, false, not, ◌&&◌, ◌||◌, eqb, List, [], ◌∷◌, length, get_or, Decides, arith, refl, sym, subst, ◌∙◌, eqb-true, eq-eqb}
+use Rattle.std.proofs.Common.{◌≡◌, ℕ, zero, suc, ◌<◌, ◌≤◌, ◌⊎◌, inl, inr, Bool, true, false, not, ◌&&◌, ◌||◌, eqb, List, [], ◌∷◌, length, get_or, Decides}
+use Rattle.std.proofs.Common.{arith, refl, sym, subst, ◌∙◌, eqb-true, eq-eqb}
 use Rattle.std.specs.List.{list_any, Contains}
 use Rattle.std.proofs.lemmas.Bool.{or_cases, or_left, or_right, cases_Bool, cases_eq, false≢true}
 use Rattle.std.proofs.lemmas.List.Elements.{Contains-get_or, Contains-append_left, Contains-push, Contains-push_cases}
 use Rattle.pfc_hb.specs.declared.events.Event.{Event}
-use Rattle.pfc_hb.specs.Order.{no_event, event_at, has_same_process, wakes_process_of, shares_thing, acts_between, is_cause, Before, some_cause, with_place, reached, is_before}
+use Rattle.pfc_hb.specs.Order.{no_event, event_at, has_same_process, wakes_process_of, shares_thing, acts_between, is_cause, Before, some_cause, with_place}
+use Rattle.pfc_hb.specs.Order.{reached, is_before}
 use Rattle.pfc_hb.specs.Order.Before.{direct, through}
 use Rattle.pfc_hb.specs.Clocks.{leads}
 use Rattle.pfc_hb.proofs.ListAny.{list_any-found, list_any-contained, list_any-between}

@@ -1,5 +1,6 @@
 -- Clocks: the steps by which one is gathered, and what the clocks of all events tell.
-use Rattle.std.proofs.Common.{◌≡◌, ◌≢◌, ℕ, zero, suc, ◌+◌, ◌<◌, ◌≤◌, max, ◌⊎◌, inl, inr, Bool, true, ◌||◌, eqb, ltb, List, [], length, map, get_or, set, replicate, Decides, arith, refl, ap, sym, subst, ◌∙◌, eqb-true, eq-eqb}
+use Rattle.std.proofs.Common.{◌≡◌, ◌≢◌, ℕ, zero, suc, ◌+◌, ◌<◌, ◌≤◌, max, ◌⊎◌, inl, inr, Bool, true, ◌||◌, eqb, ltb, List, [], length, map, get_or, set}
+use Rattle.std.proofs.Common.{replicate, Decides, arith, refl, ap, sym, subst, ◌∙◌, eqb-true, eq-eqb}
 use Rattle.std.specs.List.{list_any, All}
 use Rattle.std.proofs.lemmas.Bool.{or_cases, or_left, or_right, cases_eq, cases_lt, false≢true, ltb-true, lt-ltb}
 use Rattle.std.proofs.lemmas.Bool.Decides.{same_from_decides}
@@ -9,7 +10,8 @@ use Rattle.pfc_hb.specs.declared.objects.Thing.{Thing}
 use Rattle.pfc_hb.specs.declared.objects.Thing.TheVariants.{Semaphore, Channel, Monitor, Resource, Owner}
 use Rattle.pfc_hb.specs.Order.{no_event, event_at, shares_thing, is_same_thing, Before, is_before}
 use Rattle.pfc_hb.specs.Order.Before.{through}
-use Rattle.pfc_hb.specs.Clocks.{reaches, leads, has_thing, IsLastWith, AreSlots, Has, IsClock, AreClocks, Gathers, Keeps, HasAll, AreColumns, TellsBehind, TellOrder}
+use Rattle.pfc_hb.specs.Clocks.{reaches, leads, has_thing, IsLastWith, AreSlots, Has, IsClock, AreClocks, Gathers, Keeps, HasAll, AreColumns, TellsBehind}
+use Rattle.pfc_hb.specs.Clocks.{TellOrder}
 use Rattle.pfc_hb.proofs.ListAny.{list_any-found, list_any-at}
 use Rattle.pfc_hb.proofs.BeforeLaws.{Before-ordered, Before-cause, cause-leads, leads-before, is_before-decides}
 

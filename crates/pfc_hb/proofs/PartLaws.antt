@@ -1,5 +1,6 @@
 -- Numbers of parts, and the parts within which a spot lies.
-use Rattle.std.proofs.Common.{get_or, ◌≡◌, ℕ, ◌+◌, ◌<◌, ◌≤◌, ◌↔◌, inl, inr, Bool, true, false, ◌&&◌, ℤ, Option, Some, None, eqb, List, [], ◌∷◌, ◌++◌, length, take, arith, refl, sym, ap, subst, ◌∙◌, eqb-true, eq-eqb, Contains, cond}
+use Rattle.std.proofs.Common.{get_or, ◌≡◌, ℕ, ◌+◌, ◌<◌, ◌≤◌, ◌↔◌, inl, inr, Bool, true, false, ◌&&◌, ℤ, Option, Some, None, eqb, List, [], ◌∷◌, ◌++◌, length}
+use Rattle.std.proofs.Common.{take, arith, refl, sym, ap, subst, ◌∙◌, eqb-true, eq-eqb, Contains, cond}
 use Rattle.std.specs.Ordering.{int_eq}
 use Rattle.std.specs.Option.{option_to_list}
 use Rattle.std.specs.Cmp.Rules.{signed_items}

@@ -1,5 +1,6 @@
 -- Users that are put in one by one.
-use Rattle.std.proofs.Common.{get_or, ◌≡◌, ◌≢◌, ℕ, zero, suc, ◌+◌, ◌<◌, ◌≤◌, inl, inr, Bool, true, false, ◌&&◌, ◌||◌, eqb, Some, List, [], ◌++◌, length, replicate, take, drop, arith, refl, sym, ap, ◌∙◌, eqb-true, eq-eqb}
+use Rattle.std.proofs.Common.{get_or, ◌≡◌, ◌≢◌, ℕ, zero, suc, ◌+◌, ◌<◌, ◌≤◌, inl, inr, Bool, true, false, ◌&&◌, ◌||◌, eqb, Some, List, [], ◌++◌, length}
+use Rattle.std.proofs.Common.{replicate, take, drop, arith, refl, sym, ap, ◌∙◌, eqb-true, eq-eqb}
 use Rattle.std.proofs.lemmas.Bool.{cases_eq, false≢true, false_from_ne_true}
 use Rattle.std.proofs.lemmas.List.{append-nil, get_or-replicate, length-drop, length-replicate, nil_from_length, take_all}
 use Rattle.std.proofs.lemmas.List.Folds.{list_any-append, list_any_more}

@@ -10,7 +10,8 @@ use Rattle.pfc_types.specs.rules.Expressions.{find}
 use Rattle.pfc_types.specs.rules.FaultyNames.{stands_faulty}
 use Rattle.pfc_types.specs.rules.Whole.{finished, faults_in, broken, broken_bodies}
 use Rattle.pfc_semantics.specs.Programs.{Block, Guard, Program, program_of}
-use Rattle.pfc_translation.specs.Images.{site_in, guard_code, statements_code, body_code, Piece, a_body, an_initial, a_resource, pieces, resources_in, piece_code, coded, most_arms, image_of}
+use Rattle.pfc_translation.specs.Images.{site_in, guard_code, statements_code, body_code, Piece, a_body, an_initial, a_resource, pieces, resources_in}
+use Rattle.pfc_translation.specs.Images.{piece_code, coded, most_arms, image_of}
 use Rattle.pfc_name_laws.proofs.Numbers.{numbered, no_faulty, none_noted}
 use Rattle.pfc_name_laws.proofs.Parts.{finished_reached}
 use Rattle.pfc_image_numbers.proofs.Rules.{IsClean, clean_of}

@@ -1,7 +1,9 @@
 -- Code with few alternatives in each select: what expressions, calls and communications give has none.
 use Rattle.std.proofs.Common.{ℕ, ◌≤◌, max, Bool, true, false, if◌then◌else◌, List, [], ◌∷◌, Option, Some, None, arith}
 use Rattle.pfc_tree.specs.Symbols.{Text}
-use Rattle.pfc_tree.specs.trees.Exprs.{ExprTree, DesigTree, SelectorTrees, ExprTrees, ActualTree, ActualTrees, plain, sum, no_summands, product, no_multipliers, applied, desig, index, field, no_selectors, more_selectors, no_exprs, more_exprs, actual, actual_width, no_actuals, more_actuals}
+use Rattle.pfc_tree.specs.trees.Exprs.{ExprTree, DesigTree, SelectorTrees, ExprTrees, ActualTree, ActualTrees, plain, sum, no_summands, product, no_multipliers}
+use Rattle.pfc_tree.specs.trees.Exprs.{applied, desig, index, field, no_selectors, more_selectors, no_exprs, more_exprs, actual, actual_width, no_actuals}
+use Rattle.pfc_tree.specs.trees.Exprs.{more_actuals}
 use Rattle.pfc_base.specs.declared.places.Place.{Place}
 use Rattle.pfc_types.specs.declared.types.TypeId.{TypeId}
 use Rattle.pfc_types.specs.declared.scope.Meaning.{Meaning}
@@ -21,8 +23,11 @@ use Rattle.pfc_semantics.specs.Alternatives.{message_of, receiver_of}
 use Rattle.pfc_translation.specs.Sites.{Site, blocks_of, forms_of, context_of}
 use Rattle.pfc_translation.specs.Codes.{Code}
 use Rattle.pfc_translation.specs.Addresses.{type_behind, element_in}
-use Rattle.pfc_translation.specs.Expressions.{expr_code, first_value, first_address, actual_code, lent_code, variable_code, args_code, selectors_code, indices_code, address_code, desig_code, object_code}
-use Rattle.pfc_translation.specs.Calls.{plain_item, wide_item, item_code, writes_code, input_code, reads_code, given_code, rank_code, first_object, procedure_code, exported_code, module_code, requeue_code, activation_code, entry_code, process_code, field_code, called_variable, called_process, called_code, found_code, call_code}
+use Rattle.pfc_translation.specs.Expressions.{expr_code, first_value, first_address, actual_code, lent_code, variable_code, args_code, selectors_code}
+use Rattle.pfc_translation.specs.Expressions.{indices_code, address_code, desig_code, object_code}
+use Rattle.pfc_translation.specs.Calls.{plain_item, wide_item, item_code, writes_code, input_code, reads_code, given_code, rank_code, first_object}
+use Rattle.pfc_translation.specs.Calls.{procedure_code, exported_code, module_code, requeue_code, activation_code, entry_code, process_code, field_code}
+use Rattle.pfc_translation.specs.Calls.{called_variable, called_process, called_code, found_code, call_code}
 use Rattle.pfc_translation.specs.Selects.{message_code, receiver_code, send_code, receive_code, replica_code}
 use Rattle.pfc_translation.specs.Statements.{assign_code}
 use Rattle.pfc_image_laws.proofs.Phrases.{IsAlone, LeadsOn, LeadsBack}

@@ -5,18 +5,23 @@ use Rattle.std.proofs.lemmas.Bool.Decides.{nat_tests}
 use Rattle.pfc_base.specs.declared.places.Place.{Place}
 use Rattle.pfc_tree.specs.declared.tree.Constant.{Constant}
 use Rattle.pfc_tree.specs.trees.Exprs.{ExprTree}
-use Rattle.pfc_tree.specs.trees.Stmts.{StmtTree, StmtTrees, ArmTrees, AcceptTree, AltTree, AltTrees, CommTree, empty, null, block, if_then, if_then_else, case_of, while_do, repeat_until, repeat_forever, for_do, cobegin, accepting, requeue, select, select_else, assign, send, receive, call, no_stmts, more_stmts, body, arm, no_arms, more_arms, accept, accept_do, alt, no_alts, more_alts, comm_accept, comm_send, comm_receive, timeout, terminate}
+use Rattle.pfc_tree.specs.trees.Stmts.{StmtTree, StmtTrees, ArmTrees, AcceptTree, AltTree, AltTrees, CommTree, empty, null, block, if_then, if_then_else}
+use Rattle.pfc_tree.specs.trees.Stmts.{case_of, while_do, repeat_until, repeat_forever, for_do, cobegin, accepting, requeue, select, select_else, assign, send}
+use Rattle.pfc_tree.specs.trees.Stmts.{receive, call, no_stmts, more_stmts, body, arm, no_arms, more_arms, accept, accept_do, alt, no_alts, more_alts}
+use Rattle.pfc_tree.specs.trees.Stmts.{comm_accept, comm_send, comm_receive, timeout, terminate}
 use Rattle.pfc_types.specs.Blocks.{State}
 use Rattle.pfc_types.specs.Scopes.{Level, here, meaning_of}
 use Rattle.pfc_types.specs.rules.Expressions.{Env, find, expr_type}
 use Rattle.pfc_types.specs.declared.types.TypeId.{TypeId}
-use Rattle.pfc_types.specs.rules.Statements.{scopes_in, arm_scopes, comm_scopes, alt_scopes, alts_scopes, alts_count, number_rule, within_accept, within_cobegin, broken_stmt, broken_stmts, broken_arms, broken_accept, broken_alts, broken_alt}
+use Rattle.pfc_types.specs.rules.Statements.{scopes_in, arm_scopes, comm_scopes, alt_scopes, alts_scopes, alts_count, number_rule, within_accept}
+use Rattle.pfc_types.specs.rules.Statements.{within_cobegin, broken_stmt, broken_stmts, broken_arms, broken_accept, broken_alts, broken_alt}
 use Rattle.pfc_semantics.specs.Remainders.{Replica, Alternative}
 use Rattle.pfc_semantics.specs.Alternatives.{message_of, receiver_of, alternatives}
 use Rattle.pfc_translation.specs.Sites.{Site, at_line, in_accept, context_of}
 use Rattle.pfc_translation.specs.Codes.{Code, nothing}
 use Rattle.pfc_translation.specs.Selects.{comm_code, guarded_code, first_of, alternatives_code}
-use Rattle.pfc_translation.specs.Statements.{labels_code, label_count, spread_replicas, chosen_code, sel_code, select_code, stmt_code, stmts_code, tests_code, arms_code, accepted_code, branch_code, branches_code, distances}
+use Rattle.pfc_translation.specs.Statements.{labels_code, label_count, spread_replicas, chosen_code, sel_code, select_code, stmt_code, stmts_code, tests_code}
+use Rattle.pfc_translation.specs.Statements.{arms_code, accepted_code, branch_code, branches_code, distances}
 use Rattle.pfc_image_numbers.proofs.Rules.{IsClean, held}
 use Rattle.pfc_image_alternatives.proofs.Quiet as quiet
 use Rattle.pfc_image_alternatives.proofs.Quiet.{Few, no_code, both, expr}

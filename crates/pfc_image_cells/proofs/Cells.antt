@@ -1,5 +1,6 @@
 -- What the code of each body names by a level and a cell is a variable of the block that is reached: by induction over the phrases.
-use Rattle.std.proofs.Common.{◌≡◌, ℕ, ◌+◌, ◌<◌, ◌≤◌, ◌==◌, ◌||◌, Bool, true, false, if◌then◌else◌, cond, List, [], ◌∷◌, ◌++◌, length, take, get_or, map, position, unwrap_or, ◌⊎◌, inl, inr, Option, Some, None, refl, ap, sym, ◌∙◌, subst, arith}
+use Rattle.std.proofs.Common.{◌≡◌, ℕ, ◌+◌, ◌<◌, ◌≤◌, ◌==◌, ◌||◌, Bool, true, false, if◌then◌else◌, cond, List, [], ◌∷◌, ◌++◌, length, take, get_or, map}
+use Rattle.std.proofs.Common.{position, unwrap_or, ◌⊎◌, inl, inr, Option, Some, None, refl, ap, sym, ◌∙◌, subst, arith}
 use Rattle.std.specs.List.{All}
 use Rattle.std.specs.Option.{IfSome}
 use Rattle.std.proofs.lemmas.Bool.Decides.{nat_tests}
@@ -32,7 +33,8 @@ use Rattle.pfc_types.specs.rules.Bodies.{passed_part, part_scopes}
 use Rattle.pfc_code.specs.declared.instructions.Instr.{Instr}
 use Rattle.pfc_code.specs.declared.instructions.Instr.TheVariants.{ADDR, REF, GRD}
 use Rattle.pfc_code.specs.declared.instructions.Instr.TheVariants as instr
-use Rattle.pfc_translation.specs.Sites.{Site, forms_of, blocks_of, module_of, is_mains, linked, level_of, links_from, links_to, is_accept, before_accept, layout_with, place_of, cell_of, is_reference, refers}
+use Rattle.pfc_translation.specs.Sites.{Site, forms_of, blocks_of, module_of, is_mains, linked, level_of, links_from, links_to, is_accept, before_accept}
+use Rattle.pfc_translation.specs.Sites.{layout_with, place_of, cell_of, is_reference, refers}
 use Rattle.pfc_translation.specs.Codes.{Code, nothing, ◌⨾◌, one}
 use Rattle.pfc_translation.specs.Expressions.{expr_code}
 use Rattle.pfc_translation.specs.Calls.{enter_instr, number_or_none}
@@ -60,7 +62,8 @@ use Rattle.pfc_types.proofs.WalkParts.{scopes_sound}
 use Rattle.pfc_types.specs.rules.FaultyNames.{is_whole_head}
 use Rattle.pfc_types.specs.rules.Statements.{is_around}
 use Rattle.pfc_image_cells.proofs.Layouts.{IsAt, found_place, cells_within, AreLaid, laid_place}
-use Rattle.pfc_image_cells.proofs.Trees.{Fine, Holds, IsInitial, IsLaidOut, IsBlocks, Placed, blocks_placed, initial_placed, main_cells_are, main_found, main_placed, mains_hold, mains_no_sub, own_sub, blocks_laid}
+use Rattle.pfc_image_cells.proofs.Trees.{Fine, Holds, IsInitial, IsLaidOut, IsBlocks, Placed, blocks_placed, initial_placed, main_cells_are, main_found}
+use Rattle.pfc_image_cells.proofs.Trees.{main_placed, mains_hold, mains_no_sub, own_sub, blocks_laid}
 
 -- ## One variable
 

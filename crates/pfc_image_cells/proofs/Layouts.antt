@@ -1,5 +1,6 @@
 -- A variable has a place in the layout of its block.
-use Rattle.std.proofs.Common.{◌≡◌, ℕ, ◌+◌, ◌-◌, ◌<◌, ◌≤◌, zero, suc, nat_lt, not, ◌||◌, Bool, true, false, List, [], ◌∷◌, ◌++◌, length, length-append, take, drop, get_or, slice_get, option_map, bytes_eq, cond, if◌then◌else◌, Option, Some, None, refl, ap, sym, ◌∙◌, subst, arith}
+use Rattle.std.proofs.Common.{◌≡◌, ℕ, ◌+◌, ◌-◌, ◌<◌, ◌≤◌, zero, suc, nat_lt, not, ◌||◌, Bool, true, false, List, [], ◌∷◌, ◌++◌, length, length-append, take}
+use Rattle.std.proofs.Common.{drop, get_or, slice_get, option_map, bytes_eq, cond, if◌then◌else◌, Option, Some, None, refl, ap, sym, ◌∙◌, subst, arith}
 use Rattle.std.specs.List.{position_or_len}
 use Rattle.std.specs.Map.{keys_of}
 use Rattle.std.specs.Option.{option_or}
@@ -17,7 +18,8 @@ use Rattle.pfc_types.specs.declared.heads.SubHead.{SubHead}
 use Rattle.pfc_types.specs.declared.scope.Meaning.{Meaning}
 use Rattle.pfc_types.specs.declared.scope.Meaning.TheVariants.{Constant, Named, Variable, Sub, Module, Process, Entry, Predeclared, Faulty}
 use Rattle.pfc_types.specs.declared.view.Found.{Found}
-use Rattle.pfc_semantics.specs.Layouts.{Layout, is_laid, laid_names, laid_as, main_layout, result_laid, sub_layout, accepts_laid, process_layout, is_module, behind_result, before_module, layout_by}
+use Rattle.pfc_semantics.specs.Layouts.{Layout, is_laid, laid_names, laid_as, main_layout, result_laid, sub_layout, accepts_laid, process_layout, is_module}
+use Rattle.pfc_semantics.specs.Layouts.{behind_result, before_module, layout_by}
 use Rattle.pfc_semantics.specs.Programs.{Block, layout_cells}
 use Rattle.pfc_image_cells.specs.Cells.{IsVariable, names_module}
 use Rattle.pfc_types.specs.declared.types.TypeId.{TypeId}

@@ -1,23 +1,30 @@
 -- Each variable that is in view in a body has a place in the block that holds it: by induction over the parts.
-use Rattle.std.proofs.Common.{◌≡◌, ℕ, ◌+◌, ◌-◌, ◌<◌, ◌≤◌, suc, ◌==◌, nat_lt, nat_le, not, ◌||◌, ◌&&◌, zero, Bool, true, false, List, [], ◌∷◌, ◌++◌, length, take, drop, get_or, slice_get, map, position, is_some, unwrap_or, cond, if◌then◌else◌, Option, Some, None, refl, ap, sym, ◌∙◌, subst, arith}
+use Rattle.std.proofs.Common.{◌≡◌, ℕ, ◌+◌, ◌-◌, ◌<◌, ◌≤◌, suc, ◌==◌, nat_lt, nat_le, not, ◌||◌, ◌&&◌, zero, Bool, true, false, List, [], ◌∷◌, ◌++◌, length}
+use Rattle.std.proofs.Common.{take, drop, get_or, slice_get, map, position, is_some, unwrap_or, cond, if◌then◌else◌, Option, Some, None, refl, ap, sym, ◌∙◌}
+use Rattle.std.proofs.Common.{subst, arith}
 use Rattle.std.specs.List.{All, position_or_len}
 use Rattle.std.specs.Option.{IfSome}
 use Rattle.pfc_types.specs.rules.Expressions.{Env}
 use Rattle.std.proofs.lemmas.Bool.Decides.{nat_tests}
 use Rattle.std.proofs.lemmas.List.Elements.{All-nil, All-cons, All-head, All-tail, All-append}
 use Rattle.pfc_tree.specs.trees.Stmts.{BodyTree, body}
-use Rattle.pfc_tree.specs.trees.Parts.{KindTree, PartTree, PartTrees, SubTree, ModuleTree, ProcessTree, ProgramTree, procedure, function, guarded, consts, types, vars, sub_part, monitor, resource, process_part, no_parts, more_parts, sub, the_module, process}
+use Rattle.pfc_tree.specs.trees.Parts.{KindTree, PartTree, PartTrees, SubTree, ModuleTree, ProcessTree, ProgramTree, procedure, function, guarded, consts}
+use Rattle.pfc_tree.specs.trees.Parts.{types, vars, sub_part, monitor, resource, process_part, no_parts, more_parts, sub, the_module, process}
 use Rattle.pfc_tree.specs.forget.Parts.{forget_part, forget_parts, forget_sub, forget_module, forget_process, forget_program}
-use Rattle.pfc_tree.specs.lawful.Parts.{Home, of_program, of_resource, of_other, HoldsModules, IsLawfulPart, AreLawfulParts, IsLawfulSub, IsLawfulModule, IsLawfulProcess, IsLawful}
+use Rattle.pfc_tree.specs.lawful.Parts.{Home, of_program, of_resource, of_other, HoldsModules, IsLawfulPart, AreLawfulParts, IsLawfulSub, IsLawfulModule}
+use Rattle.pfc_tree.specs.lawful.Parts.{IsLawfulProcess, IsLawful}
 use Rattle.pfc_types.specs.Scopes.{Names, Level, scope_at, here}
 use Rattle.pfc_types.specs.Blocks.{Blocks, State, no_module as no_module_head, module_at, no_sub, sub_at}
 use Rattle.pfc_types.specs.rules.Statements.{body_scopes}
-use Rattle.pfc_types.specs.rules.Bodies.{env_at, around_guard, around_sub, around_process, level, passed, passed_part, passed_groups, passed_entries, part_scopes, parts_scopes, sub_scopes, module_scopes, process_scopes}
+use Rattle.pfc_types.specs.rules.Bodies.{env_at, around_guard, around_sub, around_process, level, passed, passed_part, passed_groups, passed_entries}
+use Rattle.pfc_types.specs.rules.Bodies.{part_scopes, parts_scopes, sub_scopes, module_scopes, process_scopes}
 use Rattle.pfc_types.specs.declared.heads.SubHead.{SubHead}
 use Rattle.pfc_types.specs.declared.heads.ModuleHead.{ModuleHead}
 use Rattle.pfc_types.specs.declared.scope.Meaning.{Meaning}
-use Rattle.pfc_semantics.specs.Layouts.{Layout, is_laid, laid_names, main_layout, before_module, sub_layout, sub_layout_at, layout_by, sub_with, process_layout, behind_result, before_scope, variable_place}
-use Rattle.pfc_semantics.specs.Programs.{Block, Program, layout_cells, block_of, guard_of, found_block, block_at, part_blocks, parts_blocks, sub_blocks, module_blocks, process_blocks, init_block, module_inits, part_inits, parts_inits, env_of_main, program_of}
+use Rattle.pfc_semantics.specs.Layouts.{Layout, is_laid, laid_names, main_layout, before_module, sub_layout, sub_layout_at, layout_by, sub_with, process_layout}
+use Rattle.pfc_semantics.specs.Layouts.{behind_result, before_scope, variable_place}
+use Rattle.pfc_semantics.specs.Programs.{Block, Program, layout_cells, block_of, guard_of, found_block, block_at, part_blocks, parts_blocks, sub_blocks}
+use Rattle.pfc_semantics.specs.Programs.{module_blocks, process_blocks, init_block, module_inits, part_inits, parts_inits, env_of_main, program_of}
 use Rattle.pfc_translation.specs.Sites.{module_of, is_mains, linked, level_of, links_from, is_accept}
 use Rattle.pfc_image_laws.specs.Modules.{modules_from}
 use Rattle.pfc_image_laws.specs.Levels.{links_up, sees}
@@ -25,7 +32,8 @@ use Rattle.pfc_image_laws.proofs.Modules.{program_modules}
 use Rattle.pfc_image_numbers.proofs.Rules.{and_left, and_right}
 use Rattle.pfc_image_cells.specs.Subs.{part_subs, parts_subs, sub_subs, module_subs, process_subs}
 use Rattle.pfc_image_cells.proofs.Subs.{program_subs}
-use Rattle.pfc_image_cells.proofs.Layouts.{IsAt, get_there, sub_place, process_place, accept_place, main_place, module_place, AreLaid, process_is_laid, main_is_laid, sub_is_laid}
+use Rattle.pfc_image_cells.proofs.Layouts.{IsAt, get_there, sub_place, process_place, accept_place, main_place, module_place, AreLaid, process_is_laid}
+use Rattle.pfc_image_cells.proofs.Layouts.{main_is_laid, sub_is_laid}
 use Rattle.pfc_image_cells.specs.Cells.{AreNamed}
 use Rattle.std.proofs.lemmas.List.Quantifiers.{position-Some}
 use Rattle.pfc_types.specs.rules.Whole.{finished}

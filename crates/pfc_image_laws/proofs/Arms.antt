@@ -1,5 +1,6 @@
 -- How many alternatives of a select are open in the code of a phrase, wherever it is put.
-use Rattle.std.proofs.Common.{◌≡◌, ℕ, ◌+◌, ◌-◌, ◌≤◌, Bool, true, false, List, [], ◌∷◌, ◌++◌, length, drop, max, Option, Some, None, cond, refl, sym, subst, arith}
+use Rattle.std.proofs.Common.{◌≡◌, ℕ, ◌+◌, ◌-◌, ◌≤◌, Bool, true, false, List, [], ◌∷◌, ◌++◌, length, drop, max, Option, Some, None, cond, refl, sym, subst}
+use Rattle.std.proofs.Common.{arith}
 use Rattle.std.proofs.Math.Nat.{le-max_left, le-max_right}
 use Rattle.pfc_tree.specs.Symbols.{Text}
 use Rattle.pfc_tree.specs.trees.Exprs.{ExprTree}
@@ -22,9 +23,12 @@ use Rattle.pfc_translation.specs.Codes.{Code, Lined, nothing, ◌⨾◌, one, ov
 use Rattle.pfc_translation.specs.Addresses.{base_code}
 use Rattle.pfc_translation.specs.Expressions.{call_instr, expr_code, object_code}
 use Rattle.pfc_translation.specs.Calls.{enter_instr, resource_of}
-use Rattle.pfc_translation.specs.Selects.{message_code, message_cells, receiver_code, receiver_cells, replica_code, comm_code, guarded_code, alternative_code, first_of, alternatives_code}
+use Rattle.pfc_translation.specs.Selects.{message_code, message_cells, receiver_code, receiver_cells, replica_code, comm_code, guarded_code, alternative_code}
+use Rattle.pfc_translation.specs.Selects.{first_of, alternatives_code}
 use Rattle.pfc_translation.specs.Statements.{sel_code, select_code, stmt_code, stmts_code}
-use Rattle.pfc_translation.specs.Images.{instructions, site_in, guard_code, end_of, statements_code, body_code, Piece, a_body, an_initial, a_resource, pieces, Coded, piece_code, resources_in, coded, strings_in, most_arms, before_main, of_main, size_of, put_from, image_over, image_of}
+use Rattle.pfc_translation.specs.Images.{instructions, site_in, guard_code, end_of, statements_code, body_code, Piece, a_body, an_initial, a_resource, pieces}
+use Rattle.pfc_translation.specs.Images.{Coded, piece_code, resources_in, coded, strings_in, most_arms, before_main, of_main, size_of, put_from, image_over}
+use Rattle.pfc_translation.specs.Images.{image_of}
 use Rattle.pfc_image_laws.specs.Operands.{open_behind}
 use Rattle.pfc_image_laws.specs.Instructions.{Opens}
 use Rattle.pfc_image_laws.proofs.Phrases.{IsAlone, LeadsOn, LeadsBack, Reached, ElseWithin, expr, a_replica, an_object, a_message, a_receiver, stmt, stmts}

@@ -1,5 +1,6 @@
 -- What holds of each instruction of the code of a phrase, wherever it is put.
-use Rattle.std.proofs.Common.{◌≡◌, ℕ, ◌+◌, ◌-◌, ◌<◌, ◌≤◌, suc, Bool, true, false, List, [], ◌∷◌, ◌++◌, length, nat_lt, ◌==◌, position, unwrap_or, Option, Some, None, cond, refl, sym, ◌∙◌, subst, arith, length-append}
+use Rattle.std.proofs.Common.{◌≡◌, ℕ, ◌+◌, ◌-◌, ◌<◌, ◌≤◌, suc, Bool, true, false, List, [], ◌∷◌, ◌++◌, length, nat_lt, ◌==◌, position, unwrap_or, Option, Some}
+use Rattle.std.proofs.Common.{None, cond, refl, sym, ◌∙◌, subst, arith, length-append}
 use Rattle.std.specs.Option.{IfSome}
 use Rattle.std.specs.List.{position_or_len}
 use Rattle.std.proofs.lemmas.Bool.Decides.{nat_tests}

@@ -1,5 +1,6 @@
 -- How the code of an image is laid out: by induction over what stands in the text.
-use Rattle.std.proofs.Common.{◌≡◌, ℕ, ◌+◌, ◌-◌, ◌<◌, ◌≤◌, true, false, List, [], ◌∷◌, ◌++◌, slice_index_or, length, map, Option, Some, None, refl, ap, sym, ◌∙◌, subst, arith, length-append}
+use Rattle.std.proofs.Common.{◌≡◌, ℕ, ◌+◌, ◌-◌, ◌<◌, ◌≤◌, true, false, List, [], ◌∷◌, ◌++◌, slice_index_or, length, map, Option, Some, None, refl, ap, sym, ◌∙◌}
+use Rattle.std.proofs.Common.{subst, arith, length-append}
 use Rattle.std.proofs.lemmas.List.{length-map, append-nil, append_assoc}
 use Rattle.std.specs.List.{All, last_or}
 use Rattle.std.proofs.lemmas.List.Elements.{All-cons, All-map}
@@ -23,11 +24,14 @@ use Rattle.pfc_translation.specs.Codes.{Code, Lined, ◌⨾◌, one}
 use Rattle.pfc_translation.specs.Expressions.{expr_code}
 use Rattle.pfc_translation.specs.Calls.{resource_of}
 use Rattle.pfc_translation.specs.Objects.{all_labelled, names_labelled, process_info, processes_of}
-use Rattle.pfc_translation.specs.Images.{main_process, site_in, guard_code, end_of, statements_code, body_code, Piece, a_body, an_initial, a_resource, resource_end, pieces, Coded, piece_code, resources_in, coded, strings_in, before_main, of_main, size_of, put_from, instructions, block_from, blocks_from, main_block, scans_from, image_over, image_of}
+use Rattle.pfc_translation.specs.Images.{main_process, site_in, guard_code, end_of, statements_code, body_code, Piece, a_body, an_initial, a_resource}
+use Rattle.pfc_translation.specs.Images.{resource_end, pieces, Coded, piece_code, resources_in, coded, strings_in, before_main, of_main, size_of, put_from}
+use Rattle.pfc_translation.specs.Images.{instructions, block_from, blocks_from, main_block, scans_from, image_over, image_of}
 use Rattle.pfc_image_laws.specs.Operands.{ends_body}
 use Rattle.pfc_image_laws.specs.Instructions.{Each, Leads, GoesOn, NamesBlock, NamesText, StaysAbove, IsEnded}
 use Rattle.pfc_image_laws.specs.Layouts.{IsOwn, LaidOut, a_block, a_scan, of_main as the_main}
-use Rattle.pfc_image_laws.proofs.Holds.{block_within, Holds, Fits, held_size, held_each, each_append, each_then, holds_nothing, holds_joined, holds_alone, expr_holds, stmts_hold, each_goes_on, each_links}
+use Rattle.pfc_image_laws.proofs.Holds.{block_within, Holds, Fits, held_size, held_each, each_append, each_then, holds_nothing, holds_joined, holds_alone}
+use Rattle.pfc_image_laws.proofs.Holds.{expr_holds, stmts_hold, each_goes_on, each_links}
 
 -- ## Lists
 

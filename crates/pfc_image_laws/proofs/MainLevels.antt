@@ -14,7 +14,8 @@ use Rattle.pfc_code.specs.declared.instructions.Instr.{Instr}
 use Rattle.pfc_code.specs.declared.images.Block.{Block as CodeBlock}
 use Rattle.pfc_translation.specs.Sites.{level_of}
 use Rattle.pfc_translation.specs.Codes.{Lined}
-use Rattle.pfc_translation.specs.Images.{statements_code, body_code, Piece, a_body, an_initial, a_resource, resource_end, pieces, Coded, coded, strings_in, before_main, of_main, size_of, put_from, instructions, blocks_from, main_block, image_over, image_of}
+use Rattle.pfc_translation.specs.Images.{statements_code, body_code, Piece, a_body, an_initial, a_resource, resource_end, pieces, Coded, coded, strings_in}
+use Rattle.pfc_translation.specs.Images.{before_main, of_main, size_of, put_from, instructions, blocks_from, main_block, image_over, image_of}
 use Rattle.pfc_image_laws.specs.Instructions.{Each, StaysAbove}
 use Rattle.pfc_image_laws.proofs.Holds.{held_size, held_each, each_append, each_links}
 use Rattle.pfc_image_laws.proofs.Layouts.{body, statements_hold, instructions-append}

@@ -1,5 +1,6 @@
 -- What holds of single instructions and is handed on where code stands behind code, holds of the code of all phrases: by induction over them.
-use Rattle.std.proofs.Common.{◌≡◌, ℕ, ◌+◌, ◌≤◌, suc, pos, Bool, true, false, List, [], ◌∷◌, ◌++◌, length, map, Option, Some, None, cond, if◌then◌else◌, refl, arith}
+use Rattle.std.proofs.Common.{◌≡◌, ℕ, ◌+◌, ◌≤◌, suc, pos, Bool, true, false, List, [], ◌∷◌, ◌++◌, length, map, Option, Some, None, cond, if◌then◌else◌, refl}
+use Rattle.std.proofs.Common.{arith}
 use Rattle.pfc_tree.specs.Symbols.{Text}
 use Rattle.pfc_base.specs.declared.places.Place.{Place}
 use Rattle.pfc_tree.specs.declared.tree.Constant.{Constant}
@@ -12,8 +13,14 @@ use Rattle.pfc_tree.specs.declared.tree.AddOp.{AddOp}
 use Rattle.pfc_tree.specs.declared.tree.AddOp.TheVariants.{Add, Sub as Minused, Or}
 use Rattle.pfc_tree.specs.declared.tree.MulOp.{MulOp}
 use Rattle.pfc_tree.specs.declared.tree.MulOp.TheVariants.{Mul, Div, Mod, And}
-use Rattle.pfc_tree.specs.trees.Exprs.{ExprTree, SimpleTree, SummandTrees, TermTree, MultiplierTrees, FactorTree, DesigTree, SelectorTrees, ExprTrees, ActualTree, ActualTrees, plain, related, sum, no_summands, more_summands, product, no_multipliers, more_multipliers, number, literal, negation, paren, applied, desig, index, field, no_selectors, more_selectors, no_exprs, more_exprs, actual, actual_width, no_actuals, more_actuals}
-use Rattle.pfc_tree.specs.trees.Stmts.{StmtTree, StmtTrees, ArmTrees, AcceptTree, AltTree, AltTrees, CommTree, empty, null, block, if_then, if_then_else, case_of, while_do, repeat_until, repeat_forever, for_do, cobegin, accepting, requeue, select, select_else, assign, send, receive, call, no_stmts, more_stmts, body, arm, no_arms, more_arms, accept, accept_do, alt, no_alts, more_alts, comm_accept, comm_send, comm_receive, timeout, terminate}
+use Rattle.pfc_tree.specs.trees.Exprs.{ExprTree, SimpleTree, SummandTrees, TermTree, MultiplierTrees, FactorTree, DesigTree, SelectorTrees, ExprTrees}
+use Rattle.pfc_tree.specs.trees.Exprs.{ActualTree, ActualTrees, plain, related, sum, no_summands, more_summands, product, no_multipliers, more_multipliers}
+use Rattle.pfc_tree.specs.trees.Exprs.{number, literal, negation, paren, applied, desig, index, field, no_selectors, more_selectors, no_exprs, more_exprs}
+use Rattle.pfc_tree.specs.trees.Exprs.{actual, actual_width, no_actuals, more_actuals}
+use Rattle.pfc_tree.specs.trees.Stmts.{StmtTree, StmtTrees, ArmTrees, AcceptTree, AltTree, AltTrees, CommTree, empty, null, block, if_then, if_then_else}
+use Rattle.pfc_tree.specs.trees.Stmts.{case_of, while_do, repeat_until, repeat_forever, for_do, cobegin, accepting, requeue, select, select_else, assign, send}
+use Rattle.pfc_tree.specs.trees.Stmts.{receive, call, no_stmts, more_stmts, body, arm, no_arms, more_arms, accept, accept_do, alt, no_alts, more_alts}
+use Rattle.pfc_tree.specs.trees.Stmts.{comm_accept, comm_send, comm_receive, timeout, terminate}
 use Rattle.pfc_types.specs.declared.types.TypeId.{TypeId}
 use Rattle.pfc_types.specs.declared.types.TypeForm.{TypeForm}
 use Rattle.pfc_types.specs.declared.types.TypeForm.TheVariants.{Channel, Array, Record, Process as ProcessForm}
@@ -35,20 +42,33 @@ use Rattle.pfc_semantics.specs.Operators.{simple_of}
 use Rattle.pfc_semantics.specs.Displays.{Spot}
 use Rattle.pfc_semantics.specs.Objects.{module_number}
 use Rattle.pfc_semantics.specs.Programs.{Program, Block, block_number}
-use Rattle.pfc_semantics.specs.Predeclared.{Function, Procedure, abs, sqr, odd, ord, chr, succ, pred, eof, eoln, empty as emptied, clock, random, no_function, function_of, reader, writer, initial, wait, signal, delay, resume, sleep, no_procedure, procedure_of}
+use Rattle.pfc_semantics.specs.Predeclared.{Function, Procedure, abs, sqr, odd, ord, chr, succ, pred, eof, eoln, empty as emptied, clock, random, no_function}
+use Rattle.pfc_semantics.specs.Predeclared.{function_of, reader, writer, initial, wait, signal, delay, resume, sleep, no_procedure, procedure_of}
 use Rattle.pfc_semantics.specs.Expressions.{spot_of, char_in, form_in}
 use Rattle.pfc_semantics.specs.Statements.{as_string, item_of, expr_of, behind_first, name_in_process, process_of_type}
 use Rattle.pfc_semantics.specs.Remainders.{Replica, Alternative}
 use Rattle.pfc_semantics.specs.Alternatives.{message_of, receiver_of, replicas, alternative, spread_out, alternatives}
 use Rattle.pfc_code.specs.declared.instructions.Instr.{Instr}
-use Rattle.pfc_code.specs.declared.instructions.Instr.TheVariants.{LIT, FLD, LOAD, STORE, OBJ, NEG, ABS, SQR, ODD, CHR, SUCC, PRED, NOT, JMP, JF, TURN, FORB, FORW, FORT, CEQ, CERR, COEND, SINI, SWAIT, SSIG, SEND, RECV, ECALL, ACC, EACC, ARMS, ARMR, ARMA, ARMT, ARMX, SEL, DELAY, RESUME, EMPTY, SLEEP, CLOCK, RAND, WRNL, RDNL, EOF, EOLN, REQ, NEW}
+use Rattle.pfc_code.specs.declared.instructions.Instr.TheVariants.{LIT, FLD, LOAD, STORE, OBJ, NEG, ABS, SQR, ODD, CHR, SUCC, PRED, NOT, JMP, JF, TURN, FORB}
+use Rattle.pfc_code.specs.declared.instructions.Instr.TheVariants.{FORW, FORT, CEQ, CERR, COEND, SINI, SWAIT, SSIG, SEND, RECV, ECALL, ACC, EACC, ARMS, ARMR}
+use Rattle.pfc_code.specs.declared.instructions.Instr.TheVariants.{ARMA, ARMT, ARMX, SEL, DELAY, RESUME, EMPTY, SLEEP, CLOCK, RAND, WRNL, RDNL, EOF, EOLN, REQ}
+use Rattle.pfc_code.specs.declared.instructions.Instr.TheVariants.{NEW}
 use Rattle.pfc_translation.specs.Sites.{Site, at_line, in_accept, context_of, forms_of, blocks_of, type_cells}
 use Rattle.pfc_translation.specs.Codes.{Code, nothing, ◌⨾◌, one, over, back, string, unseen, with_arms}
 use Rattle.pfc_translation.specs.Addresses.{base_code, type_behind, element_in, index_instr, field_cell}
-use Rattle.pfc_translation.specs.Expressions.{expr_code, simple_code, summands_code, term_code, multipliers_code, factor_code, sign_code, first_value, first_address, actual_code, lent_code, variable_code, args_code, selectors_code, indices_code, name_code, function_code, relation_instr, add_instr, multiply_instr, simple_number, call_instr, address_code, desig_code, object_code}
-use Rattle.pfc_translation.specs.Calls.{write_instr, plain_item, wide_item, item_code, writes_code, read_instr, input_code, reads_code, given_code, rank_code, first_object, procedure_code, sub_code, enter_instr, exported_code, module_code, resource_of, requeue_code, activation_code, formals_cells, entry_code, process_code, field_code, called_variable, called_process, called_code, found_code, call_code}
-use Rattle.pfc_translation.specs.Selects.{message_code, message_cells, receiver_code, receiver_cells, send_code, receive_code, entry_of, accept_cell, accept_cells, accept_code, replica_code, comm_code, guarded_code, alternative_code, alternatives_code}
-use Rattle.pfc_translation.specs.Statements.{assign_code, label_of, labels_code, label_count, spread_replicas, chosen_code, replica_branches, branches_from, sel_code, select_code, stmt_code, stmts_code, tests_code, arms_code, accepted_code, met_code, branch_code, branches_code, distances}
+use Rattle.pfc_translation.specs.Expressions.{expr_code, simple_code, summands_code, term_code, multipliers_code, factor_code, sign_code, first_value}
+use Rattle.pfc_translation.specs.Expressions.{first_address, actual_code, lent_code, variable_code, args_code, selectors_code, indices_code, name_code}
+use Rattle.pfc_translation.specs.Expressions.{function_code, relation_instr, add_instr, multiply_instr, simple_number, call_instr, address_code, desig_code}
+use Rattle.pfc_translation.specs.Expressions.{object_code}
+use Rattle.pfc_translation.specs.Calls.{write_instr, plain_item, wide_item, item_code, writes_code, read_instr, input_code, reads_code, given_code, rank_code}
+use Rattle.pfc_translation.specs.Calls.{first_object, procedure_code, sub_code, enter_instr, exported_code, module_code, resource_of, requeue_code}
+use Rattle.pfc_translation.specs.Calls.{activation_code, formals_cells, entry_code, process_code, field_code, called_variable, called_process, called_code}
+use Rattle.pfc_translation.specs.Calls.{found_code, call_code}
+use Rattle.pfc_translation.specs.Selects.{message_code, message_cells, receiver_code, receiver_cells, send_code, receive_code, entry_of, accept_cell}
+use Rattle.pfc_translation.specs.Selects.{accept_cells, accept_code, replica_code, comm_code, guarded_code, alternative_code, alternatives_code}
+use Rattle.pfc_translation.specs.Statements.{assign_code, label_of, labels_code, label_count, spread_replicas, chosen_code, replica_branches, branches_from}
+use Rattle.pfc_translation.specs.Statements.{sel_code, select_code, stmt_code, stmts_code, tests_code, arms_code, accepted_code, met_code, branch_code}
+use Rattle.pfc_translation.specs.Statements.{branches_code, distances}
 use Rattle.pfc_image_laws.specs.Operands.{address_ahead, address_back, is_end, block_in, text_in, links_in, open_behind}
 
 -- an instruction that names nothing and ends nothing

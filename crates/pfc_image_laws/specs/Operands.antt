@@ -1,7 +1,8 @@
 -- What an instruction names by an operand: an address of code, a block, a text, an activation around.
 use Rattle.std.specs.Prelude.{ℕ, ◌+◌, zero, suc, Bool, true, false, Option, Some, None}
 use Rattle.pfc_code.specs.declared.instructions.Instr.{Instr}
-use Rattle.pfc_code.specs.declared.instructions.Instr.TheVariants.{ADDR, REF, JMP, JF, TURN, FORB, FORT, CEQ, CALL, RET, RETF, MCALL, RCALL, SCAN, REQ, NEW, END, ARMS, ARMR, ARMA, ARMT, ARMX, SEL, WRS}
+use Rattle.pfc_code.specs.declared.instructions.Instr.TheVariants.{ADDR, REF, JMP, JF, TURN, FORB, FORT, CEQ, CALL, RET, RETF, MCALL, RCALL, SCAN, REQ, NEW}
+use Rattle.pfc_code.specs.declared.instructions.Instr.TheVariants.{END, ARMS, ARMR, ARMA, ARMT, ARMX, SEL, WRS}
 
 abbrev pub address_of_else : ℕ → Option ℕ
 address_of_else zero = None

@@ -1,6 +1,9 @@
 -- Types of expressions ask of the tree around only whether it is the main body, a sub or a guard.
 use Rattle.std.proofs.Common.{◌≡◌, ℕ, Bool, not, ◌&&◌, ◌||◌, List, [], ◌∷◌, Option, Some, None, if◌then◌else◌, refl, ap, ◌∙◌}
-use Rattle.pfc_tree.specs.trees.Exprs.{ExprTree, SimpleTree, SummandTrees, TermTree, MultiplierTrees, FactorTree, SelectorTree, SelectorTrees, ExprTrees, ActualTree, ActualTrees, plain, related, sum, no_summands, more_summands, product, no_multipliers, more_multipliers, number, literal, negation, paren, applied, desig, index, field, no_selectors, more_selectors, no_exprs, more_exprs, actual, actual_width, no_actuals, more_actuals}
+use Rattle.pfc_tree.specs.trees.Exprs.{ExprTree, SimpleTree, SummandTrees, TermTree, MultiplierTrees, FactorTree, SelectorTree, SelectorTrees, ExprTrees}
+use Rattle.pfc_tree.specs.trees.Exprs.{ActualTree, ActualTrees, plain, related, sum, no_summands, more_summands, product, no_multipliers, more_multipliers}
+use Rattle.pfc_tree.specs.trees.Exprs.{number, literal, negation, paren, applied, desig, index, field, no_selectors, more_selectors, no_exprs, more_exprs}
+use Rattle.pfc_tree.specs.trees.Exprs.{actual, actual_width, no_actuals, more_actuals}
 use Rattle.pfc_types.specs.declared.types.TypeId.{TypeId}
 use Rattle.pfc_types.specs.declared.scope.Meaning.{Meaning}
 use Rattle.pfc_types.specs.declared.scope.Meaning.TheVariants.{Constant, Named, Variable, Sub, Module, Process, Entry, Predeclared, Faulty}
@@ -11,7 +14,9 @@ use Rattle.pfc_types.specs.Scopes.{Level, meaning_of}
 use Rattle.pfc_types.specs.Blocks.{State}
 use Rattle.pfc_types.specs.rules.Kinds.{where_so, has, variable_type}
 use Rattle.pfc_types.specs.rules.Routines.{Want, Site, anywhere, in_main, in_monitor_sub, site_fits, called_function, fits_want}
-use Rattle.pfc_types.specs.rules.Expressions.{Env, find, no_selector, no_actual, guard_allows, plain_use, use_type, related_type, signed_type, operated, add_operand, mul_operand, element_type, is_variable, expr_type, simple_type, summed, term_type, multiplied, factor_type, selected, selected_by, indexed, args_fit, arg_fits, first_type, arg_type}
+use Rattle.pfc_types.specs.rules.Expressions.{Env, find, no_selector, no_actual, guard_allows, plain_use, use_type, related_type, signed_type, operated}
+use Rattle.pfc_types.specs.rules.Expressions.{add_operand, mul_operand, element_type, is_variable, expr_type, simple_type, summed, term_type, multiplied}
+use Rattle.pfc_types.specs.rules.Expressions.{factor_type, selected, selected_by, indexed, args_fit, arg_fits, first_type, arg_type}
 
 pub record AreAlike (c d : Around) : Type 0 where
   pub main : c.main ≡ d.main

@@ -1,5 +1,6 @@
 -- Each body of a lawful program, with the rules that are broken in it: by induction over the parts.
-use Rattle.std.proofs.Common.{◌≡◌, ℕ, ◌+◌, ◌<◌, ◌≤◌, zero, suc, ◌==◌, ◌||◌, ◌⊎◌, inl, inr, Bool, true, false, not, nat_lt, List, [], ◌∷◌, ◌++◌, length, length-append, map, take, drop, position, Option, Some, None, cond, refl, ap, sym, ◌∙◌, subst, arith, get_or}
+use Rattle.std.proofs.Common.{◌≡◌, ℕ, ◌+◌, ◌<◌, ◌≤◌, zero, suc, ◌==◌, ◌||◌, ◌⊎◌, inl, inr, Bool, true, false, not, nat_lt, List, [], ◌∷◌, ◌++◌, length}
+use Rattle.std.proofs.Common.{length-append, map, take, drop, position, Option, Some, None, cond, refl, ap, sym, ◌∙◌, subst, arith, get_or}
 use Rattle.std.specs.List.{All, position_or_len}
 use Rattle.std.specs.Option.{IfSome}
 use Rattle.std.proofs.Math.Seq.{get_or-append_seam}
@@ -7,9 +8,11 @@ use Rattle.std.proofs.lemmas.Bool.Decides.{nat_tests}
 use Rattle.std.proofs.lemmas.List.{append_assoc, length-map}
 use Rattle.std.proofs.lemmas.List.Elements.{All-nil, All-cons, All-append, All-weaker, All-map, All-get_or}
 use Rattle.pfc_tree.specs.trees.Stmts.{BodyTree, body}
-use Rattle.pfc_tree.specs.trees.Parts.{KindTree, PartTree, PartTrees, SubTree, ModuleTree, ProcessTree, ProgramTree, procedure, function, guarded, consts, types, vars, sub_part, monitor, resource, process_part, no_parts, more_parts, sub, the_module, process}
+use Rattle.pfc_tree.specs.trees.Parts.{KindTree, PartTree, PartTrees, SubTree, ModuleTree, ProcessTree, ProgramTree, procedure, function, guarded, consts}
+use Rattle.pfc_tree.specs.trees.Parts.{types, vars, sub_part, monitor, resource, process_part, no_parts, more_parts, sub, the_module, process}
 use Rattle.pfc_tree.specs.forget.Parts.{forget_kind, forget_part, forget_parts, forget_sub, forget_module, forget_process, forget_program}
-use Rattle.pfc_tree.specs.lawful.Parts.{Home, of_program, of_resource, of_other, HoldsModules, HoldsGuarded, IsLawfulKind, IsLawfulPart, AreLawfulParts, IsLawfulSub, IsLawfulModule, IsLawfulProcess, IsLawful}
+use Rattle.pfc_tree.specs.lawful.Parts.{Home, of_program, of_resource, of_other, HoldsModules, HoldsGuarded, IsLawfulKind, IsLawfulPart, AreLawfulParts}
+use Rattle.pfc_tree.specs.lawful.Parts.{IsLawfulSub, IsLawfulModule, IsLawfulProcess, IsLawful}
 use Rattle.pfc_types.specs.Faults.{Faults}
 use Rattle.pfc_types.specs.Scopes.{Level, scope_at, here}
 use Rattle.pfc_types.specs.Blocks.{Blocks, State, module_at, no_module, process_at, no_process}
@@ -20,11 +23,14 @@ use Rattle.pfc_image_laws.specs.Levels.{sees}
 use Rattle.pfc_types.specs.declared.heads.ModuleHead.{ModuleHead}
 use Rattle.pfc_types.specs.rules.Expressions.{broken_expr}
 use Rattle.pfc_types.specs.rules.Statements.{stmts_scopes, body_scopes, broken_stmts, broken_body}
-use Rattle.pfc_types.specs.rules.Bodies.{env_at, around_guard, around_sub, around_process, level, passed, passed_part, passed_groups, passed_entries, part_scopes, parts_scopes, process_scopes, init_scopes, broken_when, broken_init, broken_part, broken_parts, broken_sub, broken_module, broken_process}
+use Rattle.pfc_types.specs.rules.Bodies.{env_at, around_guard, around_sub, around_process, level, passed, passed_part, passed_groups, passed_entries}
+use Rattle.pfc_types.specs.rules.Bodies.{part_scopes, parts_scopes, process_scopes, init_scopes, broken_when, broken_init, broken_part, broken_parts}
+use Rattle.pfc_types.specs.rules.Bodies.{broken_sub, broken_module, broken_process}
 use Rattle.pfc_types.specs.rules.Whole.{finished, broken_bodies}
 use Rattle.pfc_semantics.specs.Objects.{of_kind, module_number}
 use Rattle.pfc_semantics.specs.Layouts.{sub_layout_at, process_layout, main_layout}
-use Rattle.pfc_semantics.specs.Programs.{Block, layout_cells, block_of, guard_of, init_block, env_of_main, part_blocks, parts_blocks, sub_blocks, module_blocks, process_blocks, module_inits, part_inits, program_of}
+use Rattle.pfc_semantics.specs.Programs.{Block, layout_cells, block_of, guard_of, init_block, env_of_main, part_blocks, parts_blocks, sub_blocks, module_blocks}
+use Rattle.pfc_semantics.specs.Programs.{process_blocks, module_inits, part_inits, program_of}
 use Rattle.pfc_translation.specs.Sites.{module_of}
 use Rattle.pfc_translation.specs.Calls.{number_or_none}
 use Rattle.pfc_translation.specs.Images.{Piece, a_body, an_initial, a_resource, resource_end, pieces}

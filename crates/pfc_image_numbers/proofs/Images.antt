@@ -1,5 +1,6 @@
 -- The numbers in the code of an image are those of its modules and entries: by induction over what stands in the text.
-use Rattle.std.proofs.Common.{◌≡◌, ℕ, ◌+◌, ◌-◌, ◌<◌, ◌≤◌, suc, nat_lt, Bool, true, false, if◌then◌else◌, List, [], ◌∷◌, ◌++◌, length, ◌==◌, ◌||◌, ◌⊎◌, inl, inr, take, drop, Option, Some, None, refl, ap, sym, ◌∙◌, subst, arith}
+use Rattle.std.proofs.Common.{◌≡◌, ℕ, ◌+◌, ◌-◌, ◌<◌, ◌≤◌, suc, nat_lt, Bool, true, false, if◌then◌else◌, List, [], ◌∷◌, ◌++◌, length, ◌==◌, ◌||◌, ◌⊎◌, inl, inr}
+use Rattle.std.proofs.Common.{take, drop, Option, Some, None, refl, ap, sym, ◌∙◌, subst, arith}
 use Rattle.std.specs.List.{All}
 use Rattle.std.proofs.lemmas.Bool.Decides.{nat_tests}
 use Rattle.std.specs.Option.{IfSome}
@@ -32,7 +33,8 @@ use Rattle.pfc_translation.specs.Codes.{Code, Lined, nothing, ◌⨾◌, one}
 use Rattle.pfc_translation.specs.Expressions.{expr_code}
 use Rattle.pfc_translation.specs.Calls.{enter_instr, formals_cells, number_or_none}
 use Rattle.pfc_translation.specs.Statements.{stmts_code}
-use Rattle.pfc_translation.specs.Images.{instructions, site_in, guard_code, end_of, statements_code, body_code, Piece, a_body, an_initial, a_resource, pieces, Coded, coded, strings_in, before_main, of_main, size_of, put_from, scans_from, image_over, image_of}
+use Rattle.pfc_translation.specs.Images.{instructions, site_in, guard_code, end_of, statements_code, body_code, Piece, a_body, an_initial, a_resource, pieces}
+use Rattle.pfc_translation.specs.Images.{Coded, coded, strings_in, before_main, of_main, size_of, put_from, scans_from, image_over, image_of}
 use Rattle.pfc_image_laws.specs.Instructions.{Each}
 use Rattle.pfc_image_laws.specs.Levels.{sees}
 use Rattle.pfc_image_laws.proofs.Holds.{each_append, each_then}

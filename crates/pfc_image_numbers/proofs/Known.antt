@@ -1,5 +1,6 @@
 -- What a name in view stands for has its heading.
-use Rattle.std.proofs.Common.{◌≡◌, ℕ, ◌<◌, ◌≤◌, zero, suc, Bool, true, false, nat_lt, ◌==◌, ◌||◌, List, [], ◌∷◌, length, get_or, bytes_eq, option_map, Option, Some, None, cond, if◌then◌else◌, refl, ap, ◌∙◌, subst, arith}
+use Rattle.std.proofs.Common.{◌≡◌, ℕ, ◌<◌, ◌≤◌, zero, suc, Bool, true, false, nat_lt, ◌==◌, ◌||◌, List, [], ◌∷◌, length, get_or, bytes_eq, option_map, Option}
+use Rattle.std.proofs.Common.{Some, None, cond, if◌then◌else◌, refl, ap, ◌∙◌, subst, arith}
 use Rattle.std.specs.Option.{IfSome, option_or}
 use Rattle.std.proofs.lemmas.Bool.Decides.{nat_tests}
 use Rattle.std.proofs.lemmas.List.Elements.{All-get_or}

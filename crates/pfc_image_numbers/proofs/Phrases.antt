@@ -1,6 +1,7 @@
 -- What holds of single instructions, where the names in them are what the rules ask for, holds of the code of all phrases: by induction over
 -- them, with the rules that are broken in each.
-use Rattle.std.proofs.Common.{◌≡◌, ℕ, ◌+◌, ◌<◌, ◌≤◌, suc, pos, ◌-◌, ℤ, ◌+ℤ◌, int_le, zero, nat_lt, Bool, true, false, List, [], ◌∷◌, ◌++◌, length, map, Option, Some, None, cond, if◌then◌else◌, drop, refl, sym, ◌∙◌, subst, arith}
+use Rattle.std.proofs.Common.{◌≡◌, ℕ, ◌+◌, ◌<◌, ◌≤◌, suc, pos, ◌-◌, ℤ, ◌+ℤ◌, int_le, zero, nat_lt, Bool, true, false, List, [], ◌∷◌, ◌++◌, length, map, Option}
+use Rattle.std.proofs.Common.{Some, None, cond, if◌then◌else◌, drop, refl, sym, ◌∙◌, subst, arith}
 use Rattle.pfc_tree.specs.Symbols.{Text}
 use Rattle.pfc_base.specs.declared.places.Place.{Place}
 use Rattle.pfc_tree.specs.declared.tree.Constant.{Constant}
@@ -13,10 +14,19 @@ use Rattle.pfc_tree.specs.declared.tree.AddOp.{AddOp}
 use Rattle.pfc_tree.specs.declared.tree.AddOp.TheVariants.{Add, Sub as Minused, Or}
 use Rattle.pfc_tree.specs.declared.tree.MulOp.{MulOp}
 use Rattle.pfc_tree.specs.declared.tree.MulOp.TheVariants.{Mul, Div, Mod, And}
-use Rattle.pfc_tree.specs.trees.Exprs.{ExprTree, SimpleTree, SummandTrees, TermTree, MultiplierTrees, FactorTree, DesigTree, SelectorTrees, ExprTrees, ActualTree, ActualTrees, plain, related, sum, no_summands, more_summands, product, no_multipliers, more_multipliers, number, literal, negation, paren, applied, desig, index, field, no_selectors, more_selectors, no_exprs, more_exprs, actual, actual_width, no_actuals, more_actuals}
-use Rattle.pfc_tree.specs.trees.Stmts.{StmtTree, StmtTrees, ArmTrees, AcceptTree, AltTree, AltTrees, CommTree, empty, null, block, if_then, if_then_else, case_of, while_do, repeat_until, repeat_forever, for_do, cobegin, accepting as an_accept, requeue, select, select_else, assign, send, receive, call, no_stmts, more_stmts, body, arm, no_arms, more_arms, accept, accept_do, alt, no_alts, more_alts, comm_accept, comm_send, comm_receive, timeout, terminate}
+use Rattle.pfc_tree.specs.trees.Exprs.{ExprTree, SimpleTree, SummandTrees, TermTree, MultiplierTrees, FactorTree, DesigTree, SelectorTrees, ExprTrees}
+use Rattle.pfc_tree.specs.trees.Exprs.{ActualTree, ActualTrees, plain, related, sum, no_summands, more_summands, product, no_multipliers, more_multipliers}
+use Rattle.pfc_tree.specs.trees.Exprs.{number, literal, negation, paren, applied, desig, index, field, no_selectors, more_selectors, no_exprs, more_exprs}
+use Rattle.pfc_tree.specs.trees.Exprs.{actual, actual_width, no_actuals, more_actuals}
+use Rattle.pfc_tree.specs.trees.Stmts.{StmtTree, StmtTrees, ArmTrees, AcceptTree, AltTree, AltTrees, CommTree, empty, null, block, if_then, if_then_else}
+use Rattle.pfc_tree.specs.trees.Stmts.{case_of, while_do, repeat_until, repeat_forever, for_do, cobegin, accepting as an_accept, requeue, select, select_else}
+use Rattle.pfc_tree.specs.trees.Stmts.{assign, send, receive, call, no_stmts, more_stmts, body, arm, no_arms, more_arms, accept, accept_do, alt, no_alts}
+use Rattle.pfc_tree.specs.trees.Stmts.{more_alts, comm_accept, comm_send, comm_receive, timeout, terminate}
 use Rattle.pfc_types.specs.rules.Constants.{Ordinal, constant_value}
-use Rattle.pfc_types.specs.rules.Statements.{names_any, any_rule, types_rule, only_any_rule, accept_rules, carried_by, broken_message, broken_receiver, broken_target, broken_assign, broken_send, broken_receive, broken_spread, broken_guard, scopes_in, stmts_scopes, arm_scopes, arms_scopes, accept_scopes, alt_scopes, alts_scopes, comm_scopes, broken_stmt, broken_stmts, broken_arms, broken_accept, broken_alts, broken_alt, broken_comm}
+use Rattle.pfc_types.specs.rules.Statements.{names_any, any_rule, types_rule, only_any_rule, accept_rules, carried_by, broken_message, broken_receiver}
+use Rattle.pfc_types.specs.rules.Statements.{broken_target, broken_assign, broken_send, broken_receive, broken_spread, broken_guard, scopes_in, stmts_scopes}
+use Rattle.pfc_types.specs.rules.Statements.{arm_scopes, arms_scopes, accept_scopes, alt_scopes, alts_scopes, comm_scopes, broken_stmt, broken_stmts}
+use Rattle.pfc_types.specs.rules.Statements.{broken_arms, broken_accept, broken_alts, broken_alt, broken_comm}
 use Rattle.pfc_types.specs.declared.types.TypeId.{TypeId}
 use Rattle.pfc_types.specs.declared.types.TypeForm.{TypeForm}
 use Rattle.pfc_types.specs.declared.types.TypeForm.TheVariants.{Channel, Array, Record, Process as ProcessForm}
@@ -29,35 +39,57 @@ use Rattle.pfc_types.specs.Types.{extent, Forms, form_of, process_form}
 use Rattle.pfc_types.specs.Faults.{Faults, ◌⨾◌ as ◌⨟◌}
 use Rattle.pfc_types.specs.Scopes.{Level, found_in, meaning_of, meaning_in, scope_at, here}
 use Rattle.pfc_types.specs.Blocks.{sub_at, module_at, process_at, entry_at}
-use Rattle.pfc_types.specs.rules.Expressions.{Env, first_type, field_type, selected, as_desig, as_literal, expr_place, desig_place, actual_count, expr_type, no_selector, no_actual, is_variable, use_rules, broken_expr, broken_simple, broken_summands, broken_term, broken_multipliers, broken_factor, broken_selectors, desig_type, broken_desig, broken_indexes, broken_actuals, broken_actual, broken_wanted}
-use Rattle.pfc_types.specs.rules.Calls.{last_field, before_last, broken_reads, written, broken_written, broken_writes, call_routine, activate, activate_variable, requeue_rules, call_entry_named, call_module, call_exported, call_part, broken_call}
+use Rattle.pfc_types.specs.rules.Expressions.{Env, first_type, field_type, selected, as_desig, as_literal, expr_place, desig_place, actual_count, expr_type}
+use Rattle.pfc_types.specs.rules.Expressions.{no_selector, no_actual, is_variable, use_rules, broken_expr, broken_simple, broken_summands, broken_term}
+use Rattle.pfc_types.specs.rules.Expressions.{broken_multipliers, broken_factor, broken_selectors, desig_type, broken_desig, broken_indexes, broken_actuals}
+use Rattle.pfc_types.specs.rules.Expressions.{broken_actual, broken_wanted}
+use Rattle.pfc_types.specs.rules.Calls.{last_field, before_last, broken_reads, written, broken_written, broken_writes, call_routine, activate}
+use Rattle.pfc_types.specs.rules.Calls.{activate_variable, requeue_rules, call_entry_named, call_module, call_exported, call_part, broken_call}
 use Rattle.pfc_types.specs.rules.Kinds.{value_rule, variable_type}
-use Rattle.pfc_types.specs.rules.Routines.{Want, a_value, a_variable_of, wants_for, Routine, a_procedure, a_delay, a_reader, a_writer, routine_of, nothing_called, called_function, fits_use, one_condition, ranked_condition, Site as CallSite}
+use Rattle.pfc_types.specs.rules.Routines.{Want, a_value, a_variable_of, wants_for, Routine, a_procedure, a_delay, a_reader, a_writer, routine_of}
+use Rattle.pfc_types.specs.rules.Routines.{nothing_called, called_function, fits_use, one_condition, ranked_condition, Site as CallSite}
 use Rattle.pfc_values.specs.declared.simple.Simple.{Simple}
 use Rattle.pfc_values.specs.declared.simple.Simple.TheVariants.{Integer, Boolean, Char}
 use Rattle.pfc_semantics.specs.Operators.{simple_of}
-use Rattle.pfc_semantics.specs.Predeclared.{Function, abs, sqr, odd, ord, chr, succ, pred, eof, eoln, empty as emptied, clock, random, no_function, function_of, Procedure as AProcedure, reader, writer, initial, wait, signal, delay, resume, sleep, no_procedure, procedure_of}
+use Rattle.pfc_semantics.specs.Predeclared.{Function, abs, sqr, odd, ord, chr, succ, pred, eof, eoln, empty as emptied, clock, random, no_function, function_of}
+use Rattle.pfc_semantics.specs.Predeclared.{Procedure as AProcedure, reader, writer, initial, wait, signal, delay, resume, sleep, no_procedure, procedure_of}
 use Rattle.pfc_semantics.specs.Remainders.{Replica, Alternative}
-use Rattle.pfc_semantics.specs.Alternatives.{entry_number, message_of, receiver_of, replicas_from, replicas_between, replicas_by, replicas, alternative, spread_out, alternatives}
+use Rattle.pfc_semantics.specs.Alternatives.{entry_number, message_of, receiver_of, replicas_from, replicas_between, replicas_by, replicas, alternative}
+use Rattle.pfc_semantics.specs.Alternatives.{spread_out, alternatives}
 use Rattle.pfc_semantics.specs.Objects.{module_number}
 use Rattle.pfc_semantics.specs.Statements.{as_string, item_of, expr_of, behind_first, name_in_process, process_of_type}
 use Rattle.pfc_semantics.specs.Displays.{Spot}
 use Rattle.pfc_semantics.specs.Expressions.{spot_of, char_in, form_in}
 use Rattle.pfc_semantics.specs.Programs.{Program, Block, block_number}
 use Rattle.pfc_code.specs.declared.instructions.Instr.{Instr}
-use Rattle.pfc_code.specs.declared.instructions.Instr.TheVariants.{LIT, ADDR, REF, SINI, SWAIT, SSIG, DELAY, RESUME, SLEEP, WRNL, RDNL, REQ, NEW, ECALL, JMP, JF, TURN, FORB, FORW, FORT, CEQ, CERR, COEND, SEND, RECV, ACC, EACC, ARMS, ARMR, ARMA, ARMT, ARMX, SEL, FLD, LOAD, STORE, OBJ, WRS, NEG, ABS, SQR, ODD, CHR, SUCC, PRED, NOT, EMPTY, CLOCK, RAND, EOF, EOLN}
+use Rattle.pfc_code.specs.declared.instructions.Instr.TheVariants.{LIT, ADDR, REF, SINI, SWAIT, SSIG, DELAY, RESUME, SLEEP, WRNL, RDNL, REQ, NEW, ECALL, JMP}
+use Rattle.pfc_code.specs.declared.instructions.Instr.TheVariants.{JF, TURN, FORB, FORW, FORT, CEQ, CERR, COEND, SEND, RECV, ACC, EACC, ARMS, ARMR, ARMA, ARMT}
+use Rattle.pfc_code.specs.declared.instructions.Instr.TheVariants.{ARMX, SEL, FLD, LOAD, STORE, OBJ, WRS, NEG, ABS, SQR, ODD, CHR, SUCC, PRED, NOT, EMPTY}
+use Rattle.pfc_code.specs.declared.instructions.Instr.TheVariants.{CLOCK, RAND, EOF, EOLN}
 use Rattle.pfc_translation.specs.Sites.{Site, links_to, cell_of, refers, context_of, forms_of, blocks_of, type_cells}
 use Rattle.pfc_translation.specs.Codes.{Code, nothing, ◌⨾◌, one, over, back, string, unseen, with_arms}
 use Rattle.pfc_translation.specs.Addresses.{base_code, type_behind, element_in, index_instr, field_cell}
-use Rattle.pfc_translation.specs.Expressions.{expr_code, simple_code, summands_code, term_code, multipliers_code, factor_code, sign_code, first_value, first_address, actual_code, lent_code, variable_code, args_code, selectors_code, indices_code, name_code, function_code, relation_instr, add_instr, multiply_instr, simple_number, call_instr, address_code, desig_code, object_code}
-use Rattle.pfc_translation.specs.Calls.{write_instr, plain_item, wide_item, item_code, writes_code, read_instr, input_code, reads_code, given_code, rank_code, first_object, procedure_code, enter_instr, exported_code, module_code, resource_of, requeue_code, activation_code, formals_cells, entry_code, process_code, field_code, called_variable, called_process, called_code, found_code, call_code}
-use Rattle.pfc_translation.specs.Selects.{message_code, message_cells, receiver_code, receiver_cells, accept_cell, accept_cells, accept_code, replica_code, comm_code, guarded_code, alternative_code, alternatives_code, first_of}
-use Rattle.pfc_translation.specs.Statements.{assign_code, label_of, labels_code, label_count, spread_replicas, chosen_code, sel_code, select_code, stmt_code, stmts_code, tests_code, arms_code, accepted_code, branch_code, branches_code, distances}
+use Rattle.pfc_translation.specs.Expressions.{expr_code, simple_code, summands_code, term_code, multipliers_code, factor_code, sign_code, first_value}
+use Rattle.pfc_translation.specs.Expressions.{first_address, actual_code, lent_code, variable_code, args_code, selectors_code, indices_code, name_code}
+use Rattle.pfc_translation.specs.Expressions.{function_code, relation_instr, add_instr, multiply_instr, simple_number, call_instr, address_code, desig_code}
+use Rattle.pfc_translation.specs.Expressions.{object_code}
+use Rattle.pfc_translation.specs.Calls.{write_instr, plain_item, wide_item, item_code, writes_code, read_instr, input_code, reads_code, given_code, rank_code}
+use Rattle.pfc_translation.specs.Calls.{first_object, procedure_code, enter_instr, exported_code, module_code, resource_of, requeue_code, activation_code}
+use Rattle.pfc_translation.specs.Calls.{formals_cells, entry_code, process_code, field_code, called_variable, called_process, called_code, found_code}
+use Rattle.pfc_translation.specs.Calls.{call_code}
+use Rattle.pfc_translation.specs.Selects.{message_code, message_cells, receiver_code, receiver_cells, accept_cell, accept_cells, accept_code, replica_code}
+use Rattle.pfc_translation.specs.Selects.{comm_code, guarded_code, alternative_code, alternatives_code, first_of}
+use Rattle.pfc_translation.specs.Statements.{assign_code, label_of, labels_code, label_count, spread_replicas, chosen_code, sel_code, select_code, stmt_code}
+use Rattle.pfc_translation.specs.Statements.{stmts_code, tests_code, arms_code, accepted_code, branch_code, branches_code, distances}
 use Rattle.pfc_translation.specs.Images.{instructions}
 use Rattle.pfc_image_laws.specs.Instructions.{Each}
 use Rattle.pfc_image_laws.proofs.Holds.{each_append}
 use Rattle.pfc_image_numbers.proofs.Plain.{is_plain}
-use Rattle.pfc_image_numbers.proofs.Rules.{IsClean, HasCell, IsEmpty, empty_is, matches_function, held, and_left, sub_args, empty_args, lent_cell, named_cell, IsOfProcedure, matches_procedure, called_sub, exported_args, entry_args, activated_args, activated_type, field_entry, field_process, selected_last, call_of, call_is, routine_called, sub_called, module_called, process_entered, process_activated, variable_called, variable_part, IsNear, in_cobegin, IsEntry, accept_allowed, target_cell, requeued_args}
+use Rattle.pfc_image_numbers.proofs.Rules.{IsClean, HasCell, IsEmpty, empty_is, matches_function, held, and_left, sub_args, empty_args, lent_cell, named_cell}
+use Rattle.pfc_image_numbers.proofs.Rules.{IsOfProcedure, matches_procedure, called_sub, exported_args, entry_args, activated_args, activated_type, field_entry}
+use Rattle.pfc_image_numbers.proofs.Rules.{field_process, selected_last, call_of, call_is, routine_called, sub_called, module_called, process_entered}
+use Rattle.pfc_image_numbers.proofs.Rules.{process_activated, variable_called, variable_part, IsNear, in_cobegin, IsEntry, accept_allowed, target_cell}
+use Rattle.pfc_image_numbers.proofs.Rules.{requeued_args}
 use Rattle.pfc_image_numbers.proofs.Alike.{selected_same}
 use Rattle.pfc_image_numbers.proofs.Known.{Stands, stands, a_module, a_process, a_process_type, an_entry}
 use Rattle.pfc_name_laws.specs.Reached.{HasEntry}

@@ -1,5 +1,6 @@
 -- What unbroken rules say of names and arguments.
-use Rattle.std.proofs.Common.{◌≡◌, ℕ, ◌+◌, ◌-◌, ◌≤◌, zero, suc, Bool, true, false, not, ◌&&◌, nat_lt, ◌⊎◌, inl, inr, List, [], ◌∷◌, ◌++◌, get_or, take, drop, Option, Some, None, if◌then◌else◌, refl, ap, sym, ◌∙◌, subst, arith}
+use Rattle.std.proofs.Common.{◌≡◌, ℕ, ◌+◌, ◌-◌, ◌≤◌, zero, suc, Bool, true, false, not, ◌&&◌, nat_lt, ◌⊎◌, inl, inr, List, [], ◌∷◌, ◌++◌, get_or, take, drop}
+use Rattle.std.proofs.Common.{Option, Some, None, if◌then◌else◌, refl, ap, sym, ◌∙◌, subst, arith}
 use Rattle.std.proofs.lemmas.Bool.Decides.{nat_tests}
 use Rattle.std.proofs.lemmas.List.{get_or-append-add}
 use Rattle.pfc_base.specs.declared.places.Place.{Place}
@@ -14,15 +15,21 @@ use Rattle.pfc_types.specs.rules.Kinds.{name_rules, a_variable, an_entry}
 use Rattle.pfc_tree.specs.Symbols.{Text}
 use Rattle.pfc_tree.specs.trees.Exprs.{ActualTrees, SelectorTrees, desig, index, field, no_selectors, more_selectors}
 use Rattle.pfc_types.specs.Blocks.{State, sub_at, process_at, entry_at}
-use Rattle.pfc_types.specs.rules.Calls.{call_sub, last_field, before_last, only_field, call_in_module, call_module, call_exported, call_in_process, call_entry, call_entry_named, activate, activate_type, activate_variable, call_field, call_part, call_name, call_part_of, call_selected, call_routine, broken_call, requeue_sub}
+use Rattle.pfc_types.specs.rules.Calls.{call_sub, last_field, before_last, only_field, call_in_module, call_module, call_exported, call_in_process, call_entry}
+use Rattle.pfc_types.specs.rules.Calls.{call_entry_named, activate, activate_type, activate_variable, call_field, call_part, call_name, call_part_of}
+use Rattle.pfc_types.specs.rules.Calls.{call_selected, call_routine, broken_call, requeue_sub}
 use Rattle.pfc_types.specs.rules.Statements.{accept_rules, is_around, sub_target, target_rules}
 use Rattle.pfc_semantics.specs.Statements.{process_of_type}
 use Rattle.pfc_types.specs.declared.heads.Formal.{Formal}
 use Rattle.pfc_types.specs.declared.view.Found.{Found}
 use Rattle.pfc_types.specs.Scopes.{Level, meaning_of}
 use Rattle.pfc_types.specs.rules.Expressions.{Env, find, broken_selectors, field_type, selected, selected_by, broken_actuals, found_lends, use_rules}
-use Rattle.pfc_types.specs.rules.Routines.{Want, a_value, a_variable_of, gives, Site, in_main, in_monitor_sub, Routine, the_signal, a_function, a_procedure, a_delay, a_reader, a_writer, one_condition, one_integer, anywhere, routines, routine_of, nothing_called, called_sort, called_routine, is_function_sort, wants_for}
-use Rattle.pfc_semantics.specs.Predeclared.{Function, abs, sqr, odd, ord, chr, succ, pred, eof, eoln, empty, clock, random, no_function, functions, function_of, Procedure as AProcedure, reader, writer, initial, wait, signal, delay, resume, sleep, no_procedure, procedures, procedure_of}
+use Rattle.pfc_types.specs.rules.Routines.{Want, a_value, a_variable_of, gives, Site, in_main, in_monitor_sub, Routine, the_signal, a_function, a_procedure}
+use Rattle.pfc_types.specs.rules.Routines.{a_delay, a_reader, a_writer, one_condition, one_integer, anywhere, routines, routine_of, nothing_called, called_sort}
+use Rattle.pfc_types.specs.rules.Routines.{called_routine, is_function_sort, wants_for}
+use Rattle.pfc_semantics.specs.Predeclared.{Function, abs, sqr, odd, ord, chr, succ, pred, eof, eoln, empty, clock, random, no_function, functions, function_of}
+use Rattle.pfc_semantics.specs.Predeclared.{Procedure as AProcedure, reader, writer, initial, wait, signal, delay, resume, sleep, no_procedure, procedures}
+use Rattle.pfc_semantics.specs.Predeclared.{procedure_of}
 use Rattle.pfc_types.specs.declared.view.Around.{Around}
 use Rattle.pfc_image_numbers.proofs.Alike.{AreAlike}
 

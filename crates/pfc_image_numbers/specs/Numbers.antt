@@ -3,7 +3,8 @@ use Rattle.std.specs.Prelude.{◌≡◌, ℕ, ◌+◌, ◌<◌, ◌≤◌, lengt
 use Rattle.pfc_types.specs.Blocks.{State, Blocks, entry_at}
 use Rattle.pfc_name_laws.specs.Reached.{HasEntry, entries_of}
 use Rattle.pfc_code.specs.declared.instructions.Instr.{Instr}
-use Rattle.pfc_code.specs.declared.instructions.Instr.TheVariants.{SUCC, PRED, FORB, FORT, MCALL, RCALL, GRD, SCAN, REQ, ECALL, ACC, ARMA, SEL, WRI, WRB, WRC, WRS}
+use Rattle.pfc_code.specs.declared.instructions.Instr.TheVariants.{SUCC, PRED, FORB, FORT, MCALL, RCALL, GRD, SCAN, REQ, ECALL, ACC, ARMA, SEL, WRI, WRB, WRC}
+use Rattle.pfc_code.specs.declared.instructions.Instr.TheVariants.{WRS}
 use Rattle.pfc_code.specs.Images.{PlainImage}
 use Rattle.pfc_translation.specs.Calls.{formals_cells}
 

@@ -1,5 +1,6 @@
 -- What is asked of names in view, so that who performs the text of a monitor is inside it, is so wherever runs lead.
-use Rattle.std.proofs.Common.{◌≡◌, ◌≢◌, ℕ, suc, ◌==◌, ◌||◌, Bool, true, false, if◌then◌else◌, List, [], ◌∷◌, Option, Some, None, refl, sym, ap, ◌∙◌, subst, arith}
+use Rattle.std.proofs.Common.{◌≡◌, ◌≢◌, ℕ, suc, ◌==◌, ◌||◌, Bool, true, false, if◌then◌else◌, List, [], ◌∷◌, Option, Some, None, refl, sym, ap, ◌∙◌, subst}
+use Rattle.std.proofs.Common.{arith}
 use Rattle.std.specs.Prelude.{nat_lt, option_map}
 use Rattle.std.specs.Option.{option_or}
 use Rattle.std.specs.List.{AllByRecursion, list_any, slice_get}
@@ -26,7 +27,8 @@ use Rattle.pfc_run_invariants.specs.Fitting.{FitNames}
 use Rattle.pfc_run_invariants.specs.Remainders.{FitsAction}
 use Rattle.pfc_run_invariants.specs.Written.{FitStmts}
 use Rattle.pfc_run_invariants.specs.Configurations.{FitsGuard, FitsBlock, FitsProgram, marks_of, IsStable}
-use Rattle.pfc_inside_laws.specs.Inside.{IsMonitor, IsForAccept, IsOf, of_main, of_module, of_block, of_guard, in_accept, IsScoped, IsWithin, inside_of, FitsTest, HasText, AreInside, IsAlive}
+use Rattle.pfc_inside_laws.specs.Inside.{IsMonitor, IsForAccept, IsOf, of_main, of_module, of_block, of_guard, in_accept, IsScoped, IsWithin, inside_of}
+use Rattle.pfc_inside_laws.specs.Inside.{FitsTest, HasText, AreInside, IsAlive}
 use Rattle.pfc_run_invariants.proofs.Runs.{next_of_fits}
 
 -- ## Names that are found

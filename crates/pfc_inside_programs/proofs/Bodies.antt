@@ -1,16 +1,20 @@
 -- The scopes of accepts are none of modules: each body has scopes of its own, and so has each module.
-use Rattle.std.proofs.Common.{◌≡◌, ◌≢◌, ℕ, zero, suc, ◌+◌, ◌≤◌, ◌<◌, Bool, true, false, List, [], ◌∷◌, length, get_or, take, drop, Option, Some, None, refl, arith}
+use Rattle.std.proofs.Common.{◌≡◌, ◌≢◌, ℕ, zero, suc, ◌+◌, ◌≤◌, ◌<◌, Bool, true, false, List, [], ◌∷◌, length, get_or, take, drop, Option, Some, None, refl}
+use Rattle.std.proofs.Common.{arith}
 use Rattle.std.specs.List.{AllByRecursion}
 use Rattle.pfc_tree.specs.trees.Stmts.{BodyTree, body}
-use Rattle.pfc_tree.specs.trees.Parts.{PartTree, PartTrees, SubTree, ModuleTree, ProcessTree, consts, types, vars, sub_part, monitor, resource, process_part, no_parts, more_parts, sub, the_module, process}
+use Rattle.pfc_tree.specs.trees.Parts.{PartTree, PartTrees, SubTree, ModuleTree, ProcessTree, consts, types, vars, sub_part, monitor, resource, process_part}
+use Rattle.pfc_tree.specs.trees.Parts.{no_parts, more_parts, sub, the_module, process}
 use Rattle.pfc_types.specs.Scopes.{Level, scope_at, here}
 use Rattle.pfc_types.specs.Blocks.{State}
 use Rattle.pfc_types.specs.declared.heads.ModuleHead.{ModuleHead}
 use Rattle.pfc_types.specs.rules.Expressions.{Env}
 use Rattle.pfc_types.specs.rules.Statements.{body_scopes}
-use Rattle.pfc_types.specs.rules.Bodies.{env_at, around_nothing, around_process, around_sub, around_guard, passed, passed_part, passed_groups, passed_entries, part_scopes, parts_scopes, module_scopes, level}
+use Rattle.pfc_types.specs.rules.Bodies.{env_at, around_nothing, around_process, around_sub, around_guard, passed, passed_part, passed_groups, passed_entries}
+use Rattle.pfc_types.specs.rules.Bodies.{part_scopes, parts_scopes, module_scopes, level}
 use Rattle.pfc_semantics.specs.Layouts.{Layout, sub_layout_at, process_layout}
-use Rattle.pfc_semantics.specs.Programs.{Block, Guard, block_of, guard_of, part_blocks, parts_blocks, sub_blocks, module_blocks, process_blocks, module_inits, parts_inits}
+use Rattle.pfc_semantics.specs.Programs.{Block, Guard, block_of, guard_of, part_blocks, parts_blocks, sub_blocks, module_blocks, process_blocks, module_inits}
+use Rattle.pfc_semantics.specs.Programs.{parts_inits}
 use Rattle.pfc_image_laws.specs.Modules.{modules_from}
 use Rattle.pfc_run_invariants.specs.Written.{FitStmts}
 use Rattle.pfc_run_invariants.proofs.Lists.{all_append, all_push}

@@ -2,7 +2,8 @@
 use Rattle.std.proofs.Common.{◌≡◌, ℕ, zero, suc, ◌+◌, ◌≤◌, ◌<◌, ◌⊎◌, inl, inr, false, [], ◌∷◌, length, get_or, Some, None, refl, sym, ap, subst, arith}
 use Rattle.std.specs.List.{AllByRecursion}
 use Rattle.pfc_tree.specs.trees.Stmts.{body}
-use Rattle.pfc_tree.specs.trees.Parts.{PartTree, PartTrees, ModuleTree, consts, types, vars, sub_part, monitor, resource, process_part, no_parts, more_parts, the_module}
+use Rattle.pfc_tree.specs.trees.Parts.{PartTree, PartTrees, ModuleTree, consts, types, vars, sub_part, monitor, resource, process_part, no_parts, more_parts}
+use Rattle.pfc_tree.specs.trees.Parts.{the_module}
 use Rattle.pfc_tree.specs.forget.Parts.{forget_part, forget_parts}
 use Rattle.pfc_tree.specs.lawful.Parts.{of_program, IsLawfulPart, AreLawfulParts}
 use Rattle.pfc_types.specs.Scopes.{all_names, scope_at, here}

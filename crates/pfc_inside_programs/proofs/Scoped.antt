@@ -1,5 +1,6 @@
 -- Checked programs are scoped as it is asked of them.
-use Rattle.std.proofs.Common.{◌≡◌, ◌≢◌, ℕ, zero, suc, ◌+◌, ◌≤◌, ◌<◌, ◌==◌, ◌⊎◌, inl, inr, Bool, true, false, nat_lt, if◌then◌else◌, List, [], ◌∷◌, length, get_or, map, slice_get, option_map, Option, Some, None, refl, sym, ap, ◌∙◌, subst, arith}
+use Rattle.std.proofs.Common.{◌≡◌, ◌≢◌, ℕ, zero, suc, ◌+◌, ◌≤◌, ◌<◌, ◌==◌, ◌⊎◌, inl, inr, Bool, true, false, nat_lt, if◌then◌else◌, List, [], ◌∷◌, length}
+use Rattle.std.proofs.Common.{get_or, map, slice_get, option_map, Option, Some, None, refl, sym, ap, ◌∙◌, subst, arith}
 use Rattle.std.proofs.lemmas.Bool.Decides.{nat_tests}
 use Rattle.std.specs.List.{AllByRecursion}
 use Rattle.std.specs.Option.{option_or}
@@ -39,7 +40,8 @@ use Rattle.pfc_number_laws.specs.Written.{FitsTree}
 use Rattle.pfc_number_laws.proofs.Parts.{finished_fits}
 use Rattle.pfc_inside_laws.specs.Inside.{IsMonitor, IsSeen, IsOf, of_main, of_module, of_block, of_guard, in_accept, IsScoped}
 use Rattle.pfc_inside_programs.specs.Declared.{DeclaresSubs}
-use Rattle.pfc_inside_programs.proofs.Views.{Sees, sees_further, sees_which, sees_own, IsOut, AreOut, Kept, never_out, none_out, more_out, IsPlaced, placed_out, no_guard}
+use Rattle.pfc_inside_programs.proofs.Views.{Sees, sees_further, sees_which, sees_own, IsOut, AreOut, Kept, never_out, none_out, more_out, IsPlaced, placed_out}
+use Rattle.pfc_inside_programs.proofs.Views.{no_guard}
 use Rattle.pfc_inside_programs.proofs.Monitors.{bodies, KeepsView, inits, IsFound, found, alone, Apart, processes}
 use Rattle.pfc_inside_programs.proofs.Programs.{all_at}
 

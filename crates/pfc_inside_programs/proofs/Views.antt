@@ -1,16 +1,19 @@
 -- Which bodies and guards see the names of a monitor: those inside it, whose scopes follow on its own.
-use Rattle.std.proofs.Common.{◌≡◌, ℕ, ◌+◌, ◌≤◌, ◌<◌, ◌==◌, ◌⊎◌, inl, inr, Bool, true, false, ◌||◌, List, [], ◌∷◌, take, drop, Option, Some, None, refl, subst, arith}
+use Rattle.std.proofs.Common.{◌≡◌, ℕ, ◌+◌, ◌≤◌, ◌<◌, ◌==◌, ◌⊎◌, inl, inr, Bool, true, false, ◌||◌, List, [], ◌∷◌, take, drop, Option, Some, None, refl, subst}
+use Rattle.std.proofs.Common.{arith}
 use Rattle.std.proofs.lemmas.Bool.Decides.{nat_tests}
 use Rattle.std.specs.List.{AllByRecursion, list_any}
 use Rattle.pfc_tree.specs.trees.Stmts.{BodyTree, body}
-use Rattle.pfc_tree.specs.trees.Parts.{KindTree, PartTree, PartTrees, SubTree, ModuleTree, ProcessTree, procedure, function, guarded, consts, types, vars, sub_part, monitor, resource, process_part, no_parts, more_parts, sub, the_module, process}
+use Rattle.pfc_tree.specs.trees.Parts.{KindTree, PartTree, PartTrees, SubTree, ModuleTree, ProcessTree, procedure, function, guarded, consts, types, vars}
+use Rattle.pfc_tree.specs.trees.Parts.{sub_part, monitor, resource, process_part, no_parts, more_parts, sub, the_module, process}
 use Rattle.pfc_tree.specs.forget.Parts.{forget_kind, forget_part, forget_parts, forget_sub}
 use Rattle.pfc_tree.specs.lawful.Parts.{of_other, IsLawfulKind, IsLawfulPart, AreLawfulParts, IsLawfulSub}
 use Rattle.pfc_types.specs.Scopes.{Level, all_names, scope_at, here}
 use Rattle.pfc_types.specs.Blocks.{State}
 use Rattle.pfc_types.specs.rules.Expressions.{Env}
 use Rattle.pfc_types.specs.rules.Statements.{body_scopes}
-use Rattle.pfc_types.specs.rules.Bodies.{env_at, around_process, around_sub, around_guard, passed, passed_part, passed_groups, passed_entries, part_scopes, parts_scopes, module_scopes, level}
+use Rattle.pfc_types.specs.rules.Bodies.{env_at, around_process, around_sub, around_guard, passed, passed_part, passed_groups, passed_entries, part_scopes}
+use Rattle.pfc_types.specs.rules.Bodies.{parts_scopes, module_scopes, level}
 use Rattle.pfc_semantics.specs.Layouts.{Layout, sub_layout_at, process_layout}
 use Rattle.pfc_semantics.specs.Programs.{Block, Guard, block_of, guard_of, part_blocks, parts_blocks, sub_blocks, module_blocks, process_blocks}
 use Rattle.pfc_run_invariants.proofs.Lists.{all_append, all_push}

@@ -7,7 +7,10 @@ use Rattle.pfc_semantics.specs.Displays.{Spot}
 use Rattle.pfc_semantics.specs.Programs.{Program}
 use Rattle.pfc_semantics.specs.Store.{Store}
 use Rattle.pfc_semantics.specs.Configurations.{Mark, plain, of_monitor, of_resource, Caller, of_nobody, of_remainder, of_value, Activation, Config, activity_of}
-use Rattle.pfc_semantics.specs.Remainders.{Context, Argument, AwaitsValue, Call, Offer, Open, Remainder, Action, Selecting, to_procedure, to_function, to_module, to_requeue, to_process, to_entry, to_send, to_receive, to_accept, to_wait, to_end, reads, writes, turns, calls, finishes, prints, inputs, skips, asks_eof, asks_eoln, asks_clock, asks_empty, draws, joins, initials, waits, signals, delays, resumes, sleeps, meets, decides, parts, scans, bars, passes, faults}
+use Rattle.pfc_semantics.specs.Remainders.{Context, Argument, AwaitsValue, Call, Offer, Open, Remainder, Action, Selecting, to_procedure, to_function}
+use Rattle.pfc_semantics.specs.Remainders.{to_module, to_requeue, to_process, to_entry, to_send, to_receive, to_accept, to_wait, to_end, reads, writes, turns}
+use Rattle.pfc_semantics.specs.Remainders.{calls, finishes, prints, inputs, skips, asks_eof, asks_eoln, asks_clock, asks_empty, draws, joins, initials, waits}
+use Rattle.pfc_semantics.specs.Remainders.{signals, delays, resumes, sleeps, meets, decides, parts, scans, bars, passes, faults}
 use Rattle.pfc_semantics.specs.Selects.{choices, matched_places}
 use Rattle.pfc_translation.specs.Objects.{objects_of}
 use Rattle.pfc_translation.specs.Sites.{is_mains}

@@ -5,7 +5,8 @@ use Rattle.pfc_tree.specs.trees.Parts.{ProgramTree}
 use Rattle.pfc_base.specs.declared.faults.RunFault.TheVariants.{Below}
 use Rattle.pfc_semantics.specs.Configurations.{Config}
 use Rattle.pfc_semantics.specs.Programs.{program_of}
-use Rattle.pfc_semantics.specs.Remainders.{Context, Argument, Offer, Call, Action, to_accept, to_requeue, to_entry, reads, faults, calls, finishes, meets, decides}
+use Rattle.pfc_semantics.specs.Remainders.{Context, Argument, Offer, Call, Action, to_accept, to_requeue, to_entry, reads, faults, calls, finishes, meets}
+use Rattle.pfc_semantics.specs.Remainders.{decides}
 use Rattle.pfc_translation.specs.Sites.{is_mains}
 use Rattle.pfc_translation.specs.Images.{image_of}
 use Rattle.pfc_stacks.specs.Stacks.{stack_of}

@@ -6,7 +6,12 @@ use Rattle.pfc_types.specs.rules.Statements.{scopes_in}
 use Rattle.pfc_types.specs.declared.types.TypeId.{TypeId}
 use Rattle.pfc_types.specs.declared.heads.Formal.{Formal}
 use Rattle.pfc_semantics.specs.Programs.{Block}
-use Rattle.pfc_semantics.specs.Remainders.{Context, Remainder, AwaitsValue, AwaitsLocation, Call, begin_sum, add_to, begin_product, multiply_by, compare_with, compare_to, invert, apply, index_into, pass_value, store_at, choose, choose_arm, while_true, until_true, count_from, count_to, show, show_wide, pad, set_count, delay_with, sleep_for, send_on, open_if, offer_value, offer_wait, pass_own, pass_other, read_for, assign_to, input_to, pass_variable, ask_empty, activate_with, enter_with, initial_to, wait_at, signal_at, delay_at, resume_at, send_to, receive_from, receive_into, offer_to, offer_from, offer_into, to_procedure, to_function, to_module, to_requeue, to_process, to_entry}
+use Rattle.pfc_semantics.specs.Remainders.{Context, Remainder, AwaitsValue, AwaitsLocation, Call, begin_sum, add_to, begin_product, multiply_by, compare_with}
+use Rattle.pfc_semantics.specs.Remainders.{compare_to, invert, apply, index_into, pass_value, store_at, choose, choose_arm, while_true, until_true, count_from}
+use Rattle.pfc_semantics.specs.Remainders.{count_to, show, show_wide, pad, set_count, delay_with, sleep_for, send_on, open_if, offer_value, offer_wait}
+use Rattle.pfc_semantics.specs.Remainders.{pass_own, pass_other, read_for, assign_to, input_to, pass_variable, ask_empty, activate_with, enter_with, initial_to}
+use Rattle.pfc_semantics.specs.Remainders.{wait_at, signal_at, delay_at, resume_at, send_to, receive_from, receive_into, offer_to, offer_from, offer_into}
+use Rattle.pfc_semantics.specs.Remainders.{to_procedure, to_function, to_module, to_requeue, to_process, to_entry}
 use Rattle.pfc_translation.specs.Sites.{Site}
 use Rattle.pfc_standing_code.specs.Shapes.{Shape, a_number}
 use Rattle.pfc_standing_code.specs.Settings.{View, Setting, of_own, site_of, same_block}

@@ -3,7 +3,8 @@ use Rattle.std.proofs.Common.{◌≡◌, ℕ, ◌+◌, ℤ, Bool, List, [], drop
 use Rattle.pfc_tree.specs.trees.Stmts.{repeat_until}
 use Rattle.pfc_types.specs.rules.Expressions.{Env}
 use Rattle.pfc_semantics.specs.Programs.{Block}
-use Rattle.pfc_semantics.specs.Remainders.{Count, Way, Scan, Remainder, leave, own, ends, perform, in_names, turn, until, behind_pass, next_pass, write_on, read_on, at_coend, part_from, write_again, go_through, try_guard, scan_on, try_other}
+use Rattle.pfc_semantics.specs.Remainders.{Count, Way, Scan, Remainder, leave, own, ends, perform, in_names, turn, until, behind_pass, next_pass, write_on}
+use Rattle.pfc_semantics.specs.Remainders.{read_on, at_coend, part_from, write_again, go_through, try_guard, scan_on, try_other}
 use Rattle.pfc_semantics.specs.Alternatives.{context}
 use Rattle.pfc_translation.specs.Sites.{Site}
 use Rattle.pfc_standing_code.specs.Settings.{View, Attempt, Setting, of_own, of_turn, of_another, site_of, IsBeside, same_block, both_mains}

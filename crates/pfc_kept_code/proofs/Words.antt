@@ -10,7 +10,8 @@ use Rattle.pfc_semantics.specs.Remainders.{Argument, by_value, by_reference}
 use Rattle.pfc_translation.specs.Sites.{Site, links_to, cell_of, refers, type_cells}
 use Rattle.pfc_standing_code.specs.Settings.{View, Setting, IsBeside, same_block, both_mains}
 use Rattle.pfc_standing_code.specs.Typed.{unlined, whole_of, IsDeclaredAt}
-use Rattle.pfc_standing_code.specs.Words.{first_word, IsWordAt, IsWord, IsSimpleWord, IsObject, IsInView, names_at, IsChecked, IsArgument, AreHeldAt, none_held, one_more}
+use Rattle.pfc_standing_code.specs.Words.{first_word, IsWordAt, IsWord, IsSimpleWord, IsObject, IsInView, names_at, IsChecked, IsArgument, AreHeldAt, none_held}
+use Rattle.pfc_standing_code.specs.Words.{one_more}
 use Rattle.pfc_standing_code.specs.Performs.{IsSent, of_message, of_signal, IsReceived, into_variable, into_nothing}
 use Rattle.pfc_kept_code.specs.Kept.{SeesAlike, AgreeAt}
 

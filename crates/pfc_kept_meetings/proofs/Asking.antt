@@ -1,5 +1,6 @@
 -- A call of an entry: the fault where its owner is not active, and the wait where it does not wait to accept.
-use Rattle.std.proofs.Common.{◌≡◌, ℕ, suc, ◌+◌, ◌^◌, ◌<◌, ◌≤◌, ℤ, Bool, true, false, if◌then◌else◌, List, [], ◌∷◌, length, take, drop, reverse, Option, Some, None, Ok, Err, refl, sym, ap, ◌∙◌, subst, arith}
+use Rattle.std.proofs.Common.{◌≡◌, ℕ, suc, ◌+◌, ◌^◌, ◌<◌, ◌≤◌, ℤ, Bool, true, false, if◌then◌else◌, List, [], ◌∷◌, length, take, drop, reverse, Option, Some}
+use Rattle.std.proofs.Common.{None, Ok, Err, refl, sym, ap, ◌∙◌, subst, arith}
 use Rattle.pfc_base.specs.declared.faults.RunFault.TheVariants.{NotActive}
 use Rattle.pfc_code.specs.declared.instructions.Instr.TheVariants.{ECALL}
 use Rattle.pfc_code.specs.Images.{PlainImage}

@@ -1,5 +1,6 @@
 -- A call of an entry with an owner that waits to accept it, on both sides.
-use Rattle.std.proofs.Common.{◌≡◌, ℕ, ◌+◌, ◌^◌, ◌<◌, ◌≤◌, ℤ, pos, true, false, List, [], ◌∷◌, length, take, drop, reverse, set, get_or, slice_get, Option, Some, Ok, refl, sym, ap, ◌∙◌, subst, arith}
+use Rattle.std.proofs.Common.{◌≡◌, ℕ, ◌+◌, ◌^◌, ◌<◌, ◌≤◌, ℤ, pos, true, false, List, [], ◌∷◌, length, take, drop, reverse, set, get_or, slice_get, Option, Some}
+use Rattle.std.proofs.Common.{Ok, refl, sym, ap, ◌∙◌, subst, arith}
 use Rattle.std.specs.Prelude.{IfSome}
 use Rattle.std.proofs.lemmas.List.{length-set, get_or-set_same}
 use Rattle.pfc_code.specs.declared.instructions.Instr.TheVariants.{ECALL}

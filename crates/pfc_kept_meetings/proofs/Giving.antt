@@ -1,5 +1,6 @@
 -- A meeting begins: the accept's parameters take what the caller gives, in the store and in the owner's cells.
-use Rattle.std.proofs.Common.{◌≡◌, ◌≢◌, ℕ, ◌+◌, ◌^◌, ◌<◌, ℤ, Bool, true, false, if◌then◌else◌, List, [], ◌∷◌, ◌++◌, length, take, set, Option, Some, refl, sym, ap, ap₂, ◌∙◌, subst, arith, length-append, take_at}
+use Rattle.std.proofs.Common.{◌≡◌, ◌≢◌, ℕ, ◌+◌, ◌^◌, ◌<◌, ℤ, Bool, true, false, if◌then◌else◌, List, [], ◌∷◌, ◌++◌, length, take, set, Option, Some, refl, sym}
+use Rattle.std.proofs.Common.{ap, ap₂, ◌∙◌, subst, arith, length-append, take_at}
 use Rattle.std.proofs.lemmas.List.{length-set}
 use Rattle.pfc_types.specs.Scopes.{scope_at}
 use Rattle.pfc_semantics.specs.Values.{Value}
@@ -51,7 +52,8 @@ use Rattle.pfc_kept_messages.proofs.Stacks.{changed_cells}
 use Rattle.pfc_kept_meetings.specs.Owners.{HasTypedEntries}
 use Rattle.pfc_kept_meetings.specs.Accepts.{HasProcesses, KeepsAccepts}
 use Rattle.pfc_kept_meetings.proofs.Owner as owner
-use Rattle.pfc_kept_meetings.proofs.Owner.{known, only, first, child, of_process, process_is, formals_are, scopes, own_not_mains, own_known, in_blocks, links_own, its_layout, living, block_is}
+use Rattle.pfc_kept_meetings.proofs.Owner.{known, only, first, child, of_process, process_is, formals_are, scopes, own_not_mains, own_known, in_blocks}
+use Rattle.pfc_kept_meetings.proofs.Owner.{links_own, its_layout, living, block_is}
 use Rattle.pfc_kept_meetings.proofs.Parameters.{names_laid, names_cells}
 
 bit_false : (c : Bool) → (c ≡ true → ⊥) → c ≡ false

@@ -1,5 +1,6 @@
 -- An accept with all of its callers.
-use Rattle.std.proofs.Common.{◌≡◌, ℕ, ◌+◌, ◌^◌, ◌<◌, ◌≤◌, ℤ, true, List, [], length, take, drop, reverse, set, slice_get, Option, Some, Ok, refl, sym, ap, ap₂, ◌∙◌, subst, arith}
+use Rattle.std.proofs.Common.{◌≡◌, ℕ, ◌+◌, ◌^◌, ◌<◌, ◌≤◌, ℤ, true, List, [], length, take, drop, reverse, set, slice_get, Option, Some, Ok, refl, sym, ap, ap₂}
+use Rattle.std.proofs.Common.{◌∙◌, subst, arith}
 use Rattle.std.proofs.lemmas.List.{reverse-reverse, length-set, get_or-set_other}
 use Rattle.pfc_code.specs.declared.instructions.Instr.TheVariants.{ACC}
 use Rattle.pfc_state.specs.Stands.{Is_idle}

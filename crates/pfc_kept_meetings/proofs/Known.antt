@@ -4,7 +4,8 @@ use Rattle.std.specs.List.{list_any, list_all}
 use Rattle.pfc_types.specs.Scopes.{Level}
 use Rattle.pfc_types.specs.rules.Expressions.{Env}
 use Rattle.pfc_semantics.specs.Programs.{Block, Program}
-use Rattle.pfc_semantics.specs.Remainders.{Scan, Remainder, ends, perform, in_names, turn, until, behind_pass, next_pass, write_on, read_on, at_coend, part_from, write_again, go_through, try_guard, scan_on, try_other}
+use Rattle.pfc_semantics.specs.Remainders.{Scan, Remainder, ends, perform, in_names, turn, until, behind_pass, next_pass, write_on, read_on, at_coend}
+use Rattle.pfc_semantics.specs.Remainders.{part_from, write_again, go_through, try_guard, scan_on, try_other}
 use Rattle.pfc_translation.specs.Sites.{is_mains, linked}
 use Rattle.pfc_standing_code.specs.Settings.{Attempt, Setting, of_own, of_turn, of_another, same_block, both_mains, IsBeside, IsMains, parted}
 use Rattle.pfc_standing_code.specs.Effects.{Arm}

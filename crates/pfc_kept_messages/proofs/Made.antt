@@ -1,5 +1,6 @@
 -- Alternatives that an activation has made: what is kept of them, what is left when they are gone, and one more.
-use Rattle.std.proofs.Common.{◌≡◌, ℕ, zero, suc, ◌+◌, ◌-◌, ◌<◌, ◌≤◌, max, ℤ, true, false, List, [], ◌∷◌, ◌++◌, length, take, drop, slice_get, Some, refl, sym, ap, ◌∙◌, subst, arith, length-append, length-drop, append_assoc, drop-drop, take_at, drop_at, ◌⊎◌, inl, inr}
+use Rattle.std.proofs.Common.{◌≡◌, ℕ, zero, suc, ◌+◌, ◌-◌, ◌<◌, ◌≤◌, max, ℤ, true, false, List, [], ◌∷◌, ◌++◌, length, take, drop, slice_get, Some, refl, sym}
+use Rattle.std.proofs.Common.{ap, ◌∙◌, subst, arith, length-append, length-drop, append_assoc, drop-drop, take_at, drop_at, ◌⊎◌, inl, inr}
 use Rattle.pfc_code.specs.declared.instructions.Instr.{Instr}
 use Rattle.pfc_code.specs.declared.instructions.Instr.TheVariants.{ARMS, ARMR, ARMA, ARMT, ARMX}
 use Rattle.pfc_code.specs.declared.images.Block.{Block as CodeBlock}

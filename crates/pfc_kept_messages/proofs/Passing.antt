@@ -1,5 +1,6 @@
 -- A message passes: its words, and where they are written.
-use Rattle.std.proofs.Common.{◌≡◌, ℕ, ◌+◌, ◌<◌, ◌≤◌, ℤ, pos, List, [], ◌∷◌, ◌++◌, length, reverse, take, drop, get_or, Option, Some, None, refl, sym, ap, ◌∙◌, subst, arith, length-append, append_assoc, take_at, drop_at, ◌⊎◌, inl, inr}
+use Rattle.std.proofs.Common.{◌≡◌, ℕ, ◌+◌, ◌<◌, ◌≤◌, ℤ, pos, List, [], ◌∷◌, ◌++◌, length, reverse, take, drop, get_or, Option, Some, None, refl, sym, ap, ◌∙◌}
+use Rattle.std.proofs.Common.{subst, arith, length-append, append_assoc, take_at, drop_at, ◌⊎◌, inl, inr}
 use Rattle.std.proofs.lemmas.List.{length-reverse, reverse-reverse}
 use Rattle.pfc_types.specs.Types.{Forms, synchronous}
 use Rattle.pfc_types.specs.declared.types.TypeId.{TypeId}
@@ -27,7 +28,8 @@ use Rattle.pfc_representation.specs.Levels.{Facts, program_in, LivingLevel}
 use Rattle.pfc_representation.specs.Holding.{holders_in}
 use Rattle.pfc_representation.specs.Machines.{AreAlike}
 use Rattle.pfc_representation.specs.Processes.{IsAtLevel}
-use Rattle.pfc_kept_messages.proofs.Sight.{nothing_written, StillHolds, IsChannelAt, one_type, same_program, channel_number, TakesMessage, takes_message, message_size}
+use Rattle.pfc_kept_messages.proofs.Sight.{nothing_written, StillHolds, IsChannelAt, one_type, same_program, channel_number, TakesMessage, takes_message}
+use Rattle.pfc_kept_messages.proofs.Sight.{message_size}
 
 -- ## Operands
 

@@ -1,5 +1,6 @@
 -- Receives.
-use Rattle.std.proofs.Common.{◌≡◌, ℕ, zero, suc, ◌+◌, ◌<◌, ◌≤◌, ◌==◌, ℤ, pos, Bool, true, false, if◌then◌else◌, List, [], ◌∷◌, ◌++◌, length, reverse, drop, set, slice_get, Option, Some, None, IfSome, Ok, refl, sym, ap, ◌∙◌, subst, arith, ◌⊎◌, inl, inr}
+use Rattle.std.proofs.Common.{◌≡◌, ℕ, zero, suc, ◌+◌, ◌<◌, ◌≤◌, ◌==◌, ℤ, pos, Bool, true, false, if◌then◌else◌, List, [], ◌∷◌, ◌++◌, length, reverse, drop, set}
+use Rattle.std.proofs.Common.{slice_get, Option, Some, None, IfSome, Ok, refl, sym, ap, ◌∙◌, subst, arith, ◌⊎◌, inl, inr}
 use Rattle.std.specs.Prelude.{is_some}
 use Rattle.std.proofs.lemmas.List.{get_or-set_same, length-set, same_from_push}
 use Rattle.pfc_code.specs.declared.instructions.Instr.{Instr}
@@ -22,7 +23,8 @@ use Rattle.pfc_semantics.specs.Rewriting.{Doing, going}
 use Rattle.pfc_semantics.specs.Channels as text
 use Rattle.pfc_semantics.specs.Channels.{behind_open, behind_replica, Side, side_of}
 use Rattle.pfc_semantics.specs.Selects.{partner_at, plainly, communicates_by, meets_or_waits, meets_at}
-use Rattle.pfc_semantics.specs.Configurations.{Activity, Config, Effect, nobody, offering, activity_of, at_work, goes_on, showing, with_table, location_for, number_for}
+use Rattle.pfc_semantics.specs.Configurations.{Activity, Config, Effect, nobody, offering, activity_of, at_work, goes_on, showing, with_table, location_for}
+use Rattle.pfc_semantics.specs.Configurations.{number_for}
 use Rattle.pfc_translation.specs.Images.{image_of}
 use Rattle.pfc_stacks.specs.Refs.{ref_of, number_of}
 use Rattle.pfc_stacks.specs.Stacks.{Stack, Stacks, stack_of, operand, operands_of, cells_of, written}
@@ -41,7 +43,8 @@ use Rattle.pfc_machines.specs.Partners.{offers}
 use Rattle.pfc_machines.specs.Quiet.{makes as makes_one, receiving as receiving_one, CanGo}
 use Rattle.pfc_machines.specs.Offers.{words_in, message_of}
 use Rattle.pfc_code.specs.Operands.{receiving}
-use Rattle.pfc_message_actions.specs.Messages.{channel_for, target_for, taken_for, received_out, received_from, receives as machine_receives, CanGive, CanHandOver}
+use Rattle.pfc_message_actions.specs.Messages.{channel_for, target_for, taken_for, received_out, received_from, receives as machine_receives, CanGive}
+use Rattle.pfc_message_actions.specs.Messages.{CanHandOver}
 use Rattle.pfc_machine_acts.specs.Performing.{silent}
 use Rattle.pfc_machine_acts.specs.Conditions.{CanReceive}
 use Rattle.pfc_standing_code.specs.Settings.{of_own, site_of, IsAt}

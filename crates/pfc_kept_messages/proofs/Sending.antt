@@ -1,5 +1,6 @@
 -- Sends.
-use Rattle.std.proofs.Common.{◌≡◌, ℕ, zero, suc, ◌+◌, ◌<◌, ◌≤◌, ◌==◌, ℤ, true, false, List, [], ◌∷◌, ◌++◌, length, reverse, take, drop, set, slice_get, Option, Some, None, IfSome, Ok, refl, sym, ap, ◌∙◌, subst, arith}
+use Rattle.std.proofs.Common.{◌≡◌, ℕ, zero, suc, ◌+◌, ◌<◌, ◌≤◌, ◌==◌, ℤ, true, false, List, [], ◌∷◌, ◌++◌, length, reverse, take, drop, set, slice_get, Option}
+use Rattle.std.proofs.Common.{Some, None, IfSome, Ok, refl, sym, ap, ◌∙◌, subst, arith}
 use Rattle.std.specs.Prelude.{is_some}
 use Rattle.std.proofs.lemmas.List.{get_or-set_other, length-set}
 use Rattle.pfc_code.specs.declared.instructions.Instr.{Instr}
@@ -24,7 +25,8 @@ use Rattle.pfc_semantics.specs.Statements.{behind}
 use Rattle.pfc_semantics.specs.Channels as text
 use Rattle.pfc_semantics.specs.Channels.{behind_open, behind_replica, Side, side_of}
 use Rattle.pfc_semantics.specs.Selects.{partner_at, plainly, communicates_by, meets_or_waits, meets_at}
-use Rattle.pfc_semantics.specs.Configurations.{Activity, Config, Effect, nobody, offering, activity_of, at_work, goes_on, showing, with_table, location_for, number_for}
+use Rattle.pfc_semantics.specs.Configurations.{Activity, Config, Effect, nobody, offering, activity_of, at_work, goes_on, showing, with_table, location_for}
+use Rattle.pfc_semantics.specs.Configurations.{number_for}
 use Rattle.pfc_translation.specs.Images.{image_of}
 use Rattle.pfc_stacks.specs.Refs.{ref_of, number_of}
 use Rattle.pfc_stacks.specs.Stacks.{Stack, Stacks, stack_of, operands_of, written}

@@ -1,5 +1,6 @@
 -- What a process has in sight at its level, where it is in no scan: channels, and variables that take a message.
-use Rattle.std.proofs.Common.{◌≡◌, ℕ, ◌+◌, ◌%◌, ◌^◌, ◌<◌, ℤ, pos, Bool, true, ◌||◌, List, [], ◌∷◌, ◌++◌, length, take, drop, set, Option, Some, sym, ap, ◌∙◌, subst, arith, take-append-drop, append-nil}
+use Rattle.std.proofs.Common.{◌≡◌, ℕ, ◌+◌, ◌%◌, ◌^◌, ◌<◌, ℤ, pos, Bool, true, ◌||◌, List, [], ◌∷◌, ◌++◌, length, take, drop, set, Option, Some, sym, ap, ◌∙◌}
+use Rattle.std.proofs.Common.{subst, arith, take-append-drop, append-nil}
 use Rattle.std.specs.Prelude.{unsigned_abs}
 use Rattle.std.proofs.lemmas.List.{set-get_or}
 use Rattle.pfc_types.specs.Types.{Forms, semaphore, condition, form_of, cells_in, is_same}

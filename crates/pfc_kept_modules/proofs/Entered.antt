@@ -61,7 +61,8 @@ use Rattle.pfc_kept_own_actions.proofs.Arrived.{has_setting, stack_there}
 use Rattle.pfc_kept_object_actions.proofs.Step.{Objects, holders_of, IsChange}
 use Rattle.pfc_kept_calls.proofs.Tops.{HasTop}
 use Rattle.pfc_kept_calls.proofs.Caller.{either_number, number_is, outer, hold, top, is_free, seen_here, hand, shows}
-use Rattle.pfc_kept_calls.proofs.Inside.{Beginning, IsBegun, n, home, homes, mine, entries, values, store, stack, stacks, display, inner, inner_level, lenders_stay}
+use Rattle.pfc_kept_calls.proofs.Inside.{Beginning, IsBegun, n, home, homes, mine, entries, values, store, stack, stacks, display, inner, inner_level}
+use Rattle.pfc_kept_calls.proofs.Inside.{lenders_stay}
 use Rattle.pfc_kept_modules.specs.Exported.{IsExported}
 use Rattle.pfc_kept_modules.proofs.Mains.{main_view, main_shows, nothing_around_main, main_sees_with}
 use Rattle.pfc_kept_modules.proofs.Guards.{guard_known}

@@ -1,5 +1,6 @@
 -- A requeue: the level of the activation that takes the place of the last, before the scan.
-use Rattle.std.proofs.Common.{◌≡◌, ℕ, zero, suc, ◌+◌, ◌≤◌, max, if◌then◌else◌, ℤ, pos, Bool, true, false, List, [], ◌∷◌, length, set, slice_get, get_or, All, Option}
+use Rattle.std.proofs.Common.{◌≡◌, ℕ, zero, suc, ◌+◌, ◌≤◌, max, if◌then◌else◌, ℤ, pos, Bool, true, false, List, [], ◌∷◌, length, set, slice_get, get_or, All}
+use Rattle.std.proofs.Common.{Option}
 use Rattle.std.proofs.Common.{Some, None, refl, sym, ap, ◌∙◌, subst, arith, inl}
 use Rattle.pfc_types.specs.declared.heads.Formal.{Formal}
 use Rattle.pfc_types.specs.rules.Expressions.{Env}

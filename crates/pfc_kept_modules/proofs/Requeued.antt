@@ -55,7 +55,8 @@ use Rattle.pfc_kept_calls.proofs.Ended.{only_here}
 use Rattle.pfc_kept_calls.proofs.Returned.{has, home as old_home, home_at as old_home_at}
 use Rattle.pfc_stack_laws.specs.Standing.{HoldStore}
 use Rattle.pfc_kept_modules.proofs.Replaced.{values as values_of}
-use Rattle.pfc_kept_modules.proofs.Replaced.{top, others, old, IsRequeue, n, new_home, is_stack, new_hold, operands_left, like, at_home, lenders_stay, entries_are}
+use Rattle.pfc_kept_modules.proofs.Replaced.{top, others, old, IsRequeue, n, new_home, is_stack, new_hold, operands_left, like, at_home, lenders_stay}
+use Rattle.pfc_kept_modules.proofs.Replaced.{entries_are}
 use Rattle.pfc_kept_modules.proofs.Renewed.{its_code, homes', entries', mine', store', stack', stacks', display', its_resource, turn, activation}
 use Rattle.pfc_kept_modules.proofs.Renewed.{inside_level, d1, does, new_level, goes_within, scan_is, way_is}
 

@@ -1,9 +1,12 @@
 -- Faults of quiet instructions, and of widths.
-use Rattle.std.proofs.Common.{◌≡◌, ℕ, suc, ◌+◌, ◌-◌, ◌≤◌, ℤ, pos, negsuc, int_lt, Bool, true, false, if◌then◌else◌, List, [], ◌∷◌, ◌++◌, length, take, drop, slice_get, get_or, Some, Result, Err, refl, sym, ap, ◌∙◌, subst, arith, ◌⊎◌, inl, inr}
+use Rattle.std.proofs.Common.{◌≡◌, ℕ, suc, ◌+◌, ◌-◌, ◌≤◌, ℤ, pos, negsuc, int_lt, Bool, true, false, if◌then◌else◌, List, [], ◌∷◌, ◌++◌, length, take, drop}
+use Rattle.std.proofs.Common.{slice_get, get_or, Some, Result, Err, refl, sym, ap, ◌∙◌, subst, arith, ◌⊎◌, inl, inr}
 use Rattle.pfc_base.specs.declared.faults.RunFault.{RunFault}
 use Rattle.pfc_base.specs.declared.faults.RunFault.TheVariants.{Below}
 use Rattle.pfc_code.specs.declared.instructions.Instr.{Instr}
-use Rattle.pfc_code.specs.declared.instructions.Instr.TheVariants.{CALL, RET, RETF, MCALL, RCALL, GRD, SCAN, REQ, NEW, SINI, SWAIT, SSIG, SEND, RECV, ECALL, ACC, EACC, ARMS, ARMR, ARMA, ARMT, ARMX, SEL, DELAY, RESUME, EMPTY, CLOCK, RAND, WRS, RDI, RDC, EOF, EOLN}
+use Rattle.pfc_code.specs.declared.instructions.Instr.TheVariants.{CALL, RET, RETF, MCALL, RCALL, GRD, SCAN, REQ, NEW, SINI, SWAIT, SSIG, SEND, RECV, ECALL}
+use Rattle.pfc_code.specs.declared.instructions.Instr.TheVariants.{ACC, EACC, ARMS, ARMR, ARMA, ARMT, ARMX, SEL, DELAY, RESUME, EMPTY, CLOCK, RAND, WRS, RDI}
+use Rattle.pfc_code.specs.declared.instructions.Instr.TheVariants.{RDC, EOF, EOLN}
 use Rattle.pfc_code.specs.Images.{PlainImage}
 use Rattle.pfc_values.specs.Numbers.{is_true}
 use Rattle.pfc_values.specs.Pieces.{shown, padded}

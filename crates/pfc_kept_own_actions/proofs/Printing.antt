@@ -1,5 +1,6 @@
 -- Output pieces, and widths that are refused.
-use Rattle.std.proofs.Common.{◌≡◌, ℕ, suc, ◌+◌, ◌-◌, ◌≤◌, min, ℤ, Bool, false, not, List, [], ◌∷◌, ◌++◌, length, drop, slice_get, Some, Result, Ok, refl, sym, ap, ◌∙◌, subst, arith}
+use Rattle.std.proofs.Common.{◌≡◌, ℕ, suc, ◌+◌, ◌-◌, ◌≤◌, min, ℤ, Bool, false, not, List, [], ◌∷◌, ◌++◌, length, drop, slice_get, Some, Result, Ok, refl, sym}
+use Rattle.std.proofs.Common.{ap, ◌∙◌, subst, arith}
 use Rattle.std.proofs.lemmas.List.{append-nil}
 use Rattle.std.proofs.lemmas.Option.{slice_get_within, get_or_from_slice_get}
 use Rattle.rand_pcg.specs.Lcg.{Lcg}

@@ -35,7 +35,8 @@ use Rattle.pfc_representation.specs.Acting.{IsActing, HasArrived}
 use Rattle.pfc_representation.specs.Actions.{IsKept, AreKept}
 use Rattle.pfc_kept_own_actions.specs.Groups.{IsRead}
 use Rattle.pfc_kept_own_actions.proofs.Steps.{IsOwnStep}
-use Rattle.pfc_kept_own_actions.proofs.Arrived.{has_setting, stack_there, code_there, code_line, acts_now, hold_store, untried, stands_at, at_hand, displayed, next_within}
+use Rattle.pfc_kept_own_actions.proofs.Arrived.{has_setting, stack_there, code_there, code_line, acts_now, hold_store, untried, stands_at, at_hand, displayed}
+use Rattle.pfc_kept_own_actions.proofs.Arrived.{next_within}
 use Rattle.pfc_kept_own_actions.proofs.Alone.{does_on, alone_comes}
 
 module _ (facts : Facts) (m : Machine) (c : Config) (p choice : ℕ) (level : LivingLevel) (x : Context) (v : Spot) (u : AwaitsValue)

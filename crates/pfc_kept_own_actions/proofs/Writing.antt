@@ -1,5 +1,6 @@
 -- Writes of variables.
-use Rattle.std.proofs.Common.{◌≡◌, ◌≢◌, ℕ, zero, suc, ◌+◌, ◌<◌, ◌≤◌, ℤ, false, List, [], ◌∷◌, ◌++◌, length, set, reverse, get_or, Option, Some, refl, sym, ap, ◌∙◌, subst, arith, length-append, ◌⊎◌, inl, inr}
+use Rattle.std.proofs.Common.{◌≡◌, ◌≢◌, ℕ, zero, suc, ◌+◌, ◌<◌, ◌≤◌, ℤ, false, List, [], ◌∷◌, ◌++◌, length, set, reverse, get_or, Option, Some, refl, sym, ap}
+use Rattle.std.proofs.Common.{◌∙◌, subst, arith, length-append, ◌⊎◌, inl, inr}
 use Rattle.std.proofs.lemmas.List.{length-set, get_or-set_same, get_or-set_other}
 use Rattle.pfc_code.specs.declared.instructions.Instr.{Instr}
 use Rattle.pfc_code.specs.declared.instructions.Instr.TheVariants.{STORE, FORW}
@@ -40,7 +41,8 @@ use Rattle.pfc_representation.specs.Actions.{IsKept, AreKept}
 use Rattle.pfc_image_laws.specs.Operands.{is_end}
 use Rattle.pfc_kept_own_actions.specs.Groups.{IsWritten}
 use Rattle.pfc_kept_own_actions.proofs.Steps.{IsOwnStep}
-use Rattle.pfc_kept_own_actions.proofs.Arrived.{has_setting, stack_there, code_there, code_line, acts_now, hold_store, untried, stands_at, at_hand, displayed, next_within}
+use Rattle.pfc_kept_own_actions.proofs.Arrived.{has_setting, stack_there, code_there, code_line, acts_now, hold_store, untried, stands_at, at_hand, displayed}
+use Rattle.pfc_kept_own_actions.proofs.Arrived.{next_within}
 use Rattle.pfc_kept_own_actions.proofs.Alone.{does_on, alone_comes}
 
 -- ## Cells

@@ -15,7 +15,8 @@ use Rattle.pfc_semantics.specs.Configurations.{Mark, plain, of_monitor, of_resou
 use Rattle.pfc_machines.specs.declared.machine.Machine.{Machine}
 use Rattle.pfc_standing_code.specs.Settings.{Trial, of_own}
 use Rattle.pfc_representation.specs.Levels.{Facts, LivingLevel}
-use Rattle.pfc_representation.specs.Holding.{Holders, holders_in, waits_for_monitor, waits_for_resource, waits_for_resource_at, HoldsFor, Holds, is_quiet, waits_at_coend}
+use Rattle.pfc_representation.specs.Holding.{Holders, holders_in, waits_for_monitor, waits_for_resource, waits_for_resource_at, HoldsFor, Holds, is_quiet}
+use Rattle.pfc_representation.specs.Holding.{waits_at_coend}
 use Rattle.pfc_representation.specs.Machines.{machine_table}
 use Rattle.pfc_representation.specs.Keeping.{HoldsStill}
 use Rattle.pfc_representation.specs.Acting.{IsActing}

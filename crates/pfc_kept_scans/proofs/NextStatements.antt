@@ -3,8 +3,11 @@ use Rattle.std.proofs.Common.{ℕ, ◌+◌, ℤ, Bool, List, [], ◌∷◌, Opti
 use Rattle.pfc_base.specs.declared.faults.RunFault.{RunFault}
 use Rattle.pfc_base.specs.declared.places.Place.{Place}
 use Rattle.pfc_tree.specs.Symbols.{Text}
-use Rattle.pfc_tree.specs.trees.Exprs.{ExprTree, DesigTree, SelectorTrees, ActualTree, ActualTrees, desig, no_selectors, actual, actual_width, no_actuals, more_actuals}
-use Rattle.pfc_tree.specs.trees.Stmts.{StmtTree, StmtTrees, ArmTrees, CommTree, comm_accept, comm_send, comm_receive, timeout, terminate, empty, null, block, if_then, if_then_else, case_of, while_do, repeat_until, repeat_forever, for_do, cobegin, accepting, requeue, select, select_else, assign, send, receive, call, no_stmts, more_stmts, body, arm, no_arms, more_arms}
+use Rattle.pfc_tree.specs.trees.Exprs.{ExprTree, DesigTree, SelectorTrees, ActualTree, ActualTrees, desig, no_selectors, actual, actual_width, no_actuals}
+use Rattle.pfc_tree.specs.trees.Exprs.{more_actuals}
+use Rattle.pfc_tree.specs.trees.Stmts.{StmtTree, StmtTrees, ArmTrees, CommTree, comm_accept, comm_send, comm_receive, timeout, terminate, empty, null, block}
+use Rattle.pfc_tree.specs.trees.Stmts.{if_then, if_then_else, case_of, while_do, repeat_until, repeat_forever, for_do, cobegin, accepting, requeue, select}
+use Rattle.pfc_tree.specs.trees.Stmts.{select_else, assign, send, receive, call, no_stmts, more_stmts, body, arm, no_arms, more_arms}
 use Rattle.pfc_types.specs.Scopes.{meaning_of, meaning_in, scope_at}
 use Rattle.pfc_types.specs.Blocks.{module_at}
 use Rattle.pfc_types.specs.rules.Expressions.{Env, find, as_desig, selected}
@@ -16,10 +19,16 @@ use Rattle.pfc_types.specs.declared.heads.Formal.{Formal}
 use Rattle.pfc_semantics.specs.Values.{Value, ordinal_of}
 use Rattle.pfc_semantics.specs.Displays.{Spot, TypedSpot}
 use Rattle.pfc_semantics.specs.Predeclared.{Procedure, reader, writer, initial, wait, signal, delay, resume, sleep, no_procedure, procedure_of}
-use Rattle.pfc_semantics.specs.Remainders.{Context, Replica, Alternative, Count, Selecting, Remainder, Action, writes, turns, prints, inputs, skips, joins, initials, waits, signals, delays, resumes, sleeps, meets, decides, faults}
+use Rattle.pfc_semantics.specs.Remainders.{Context, Replica, Alternative, Count, Selecting, Remainder, Action, writes, turns, prints, inputs, skips, joins}
+use Rattle.pfc_semantics.specs.Remainders.{initials, waits, signals, delays, resumes, sleeps, meets, decides, faults}
 use Rattle.pfc_semantics.specs.Expressions.{spot_of}
-use Rattle.pfc_semantics.specs.Alternatives.{context, alternatives, from_seconds, from_message, from_receiver, from_comm, from_opened, from_guard, from_replica, from_alternatives, select_begun, message_of, receiver_of}
-use Rattle.pfc_semantics.specs.Statements.{as_string, from_piece, from_width, from_string, from_wide_string, from_item, from_writes, item_of, from_input, from_reads, expr_of, behind_first, from_initial, from_delay, from_procedure, from_activation, from_entry, name_in_process, process_of_type, from_process, from_field, from_called_variable, from_called_process, from_exported, from_module, from_called, from_call, from_requeue, from_sent, from_received, from_bounds, from_pass, counting, from_until, from_stmt, from_stmts, from_arms}
+use Rattle.pfc_semantics.specs.Alternatives.{context, alternatives, from_seconds, from_message, from_receiver, from_comm, from_opened, from_guard, from_replica}
+use Rattle.pfc_semantics.specs.Alternatives.{from_alternatives, select_begun, message_of, receiver_of}
+use Rattle.pfc_semantics.specs.Statements.{as_string, from_piece, from_width, from_string, from_wide_string, from_item, from_writes, item_of, from_input}
+use Rattle.pfc_semantics.specs.Statements.{from_reads, expr_of, behind_first, from_initial, from_delay, from_procedure, from_activation, from_entry}
+use Rattle.pfc_semantics.specs.Statements.{name_in_process, process_of_type, from_process, from_field, from_called_variable, from_called_process, from_exported}
+use Rattle.pfc_semantics.specs.Statements.{from_module, from_called, from_call, from_requeue, from_sent, from_received, from_bounds, from_pass, counting}
+use Rattle.pfc_semantics.specs.Statements.{from_until, from_stmt, from_stmts, from_arms}
 use Rattle.pfc_kept_scans.proofs.Nexts.{IsOther, Comes}
 use Rattle.pfc_kept_scans.proofs.Nexts as next
 

@@ -1,6 +1,9 @@
 -- What is true of the action that comes next, where it is true of all but those on resources, and of these as they come about.
 use Rattle.std.proofs.Common.{pos, Bool, true, false, if◌then◌else◌, List, [], ◌∷◌, Option, Some, None, Ok, Err}
-use Rattle.pfc_tree.specs.trees.Exprs.{ExprTree, SimpleTree, SummandTrees, TermTree, MultiplierTrees, FactorTree, DesigTree, SelectorTrees, ExprTrees, ActualTree, ActualTrees, plain, related, sum, no_summands, more_summands, product, no_multipliers, more_multipliers, number, literal, negation, paren, applied as used, desig, index, field, no_selectors, more_selectors, no_exprs, more_exprs, actual, actual_width, no_actuals, more_actuals}
+use Rattle.pfc_tree.specs.trees.Exprs.{ExprTree, SimpleTree, SummandTrees, TermTree, MultiplierTrees, FactorTree, DesigTree, SelectorTrees, ExprTrees}
+use Rattle.pfc_tree.specs.trees.Exprs.{ActualTree, ActualTrees, plain, related, sum, no_summands, more_summands, product, no_multipliers, more_multipliers}
+use Rattle.pfc_tree.specs.trees.Exprs.{number, literal, negation, paren, applied as used, desig, index, field, no_selectors, more_selectors, no_exprs}
+use Rattle.pfc_tree.specs.trees.Exprs.{more_exprs, actual, actual_width, no_actuals, more_actuals}
 use Rattle.pfc_types.specs.Scopes.{meaning_of}
 use Rattle.pfc_types.specs.rules.Expressions.{find, first_type}
 use Rattle.pfc_types.specs.declared.types.TypeId.{TypeId}
@@ -12,8 +15,11 @@ use Rattle.pfc_semantics.specs.Values.{Value, ordinal, ordinal_of}
 use Rattle.pfc_semantics.specs.Operators.{signed, applied, simple_of}
 use Rattle.pfc_semantics.specs.Displays.{TypedSpot}
 use Rattle.pfc_semantics.specs.Predeclared.{Function, eof, eoln, empty, clock, random}
-use Rattle.pfc_semantics.specs.Remainders.{Context, Argument, AwaitsValue, AwaitsLocation, Call, Action, reads, calls, asks_eof, asks_eoln, asks_clock, asks_empty, draws, scans, bars, passes, faults}
-use Rattle.pfc_semantics.specs.Expressions.{with_number, char_in, spot_in, spot_of, with_element, finish_call, from_function, from_name, from_expr, from_simple, from_summands, from_term, from_multipliers, from_factor, from_argument, from_reference, from_actual, from_lent, from_variable, from_args, from_selectors, from_indices, from_desig}
+use Rattle.pfc_semantics.specs.Remainders.{Context, Argument, AwaitsValue, AwaitsLocation, Call, Action, reads, calls, asks_eof, asks_eoln, asks_clock}
+use Rattle.pfc_semantics.specs.Remainders.{asks_empty, draws, scans, bars, passes, faults}
+use Rattle.pfc_semantics.specs.Expressions.{with_number, char_in, spot_in, spot_of, with_element, finish_call, from_function, from_name, from_expr, from_simple}
+use Rattle.pfc_semantics.specs.Expressions.{from_summands, from_term, from_multipliers, from_factor, from_argument, from_reference, from_actual, from_lent}
+use Rattle.pfc_semantics.specs.Expressions.{from_variable, from_args, from_selectors, from_indices, from_desig}
 
 -- all but those on guards and scans
 abbrev pub IsOther : Action → Type 0

@@ -1,7 +1,9 @@
 -- The bits of several words, and how many numbers there are in them.
-use Rattle.std.proofs.Common.{◌≡◌, ℕ, zero, suc, ◌+◌, ◌-◌, ◌*◌, ◌/◌, ◌%◌, ◌^◌, ◌<◌, ◌≤◌, Bool, true, false, List, [], ◌∷◌, ◌++◌, length, get_or, set, take, drop, replicate, arith, refl, sym, ap, ◌∙◌, cond, subst}
+use Rattle.std.proofs.Common.{◌≡◌, ℕ, zero, suc, ◌+◌, ◌-◌, ◌*◌, ◌/◌, ◌%◌, ◌^◌, ◌<◌, ◌≤◌, Bool, true, false, List, [], ◌∷◌, ◌++◌, length, get_or, set, take}
+use Rattle.std.proofs.Common.{drop, replicate, arith, refl, sym, ap, ◌∙◌, cond, subst}
 use mir.Val.{bool_byte}
-use Rattle.std.proofs.lemmas.List.{length-append, append-nil, append_assoc, get_or_append_left, get_or-append_right, get_or_default, length-take-le, take_at, take_more, take-append-le, set-append_left, set-append_right}
+use Rattle.std.proofs.lemmas.List.{length-append, append-nil, append_assoc, get_or_append_left, get_or-append_right, get_or_default, length-take-le, take_at}
+use Rattle.std.proofs.lemmas.List.{take_more, take-append-le, set-append_left, set-append_right}
 use Rattle.std.proofs.lemmas.Nat.{div_below, mod_below, pow_pos, pow_below}
 use Rattle.std.proofs.Math.Nat.{div-add-mod}
 use Rattle.std.proofs.Math.Seq.{take-append-add}

@@ -1,7 +1,9 @@
 -- Words that are written one by one.
-use Rattle.std.proofs.Common.{◌≡◌, ℕ, zero, suc, ◌+◌, ◌-◌, ◌≤◌, ◌<◌, ℤ, pos, List, [], ◌∷◌, ◌++◌, length, take, drop, get_or, set, refl, sym, ◌∙◌, ap, arith, ◌⊎◌, inl, inr}
+use Rattle.std.proofs.Common.{◌≡◌, ℕ, zero, suc, ◌+◌, ◌-◌, ◌≤◌, ◌<◌, ℤ, pos, List, [], ◌∷◌, ◌++◌, length, take, drop, get_or, set, refl, sym, ◌∙◌, ap, arith}
+use Rattle.std.proofs.Common.{◌⊎◌, inl, inr}
 use Rattle.std.specs.Prelude.{reverse}
-use Rattle.std.proofs.lemmas.List.{append_assoc, append-nil, length-reverse, length-take-le, length-drop, length-append, take-append-drop, get_or-reverse, get_or-take, get_or-drop, get_or-set_same, set-set, set-get_or, set_at, drop_more, take_more, get_or_past}
+use Rattle.std.proofs.lemmas.List.{append_assoc, append-nil, length-reverse, length-take-le, length-drop, length-append, take-append-drop, get_or-reverse}
+use Rattle.std.proofs.lemmas.List.{get_or-take, get_or-drop, get_or-set_same, set-set, set-get_or, set_at, drop_more, take_more, get_or_past}
 use Rattle.pfc_machine.specs.declared.refs.Ref.{Ref}
 use Rattle.pfc_machine.specs.Stacks.{Stack, Stacks, no_stack, stack_of, cells_of, operand, with_words, written}
 use Rattle.pfc_machine.specs.Fits.{AreLive}

@@ -6,7 +6,9 @@ use Rattle.pfc_base.specs.declared.faults.RunFault.{RunFault}
 use Rattle.pfc_base.specs.declared.faults.RunFault.TheVariants.{Stack as Full, Active, Negative, Count, NotActive, Closed}
 use Rattle.pfc_code.specs.declared.images.Block.{Block}
 use Rattle.pfc_code.specs.declared.instructions.Instr.{Instr}
-use Rattle.pfc_code.specs.declared.instructions.Instr.TheVariants.{CALL, RET, RETF, MCALL, RCALL, GRD, SCAN, REQ, NEW, COEND, END, SINI, SWAIT, SSIG, SEND, RECV, ECALL, ACC, EACC, SEL, DELAY, RESUME, EMPTY, SLEEP, CLOCK, RAND, WRI, WRB, WRC, WRS, WRNL, RDI, RDC, RDNL, EOF, EOLN}
+use Rattle.pfc_code.specs.declared.instructions.Instr.TheVariants.{CALL, RET, RETF, MCALL, RCALL, GRD, SCAN, REQ, NEW, COEND, END, SINI, SWAIT, SSIG, SEND}
+use Rattle.pfc_code.specs.declared.instructions.Instr.TheVariants.{RECV, ECALL, ACC, EACC, SEL, DELAY, RESUME, EMPTY, SLEEP, CLOCK, RAND, WRI, WRB, WRC, WRS}
+use Rattle.pfc_code.specs.declared.instructions.Instr.TheVariants.{WRNL, RDI, RDC, RDNL, EOF, EOLN}
 use Rattle.pfc_code.specs.Images.{PlainImage}
 use Rattle.pfc_resource.specs.declared.scans.Barred.{Barred}
 use Rattle.pfc_resource.specs.Scans.{scanned}
@@ -61,7 +63,8 @@ use Rattle.pfc_resource_actions.specs.Guards.{bars, passes_where, guarded_by, gu
 use Rattle.pfc_resource_actions.specs.Scans.{scan_ended, over, scanned_to, turned}
 use Rattle.pfc_message_actions.specs.Messages.{next_of, channel_under, channel_for, sent_into, sent_to, received_out, received_from}
 use Rattle.pfc_meeting_actions.specs.Meetings.{called_by, called_into, accepted_from, last_caller, parted_from}
-use Rattle.pfc_select_actions.specs.Selects.{open_count, open_ones, open_arms, matched_places, place_taken, sent_from, received_by, communicates_by, communicates, partner_at, takes_at, waits_at, times_out, seconds_of, waits_or_closed, goes_otherwise, decides_by}
+use Rattle.pfc_select_actions.specs.Selects.{open_count, open_ones, open_arms, matched_places, place_taken, sent_from, received_by, communicates_by}
+use Rattle.pfc_select_actions.specs.Selects.{communicates, partner_at, takes_at, waits_at, times_out, seconds_of, waits_or_closed, goes_otherwise, decides_by}
 use Rattle.pfc_machine_acts.specs.Acting.{clock, KeepsClock}
 use Rattle.pfc_stacks.specs.Effects as stacked
 use Rattle.pfc_machine_acts.specs.Performing.{acts_by, does_alone, with_block, selects_by, meets_by, holds_by, calls_by, lives_by, silent, performs}

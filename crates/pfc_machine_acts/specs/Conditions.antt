@@ -3,7 +3,8 @@ use Rattle.std.specs.Prelude.{ℕ, ◌+◌, ◌*◌, ◌^◌, ◌≡◌, ◌≤�
 use Rattle.std.specs.List.{slice_get}
 use Rattle.pfc_code.specs.declared.images.Block.{Block}
 use Rattle.pfc_code.specs.declared.instructions.Instr.{Instr}
-use Rattle.pfc_code.specs.declared.instructions.Instr.TheVariants.{CALL, RET, RETF, MCALL, RCALL, GRD, SCAN, REQ, NEW, SINI, SWAIT, SSIG, SEND, RECV, ECALL, ACC, EACC, SEL, DELAY, RESUME, EMPTY, CLOCK, RAND, WRS, RDI, RDC, EOF, EOLN}
+use Rattle.pfc_code.specs.declared.instructions.Instr.TheVariants.{CALL, RET, RETF, MCALL, RCALL, GRD, SCAN, REQ, NEW, SINI, SWAIT, SSIG, SEND, RECV, ECALL}
+use Rattle.pfc_code.specs.declared.instructions.Instr.TheVariants.{ACC, EACC, SEL, DELAY, RESUME, EMPTY, CLOCK, RAND, WRS, RDI, RDC, EOF, EOLN}
 use Rattle.pfc_code.specs.Images.{PlainImage}
 use Rattle.pfc_meet.specs.Meetings.{IsInMeeting}
 use Rattle.pfc_resource.specs.Scans.{IsBarredAt}

@@ -3,7 +3,9 @@ use Rattle.std.specs.Prelude.{ℕ, ◌≡◌, Bool, true, false, [], get_or, Opt
 use Rattle.std.specs.List.{slice_get}
 use Rattle.pfc_code.specs.declared.images.Block.{Block}
 use Rattle.pfc_code.specs.declared.instructions.Instr.{Instr}
-use Rattle.pfc_code.specs.declared.instructions.Instr.TheVariants.{CALL, RET, RETF, MCALL, RCALL, GRD, SCAN, REQ, NEW, COEND, END, SINI, SWAIT, SSIG, SEND, RECV, ECALL, ACC, EACC, SEL, DELAY, RESUME, EMPTY, SLEEP, CLOCK, RAND, WRI, WRB, WRC, WRS, WRNL, RDI, RDC, RDNL, EOF, EOLN}
+use Rattle.pfc_code.specs.declared.instructions.Instr.TheVariants.{CALL, RET, RETF, MCALL, RCALL, GRD, SCAN, REQ, NEW, COEND, END, SINI, SWAIT, SSIG, SEND}
+use Rattle.pfc_code.specs.declared.instructions.Instr.TheVariants.{RECV, ECALL, ACC, EACC, SEL, DELAY, RESUME, EMPTY, SLEEP, CLOCK, RAND, WRI, WRB, WRC, WRS}
+use Rattle.pfc_code.specs.declared.instructions.Instr.TheVariants.{WRNL, RDI, RDC, RDNL, EOF, EOLN}
 use Rattle.pfc_code.specs.Images.{PlainImage}
 use Rattle.pfc_stacks.specs.Effects as stacked
 use Rattle.pfc_values.specs.declared.simple.Simple.TheVariants.{Integer, Boolean, Char}

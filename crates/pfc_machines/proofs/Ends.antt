@@ -1,7 +1,8 @@
 -- Lists that are seen from their end.
 use Rattle.std.proofs.Common.{◌≡◌, ℕ, zero, suc, ◌+◌, ◌-◌, ◌≤◌, ℤ, List, [], ◌∷◌, ◌++◌, Option, None, Some, length, take, drop, refl, sym, ap, ap₂, ◌∙◌, arith}
 use Rattle.std.specs.Prelude.{reverse}
-use Rattle.std.proofs.lemmas.List.{take_all, length-take-le, length-drop, length-reverse, length-append, reverse-append, append_assoc, append-nil, take-append-drop, take_at, drop_at}
+use Rattle.std.proofs.lemmas.List.{take_all, length-take-le, length-drop, length-reverse, length-append, reverse-append, append_assoc, append-nil}
+use Rattle.std.proofs.lemmas.List.{take-append-drop, take_at, drop_at}
 use Rattle.pfc_state.specs.declared.waits.Arm.{Arm}
 use Rattle.pfc_stacks.proofs.Lists.{drop-reverse, last-reverse}
 use Rattle.pfc_machines.specs.declared.alternatives.Alternative.{Alternative}

@@ -1,5 +1,6 @@
 -- The quiet instructions that are not of the stacks alone: those that make alternatives of a select, and a guard by which nothing changes hands.
-use Rattle.std.specs.Prelude.{ℕ, zero, suc, ◌+◌, ◌≤◌, ◌<◌, ◌^◌, ℤ, pos, negsuc, Bool, true, false, List, [], length, take, drop, get_or, set, Option, None, Some, ◌≡◌}
+use Rattle.std.specs.Prelude.{ℕ, zero, suc, ◌+◌, ◌≤◌, ◌<◌, ◌^◌, ℤ, pos, negsuc, Bool, true, false, List, [], length, take, drop, get_or, set, Option, None}
+use Rattle.std.specs.Prelude.{Some, ◌≡◌}
 use Rattle.pfc_base.specs.declared.faults.RunFault.{RunFault}
 use Rattle.pfc_base.specs.declared.faults.RunFault.TheVariants.{Below}
 use Rattle.pfc_code.specs.declared.instructions.Instr.{Instr}

@@ -1,9 +1,11 @@
 -- Calls in a main body have the same code: there are only calls of `read` and `write`.
-use Rattle.std.proofs.Common.{◌≡◌, ℕ, zero, suc, ◌+◌, ◌-◌, nat_lt, Bool, true, false, ◌||◌, if◌then◌else◌, List, [], ◌∷◌, ◌++◌, get_or, Option, Some, None, refl, sym, ap, ◌∙◌, subst, arith}
+use Rattle.std.proofs.Common.{◌≡◌, ℕ, zero, suc, ◌+◌, ◌-◌, nat_lt, Bool, true, false, ◌||◌, if◌then◌else◌, List, [], ◌∷◌, ◌++◌, get_or, Option, Some, None}
+use Rattle.std.proofs.Common.{refl, sym, ap, ◌∙◌, subst, arith}
 use Rattle.std.proofs.lemmas.Bool.Decides.{nat_tests}
 use Rattle.pfc_base.specs.declared.places.Place.{Place}
 use Rattle.pfc_tree.specs.Symbols.{Text}
-use Rattle.pfc_tree.specs.trees.Exprs.{ExprTree, DesigTree, SelectorTrees, ActualTree, ActualTrees, plain, sum, no_summands, product, no_multipliers, literal, applied as used, desig, no_selectors, more_selectors, actual, actual_width, no_actuals, more_actuals}
+use Rattle.pfc_tree.specs.trees.Exprs.{ExprTree, DesigTree, SelectorTrees, ActualTree, ActualTrees, plain, sum, no_summands, product, no_multipliers, literal}
+use Rattle.pfc_tree.specs.trees.Exprs.{applied as used, desig, no_selectors, more_selectors, actual, actual_width, no_actuals, more_actuals}
 use Rattle.pfc_code.specs.declared.instructions.Instr.TheVariants.{ADDR, WRS, WRNL, RDNL}
 use Rattle.pfc_types.specs.Types.{semaphore, integer}
 use Rattle.pfc_types.specs.Scopes.{meaning_of}
@@ -14,8 +16,10 @@ use Rattle.pfc_types.specs.declared.view.Found.{Found}
 use Rattle.pfc_types.specs.Faults.{unless}
 use Rattle.pfc_types.specs.rules.Kinds.{variable_type}
 use Rattle.pfc_types.specs.rules.Constants.{is_char}
-use Rattle.pfc_types.specs.rules.Routines.{a_value, a_variable_of, routine_of, called_with, one_semaphore, one_condition, ranked_condition, in_main, anywhere, in_monitor_sub}
-use Rattle.pfc_types.specs.rules.Calls.{asked, broken_read, broken_reads, written, broken_written, broken_writes, call_routine, call_name, call_part_of, broken_call, last_field, before_last}
+use Rattle.pfc_types.specs.rules.Routines.{a_value, a_variable_of, routine_of, called_with, one_semaphore, one_condition, ranked_condition, in_main, anywhere}
+use Rattle.pfc_types.specs.rules.Routines.{in_monitor_sub}
+use Rattle.pfc_types.specs.rules.Calls.{asked, broken_read, broken_reads, written, broken_written, broken_writes, call_routine, call_name, call_part_of}
+use Rattle.pfc_types.specs.rules.Calls.{broken_call, last_field, before_last}
 use Rattle.pfc_types.specs.rules.Expressions.{Env, find, as_desig, as_literal, expr_type, desig_type, selected, actual_count, broken_expr, broken_selectors}
 use Rattle.pfc_values.specs.declared.simple.Simple.{Simple}
 use Rattle.pfc_values.specs.declared.simple.Simple.TheVariants.{Integer, Boolean, Char}
@@ -29,7 +33,8 @@ use Rattle.pfc_semantics.specs.Programs.{Program}
 use Rattle.pfc_semantics.specs.Statements.{string_in, as_string, item_of}
 use Rattle.pfc_translation.specs.Codes.{Code, nothing, one}
 use Rattle.pfc_translation.specs.Expressions.{desig_code, address_code}
-use Rattle.pfc_translation.specs.Calls.{write_instr, plain_item, wide_item, item_code, writes_code, read_instr, input_code, reads_code, procedure_code, process_code, field_code, called_variable, called_code, found_code, call_code}
+use Rattle.pfc_translation.specs.Calls.{write_instr, plain_item, wide_item, item_code, writes_code, read_instr, input_code, reads_code, procedure_code}
+use Rattle.pfc_translation.specs.Calls.{process_code, field_code, called_variable, called_code, found_code, call_code}
 use Rattle.pfc_relation.specs.Typed.{IsSimpleDesig, AreRead, IsCall}
 use Rattle.pfc_relation.specs.code.Cells as main_cells
 use Rattle.pfc_relation.specs.code.Phrases as main_code
@@ -43,7 +48,8 @@ use Rattle.pfc_main_code.proofs.Codes.{IsCounted, Agrees, agrees_nothing, agrees
 use Rattle.pfc_main_code.proofs.Names.{is_unbuilt_number, IsBuilt, found_built}
 use Rattle.pfc_main_code.proofs.Plain.{may_select, no_process}
 use Rattle.pfc_main_code.proofs.Sites.{IsMainProgram, env_in, site_in, context_in, variable_in_view, base_found}
-use Rattle.pfc_main_code.proofs.Expressions.{Plainly, plainly_nothing, both, plainly_one, plainly_same, simple_same, some_argument, no_semaphore, no_condition, expr_same, selectors_same}
+use Rattle.pfc_main_code.proofs.Expressions.{Plainly, plainly_nothing, both, plainly_one, plainly_same, simple_same, some_argument, no_semaphore, no_condition}
+use Rattle.pfc_main_code.proofs.Expressions.{expr_same, selectors_same}
 
 -- ## Variables
 

@@ -1,5 +1,6 @@
 -- Expressions, variables and functions of a main body have the same code.
-use Rattle.std.proofs.Common.{◌≡◌, ℕ, zero, suc, ◌==◌, Bool, true, false, not, ◌&&◌, ◌||◌, if◌then◌else◌, List, [], ◌∷◌, ◌++◌, length, get_or, option_map, Option, Some, None, refl, sym, ap, ◌∙◌, subst}
+use Rattle.std.proofs.Common.{◌≡◌, ℕ, zero, suc, ◌==◌, Bool, true, false, not, ◌&&◌, ◌||◌, if◌then◌else◌, List, [], ◌∷◌, ◌++◌, length, get_or, option_map}
+use Rattle.std.proofs.Common.{Option, Some, None, refl, sym, ap, ◌∙◌, subst}
 use Rattle.std.proofs.lemmas.List.{append-nil}
 use Rattle.pfc_base.specs.declared.places.Place.{Place}
 use Rattle.pfc_tree.specs.Symbols.{Text}
@@ -11,7 +12,10 @@ use Rattle.pfc_tree.specs.declared.tree.AddOp.{AddOp}
 use Rattle.pfc_tree.specs.declared.tree.AddOp.TheVariants.{Add, Sub, Or}
 use Rattle.pfc_tree.specs.declared.tree.MulOp.{MulOp}
 use Rattle.pfc_tree.specs.declared.tree.MulOp.TheVariants.{Mul, Div, Mod, And}
-use Rattle.pfc_tree.specs.trees.Exprs.{ExprTree, SimpleTree, SummandTrees, TermTree, MultiplierTrees, FactorTree, DesigTree, SelectorTrees, ExprTrees, ActualTree, ActualTrees, plain, related, sum, no_summands, more_summands, product, no_multipliers, more_multipliers, number, literal, negation, paren, applied as used, desig, index, field, no_selectors, more_selectors, no_exprs, more_exprs, actual, actual_width, no_actuals, more_actuals}
+use Rattle.pfc_tree.specs.trees.Exprs.{ExprTree, SimpleTree, SummandTrees, TermTree, MultiplierTrees, FactorTree, DesigTree, SelectorTrees, ExprTrees}
+use Rattle.pfc_tree.specs.trees.Exprs.{ActualTree, ActualTrees, plain, related, sum, no_summands, more_summands, product, no_multipliers, more_multipliers}
+use Rattle.pfc_tree.specs.trees.Exprs.{number, literal, negation, paren, applied as used, desig, index, field, no_selectors, more_selectors, no_exprs}
+use Rattle.pfc_tree.specs.trees.Exprs.{more_exprs, actual, actual_width, no_actuals, more_actuals}
 use Rattle.pfc_code.specs.declared.instructions.Instr.{Instr}
 use Rattle.pfc_code.specs.declared.instructions.Instr.TheVariants.{LIT, ADDR, FLD, LOAD, NEG, ABS, SQR, ODD, CHR, SUCC, PRED, NOT, RAND, EOF, EOLN}
 use Rattle.pfc_types.specs.Types.{Forms, integer, semaphore, condition, form_of, array_form, is_simple}
@@ -24,10 +28,15 @@ use Rattle.pfc_types.specs.declared.scope.Meaning.{Meaning}
 use Rattle.pfc_types.specs.declared.scope.Meaning.TheVariants.{Constant, Named, Variable, Sub as ASub, Module, Process, Entry, Predeclared, Faulty}
 use Rattle.pfc_types.specs.declared.view.Found.{Found}
 use Rattle.pfc_types.specs.rules.Kinds.{variable_type, name_rules, a_variable, may_have}
-use Rattle.pfc_types.specs.rules.Routines.{Want, a_variable_of, Routine, the_signal, a_procedure, a_delay, a_reader, a_writer, routine_of, nothing_called, called_with, called_routine, called_function, Site as Place_of_call, is_function_routine, is_signal, fits_use, is_any, a_value, one_integer, one_simple, one_semaphore, one_condition, anywhere, in_main, in_monitor_sub}
+use Rattle.pfc_types.specs.rules.Routines.{Want, a_variable_of, Routine, the_signal, a_procedure, a_delay, a_reader, a_writer, routine_of, nothing_called}
+use Rattle.pfc_types.specs.rules.Routines.{called_with, called_routine, called_function, Site as Place_of_call, is_function_routine, is_signal, fits_use}
+use Rattle.pfc_types.specs.rules.Routines.{is_any, a_value, one_integer, one_simple, one_semaphore, one_condition, anywhere, in_main, in_monitor_sub}
 use Rattle.pfc_types.specs.rules.Calls.{asked}
-use Rattle.pfc_types.specs.rules.Expressions.{find, no_selector, no_actual, first_type, field_type, selected, desig_type, expr_type, expr_place, count_rule, use_rules, broken_expr, broken_simple, broken_summands, broken_term, broken_multipliers, broken_factor, broken_selectors, broken_indexes, broken_actuals, broken_actual}
-use Rattle.pfc_meaning.specs.Unbuilt.{expr_unbuilt, simple_unbuilt, summands_unbuilt, term_unbuilt, multipliers_unbuilt, factor_unbuilt, is_unbuilt_name, selectors_unbuilt, exprs_unbuilt, actuals_unbuilt, actual_unbuilt}
+use Rattle.pfc_types.specs.rules.Expressions.{find, no_selector, no_actual, first_type, field_type, selected, desig_type, expr_type, expr_place, count_rule}
+use Rattle.pfc_types.specs.rules.Expressions.{use_rules, broken_expr, broken_simple, broken_summands, broken_term, broken_multipliers, broken_factor}
+use Rattle.pfc_types.specs.rules.Expressions.{broken_selectors, broken_indexes, broken_actuals, broken_actual}
+use Rattle.pfc_meaning.specs.Unbuilt.{expr_unbuilt, simple_unbuilt, summands_unbuilt, term_unbuilt, multipliers_unbuilt, factor_unbuilt, is_unbuilt_name}
+use Rattle.pfc_meaning.specs.Unbuilt.{selectors_unbuilt, exprs_unbuilt, actuals_unbuilt, actual_unbuilt}
 use Rattle.pfc_meaning.specs.Operators as main
 use Rattle.pfc_meaning.specs.Expressions as main_expressions
 use Rattle.pfc_semantics.specs.Predeclared.{function_of}
@@ -38,7 +47,9 @@ use Rattle.pfc_semantics.specs.Expressions.{char_in, form_in, place_among, spot_
 use Rattle.pfc_translation.specs.Sites.{Site, type_cells}
 use Rattle.pfc_translation.specs.Codes.{Code, Lined, nothing, ◌⨾◌, one}
 use Rattle.pfc_translation.specs.Addresses.{base_code, element_in, type_behind, index_instr, fields_before, field_cell}
-use Rattle.pfc_translation.specs.Expressions.{relation_instr, add_instr, multiply_instr, sign_code, simple_number, function_code, name_code, expr_code, simple_code, summands_code, term_code, multipliers_code, factor_code, first_value, first_address, actual_code, args_code, selectors_code, indices_code}
+use Rattle.pfc_translation.specs.Expressions.{relation_instr, add_instr, multiply_instr, sign_code, simple_number, function_code, name_code, expr_code}
+use Rattle.pfc_translation.specs.Expressions.{simple_code, summands_code, term_code, multipliers_code, factor_code, first_value, first_address, actual_code}
+use Rattle.pfc_translation.specs.Expressions.{args_code, selectors_code, indices_code}
 use Rattle.pfc_relation.specs.Tables.{IsPlain}
 use Rattle.pfc_relation.specs.code.Cells as main_cells
 use Rattle.pfc_relation.specs.code.Phrases as main_code

@@ -1,5 +1,6 @@
 -- The image of a program that is its main body alone.
-use Rattle.std.proofs.Common.{◌≡◌, ℕ, ◌+◌, ◌-◌, max, nat_le, nat_lt, ◌<◌, ◌&&◌, Bool, false, List, [], ◌∷◌, ◌++◌, length, map, Option, Some, None, refl, sym, ap, ap₂, ◌∙◌, subst, arith}
+use Rattle.std.proofs.Common.{◌≡◌, ℕ, ◌+◌, ◌-◌, max, nat_le, nat_lt, ◌<◌, ◌&&◌, Bool, false, List, [], ◌∷◌, ◌++◌, length, map, Option, Some, None, refl, sym}
+use Rattle.std.proofs.Common.{ap, ap₂, ◌∙◌, subst, arith}
 use Rattle.std.specs.Option.{IfSome}
 use Rattle.std.proofs.lemmas.Bool.Decides.{nat_tests}
 use Rattle.std.proofs.lemmas.List.{append-nil}
@@ -31,7 +32,8 @@ use Rattle.pfc_types.specs.rules.Declarations.{scope_cells}
 use Rattle.pfc_translation.specs.Codes.{Lined, one}
 use Rattle.pfc_translation.specs.Operands.{most_operands}
 use Rattle.pfc_translation.specs.Objects.{objects_of, processes_of, process_info}
-use Rattle.pfc_translation.specs.Images.{instructions, body_code, end_of, a_body, pieces, Coded, coded, strings_in, most_arms, before_main, of_main, size_of, put_from, blocks_from, main_block, scans_from, main_process, image_of}
+use Rattle.pfc_translation.specs.Images.{instructions, body_code, end_of, a_body, pieces, Coded, coded, strings_in, most_arms, before_main, of_main, size_of}
+use Rattle.pfc_translation.specs.Images.{put_from, blocks_from, main_block, scans_from, main_process, image_of}
 use Rattle.pfc_image_laws.specs.Modules.{modules_from}
 use Rattle.pfc_image_laws.proofs.Modules.{program_modules}
 use Rattle.pfc_image_cells.specs.Subs.{parts_subs}

@@ -1,5 +1,6 @@
 -- A program whose variables hold numbers alone has no objects.
-use Rattle.std.proofs.Common.{◌≡◌, ℕ, zero, suc, ◌+◌, ◌<◌, Bool, true, false, if◌then◌else◌, List, [], ◌∷◌, ◌++◌, take, get_or, pos, Option, Some, refl, sym, ap, ap₂, ◌∙◌, subst, arith}
+use Rattle.std.proofs.Common.{◌≡◌, ℕ, zero, suc, ◌+◌, ◌<◌, Bool, true, false, if◌then◌else◌, List, [], ◌∷◌, ◌++◌, take, get_or, pos, Option, Some, refl, sym}
+use Rattle.std.proofs.Common.{ap, ap₂, ◌∙◌, subst, arith}
 use Rattle.std.proofs.lemmas.Bool.Decides.{nat_tests}
 use Rattle.std.proofs.lemmas.List.Sums.{fold-append}
 use Rattle.pfc_tree.specs.Symbols.{Text}
@@ -15,9 +16,12 @@ use Rattle.pfc_types.specs.declared.scope.Meaning.{Meaning}
 use Rattle.pfc_types.specs.declared.scope.Meaning.TheVariants.{Constant, Named, Variable, Sub, Module, Process, Entry, Predeclared, Faulty}
 use Rattle.pfc_semantics.specs.Values.{ordinal}
 use Rattle.pfc_semantics.specs.Layouts.{main_layout, laid_as}
-use Rattle.pfc_semantics.specs.Objects.{Objects, Numbering, unnumbered, numbering_next, all_numberings, numbered_copies, numbered_fields, of_main, numbered_main}
-use Rattle.pfc_translation.specs.Objects.{times, object_fields, object_next, all_objects, laid_objects, objects_from, Labelled, no_process, elements_labelled, fields_labelled, labelled_next, all_labelled, names_labelled, name_labelled, with_index}
-use Rattle.pfc_relation.specs.Tables.{AreBefore, IsBuiltUp, IsPlain, ArePlain, plain_simple, plain_array, plain_record, plain_none, plain_field, IsPlainName, ArePlainNames}
+use Rattle.pfc_semantics.specs.Objects.{Objects, Numbering, unnumbered, numbering_next, all_numberings, numbered_copies, numbered_fields, of_main}
+use Rattle.pfc_semantics.specs.Objects.{numbered_main}
+use Rattle.pfc_translation.specs.Objects.{times, object_fields, object_next, all_objects, laid_objects, objects_from, Labelled, no_process, elements_labelled}
+use Rattle.pfc_translation.specs.Objects.{fields_labelled, labelled_next, all_labelled, names_labelled, name_labelled, with_index}
+use Rattle.pfc_relation.specs.Tables.{AreBefore, IsBuiltUp, IsPlain, ArePlain, plain_simple, plain_array, plain_record, plain_none, plain_field, IsPlainName}
+use Rattle.pfc_relation.specs.Tables.{ArePlainNames}
 use Rattle.pfc_relation.proofs.Tables.{built, built_kept, built_form, built_part}
 use Rattle.pfc_relation.proofs.clean.Names.{IsOfMain}
 use Rattle.pfc_relation.proofs.clean.Declarations.{AreOfMain}

@@ -1,5 +1,6 @@
 -- The objects of a program: each condition is one of a monitor, and there are no more semaphores, channels and conditions than cells.
-use Rattle.std.proofs.Common.{◌≡◌, ◌⊎◌, inl, inr, ℕ, zero, suc, ◌+◌, ◌-◌, ◌*◌, ◌<◌, ◌≤◌, Bool, true, false, ◌||◌, nat_lt, length-append, pos, List, [], ◌∷◌, ◌++◌, length, take, get_or, fold, Option, Some, None, refl, sym, ap, ◌∙◌, subst, arith}
+use Rattle.std.proofs.Common.{◌≡◌, ◌⊎◌, inl, inr, ℕ, zero, suc, ◌+◌, ◌-◌, ◌*◌, ◌<◌, ◌≤◌, Bool, true, false, ◌||◌, nat_lt, length-append, pos, List, [], ◌∷◌}
+use Rattle.std.proofs.Common.{◌++◌, length, take, get_or, fold, Option, Some, None, refl, sym, ap, ◌∙◌, subst, arith}
 use Rattle.std.specs.List.{All}
 use Rattle.std.proofs.lemmas.Bool.Decides.{nat_tests}
 use Rattle.std.proofs.lemmas.List.{get_or_append_left, get_or-append_right}
@@ -20,7 +21,8 @@ use Rattle.pfc_types.specs.declared.heads.ModuleHead.{ModuleHead}
 use Rattle.pfc_types.specs.declared.scope.Meaning.{Meaning}
 use Rattle.pfc_types.specs.declared.scope.Meaning.TheVariants.{Constant, Named, Variable, Sub, Module, Process, Entry, Predeclared, Faulty}
 use Rattle.pfc_semantics.specs.Values.{ordinal}
-use Rattle.pfc_semantics.specs.Objects.{Objects, Numbering, unnumbered, numbering_of, numbering_form, numbering_next, numbered_copies, numbered_fields, predeclared_numberings, all_numberings, numbered_names, of_kind, module_number, numbered_main, no_objects}
+use Rattle.pfc_semantics.specs.Objects.{Objects, Numbering, unnumbered, numbering_of, numbering_form, numbering_next, numbered_copies, numbered_fields}
+use Rattle.pfc_semantics.specs.Objects.{predeclared_numberings, all_numberings, numbered_names, of_kind, module_number, numbered_main, no_objects}
 use Rattle.pfc_types.specs.rules.Declarations.{Owner, in_program, module_owner, may_wait, name_cells}
 use Rattle.pfc_types.specs.rules.Whole.{finished}
 use Rattle.pfc_name_laws.specs.Reached.{IsNumbered}

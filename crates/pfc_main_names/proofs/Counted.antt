@@ -1,14 +1,17 @@
 -- The processes of a program are counted: there are as many as its names bring in, and 1,023 at the most.
-use Rattle.std.proofs.Common.{◌≡◌, ◌≢◌, ℕ, ◌+◌, ◌<◌, ◌≤◌, ◌&&◌, nat_le, nat_lt, Bool, true, false, if◌then◌else◌, is_some, List, [], ◌∷◌, ◌++◌, length, length-append, sum_by, Option, Some, None, refl, sym, ap, ◌∙◌, subst, arith}
+use Rattle.std.proofs.Common.{◌≡◌, ◌≢◌, ℕ, ◌+◌, ◌<◌, ◌≤◌, ◌&&◌, nat_le, nat_lt, Bool, true, false, if◌then◌else◌, is_some, List, [], ◌∷◌, ◌++◌, length}
+use Rattle.std.proofs.Common.{length-append, sum_by, Option, Some, None, refl, sym, ap, ◌∙◌, subst, arith}
 use Rattle.std.proofs.lemmas.Bool.Decides.{nat_tests}
 use Rattle.std.proofs.lemmas.List.Sums.{sum_by-cons, sum_by-append}
 use Rattle.pfc_base.specs.declared.places.Place.{Place}
 use Rattle.pfc_tree.specs.Symbols.{Text}
 use Rattle.pfc_tree.specs.declared.tree.ConstItem.{ConstItem}
 use Rattle.pfc_tree.specs.trees.Types.{VarTrees, TypeItemTree, var_item, no_vars, more_vars}
-use Rattle.pfc_tree.specs.trees.Parts.{PartTree, PartTrees, SubTree, ModuleTree, ProcessTree, ProgramTree, consts, types, vars, sub_part, monitor, resource, process_part, no_parts, more_parts, sub, the_module, process}
+use Rattle.pfc_tree.specs.trees.Parts.{PartTree, PartTrees, SubTree, ModuleTree, ProcessTree, ProgramTree, consts, types, vars, sub_part, monitor, resource}
+use Rattle.pfc_tree.specs.trees.Parts.{process_part, no_parts, more_parts, sub, the_module, process}
 use Rattle.pfc_tree.specs.forget.Parts.{forget_part, forget_parts, forget_module, forget_process, forget_sub, forget_program}
-use Rattle.pfc_tree.specs.lawful.Parts.{Home, of_program, of_resource, of_other, HoldsModules, IsLawfulPart, AreLawfulParts, IsLawfulSub, IsLawfulModule, IsLawfulProcess, IsLawful}
+use Rattle.pfc_tree.specs.lawful.Parts.{Home, of_program, of_resource, of_other, HoldsModules, IsLawfulPart, AreLawfulParts, IsLawfulSub, IsLawfulModule}
+use Rattle.pfc_tree.specs.lawful.Parts.{IsLawfulProcess, IsLawful}
 use Rattle.pfc_types.specs.Faults.{Faults, none, one, ◌⨾◌, unless}
 use Rattle.pfc_types.specs.Types.{Forms, held_of, most_processes}
 use Rattle.pfc_types.specs.Growing.{Begins}
@@ -24,7 +27,11 @@ use Rattle.pfc_types.specs.declared.scope.Meaning.{Meaning}
 use Rattle.pfc_types.specs.declared.scope.Meaning.TheVariants.{Named, Variable, Module, Process, Faulty}
 use Rattle.pfc_types.specs.rules.Kinds.{where_so, type_meaning, variable_meaning}
 use Rattle.pfc_types.specs.rules.Constants.{Ordinal, constant_value, broken_constant, made, type_place}
-use Rattle.pfc_types.specs.rules.Declarations.{constant_meaning, const_state, consts_state, type_state, types_state, Owner, in_program, elsewhere, owner_rules, owned_type, passes_most, populated, brought, var_name_state, var_names_state, var_state, vars_state, heading, broken_sort, sort_of, whole_sort, sub_meaning, sub_headed, module_owner, exports_state, init_state, process_named, process_headed, entries_state, body_state, cells_rule, scope_cells, result_cells, process_cells, part_state, parts_state, sub_state, module_state, process_state, may_share, shared_fits, condition_fits}
+use Rattle.pfc_types.specs.rules.Declarations.{constant_meaning, const_state, consts_state, type_state, types_state, Owner, in_program, elsewhere, owner_rules}
+use Rattle.pfc_types.specs.rules.Declarations.{owned_type, passes_most, populated, brought, var_name_state, var_names_state, var_state, vars_state, heading}
+use Rattle.pfc_types.specs.rules.Declarations.{broken_sort, sort_of, whole_sort, sub_meaning, sub_headed, module_owner, exports_state, init_state}
+use Rattle.pfc_types.specs.rules.Declarations.{process_named, process_headed, entries_state, body_state, cells_rule, scope_cells, result_cells, process_cells}
+use Rattle.pfc_types.specs.rules.Declarations.{part_state, parts_state, sub_state, module_state, process_state, may_share, shared_fits, condition_fits}
 use Rattle.pfc_types.specs.rules.Bodies.{part_scopes, parts_scopes}
 use Rattle.pfc_types.specs.rules.Whole.{begun, declared_parts, declared_all, finished, main_cells}
 use Rattle.pfc_types.proofs.Prefixes.{begins_trans}
@@ -38,7 +45,8 @@ use Rattle.pfc_type_laws.proofs.WalkTypes.{note_forms}
 use Rattle.pfc_main_names.proofs.Placed.{HasPlace, made_placed}
 use Rattle.pfc_main_names.proofs.Owned.{IsFine, held_begins, declare_count, populated_count, names_forms}
 use Rattle.pfc_main_names.proofs.Walk.{HasAround, has_around, around_program, vars_fine, part_fine, begins_length, begun_fine}
-use Rattle.pfc_main_names.proofs.Population.{Same, ◌⊳◌, same, open_same, note_same, declare_same, made_same, entries_same, exports_same, body_same, init_same, groups_same, parts_same}
+use Rattle.pfc_main_names.proofs.Population.{Same, ◌⊳◌, same, open_same, note_same, declare_same, made_same, entries_same, exports_same, body_same, init_same}
+use Rattle.pfc_main_names.proofs.Population.{groups_same, parts_same}
 
 -- ## What names bring in
 

@@ -1,5 +1,6 @@
 -- A variable has as many labels of processes as its type holds processes, so that there are at most 1,024 in all.
-use Rattle.std.proofs.Common.{◌≡◌, ℕ, zero, suc, ◌+◌, ◌-◌, ◌*◌, ◌<◌, ◌≤◌, Bool, true, false, nat_lt, length-append, ℤ, pos, List, [], ◌∷◌, ◌++◌, length, get_or, fold, Option, Some, None, refl, sym, ap, ◌∙◌, arith}
+use Rattle.std.proofs.Common.{◌≡◌, ℕ, zero, suc, ◌+◌, ◌-◌, ◌*◌, ◌<◌, ◌≤◌, Bool, true, false, nat_lt, length-append, ℤ, pos, List, [], ◌∷◌, ◌++◌, length, get_or}
+use Rattle.std.proofs.Common.{fold, Option, Some, None, refl, sym, ap, ◌∙◌, arith}
 use Rattle.std.specs.Prelude.{◌+ℤ◌}
 use Rattle.std.proofs.lemmas.Bool.Decides.{nat_tests}
 use Rattle.std.proofs.lemmas.List.{length-map, get_or_append_left, get_or-append_right}
@@ -20,7 +21,8 @@ use Rattle.pfc_types.specs.declared.scope.Meaning.TheVariants.{Constant, Named, 
 use Rattle.pfc_types.specs.rules.Whole.{finished, broken}
 use Rattle.pfc_name_laws.proofs.Numbers.{none_noted}
 use Rattle.pfc_semantics.specs.Programs.{program_of}
-use Rattle.pfc_translation.specs.Objects.{Labelled, no_process, labelled_before, elements_labelled, fields_labelled, labelled_form, labelled_next, all_labelled, name_labelled, names_labelled, process_info}
+use Rattle.pfc_translation.specs.Objects.{Labelled, no_process, labelled_before, elements_labelled, fields_labelled, labelled_form, labelled_next, all_labelled}
+use Rattle.pfc_translation.specs.Objects.{name_labelled, names_labelled, process_info}
 use Rattle.pfc_translation.specs.Images.{image_of}
 use Rattle.pfc_main_names.proofs.Counted.{brings, all_brought, program_counted}
 

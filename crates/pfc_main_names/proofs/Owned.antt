@@ -1,5 +1,6 @@
 -- What a variable holds, in whichever table that begins so, and what declarations in a scope leave.
-use Rattle.std.proofs.Common.{◌≡◌, ◌≢◌, ℕ, ◌+◌, ◌<◌, ◌≤◌, ◌||◌, ◌&&◌, Bool, true, false, not, nat_lt, if◌then◌else◌, is_some, List, [], ◌∷◌, ◌++◌, length, get_or, length-set, get_or-set_same, Option, Some, None, refl, sym, ap, ◌∙◌, subst, arith}
+use Rattle.std.proofs.Common.{◌≡◌, ◌≢◌, ℕ, ◌+◌, ◌<◌, ◌≤◌, ◌||◌, ◌&&◌, Bool, true, false, not, nat_lt, if◌then◌else◌, is_some, List, [], ◌∷◌, ◌++◌, length}
+use Rattle.std.proofs.Common.{get_or, length-set, get_or-set_same, Option, Some, None, refl, sym, ap, ◌∙◌, subst, arith}
 use Rattle.std.specs.List.{All}
 use Rattle.std.proofs.lemmas.Bool.Decides.{nat_tests}
 use Rattle.std.proofs.lemmas.List.Sums.{fold-append}
@@ -16,7 +17,8 @@ use Rattle.pfc_types.specs.declared.types.TypeId.{TypeId}
 use Rattle.pfc_types.specs.declared.scope.Meaning.{Meaning}
 use Rattle.pfc_types.specs.declared.scope.Meaning.TheVariants.{Faulty}
 use Rattle.pfc_types.specs.rules.Kinds.{where_so, variable_meaning}
-use Rattle.pfc_types.specs.rules.Declarations.{Owner, may_share, may_wait, holds_shared, holds_condition, shared_fits, condition_fits, owned_type, passes_most, populated, brought, var_name_state, var_names_state}
+use Rattle.pfc_types.specs.rules.Declarations.{Owner, may_share, may_wait, holds_shared, holds_condition, shared_fits, condition_fits, owned_type, passes_most}
+use Rattle.pfc_types.specs.rules.Declarations.{populated, brought, var_name_state, var_names_state}
 use Rattle.pfc_types.proofs.Walking.{Kept, Opened, Walked, note_kept}
 use Rattle.pfc_semantics.proofs.Tables.{built_kept, built_length}
 use Rattle.pfc_type_laws.proofs.WalkTypes.{note_forms}

@@ -1,5 +1,6 @@
 -- A type as it is written has its place in the table, where the names of types in view have theirs.
-use Rattle.std.proofs.Common.{◌≡◌, ℕ, ◌<◌, ◌≤◌, ◌||◌, Bool, true, false, not, nat_lt, cond, bytes_eq, List, [], ◌∷◌, ◌++◌, length, length-append, Option, Some, None, option_map, refl, sym, ap, subst, arith}
+use Rattle.std.proofs.Common.{◌≡◌, ℕ, ◌<◌, ◌≤◌, ◌||◌, Bool, true, false, not, nat_lt, cond, bytes_eq, List, [], ◌∷◌, ◌++◌, length, length-append, Option, Some}
+use Rattle.std.proofs.Common.{None, option_map, refl, sym, ap, subst, arith}
 use Rattle.std.specs.List.{All}
 use Rattle.std.specs.Option.{option_or}
 use Rattle.std.proofs.lemmas.Bool.Decides.{nat_tests}
@@ -18,7 +19,8 @@ use Rattle.pfc_types.specs.declared.table.TypeFault.TheVariants.{Bounds, Cells, 
 use Rattle.pfc_types.specs.declared.scope.Meaning.{Meaning}
 use Rattle.pfc_types.specs.declared.scope.Meaning.TheVariants.{Constant, Named, Variable, Sub, Module, Process, Entry, Predeclared, Faulty}
 use Rattle.pfc_types.specs.rules.Kinds.{where_so, type_name_rules, has_object, named_type, type_meaning}
-use Rattle.pfc_types.specs.rules.Constants.{Extent, broken_ranges, range_extents, Made, added_unless, added, channel_form, array_of, made_arrays, record_form, fields_begun, made, made_items, type_place}
+use Rattle.pfc_types.specs.rules.Constants.{Extent, broken_ranges, range_extents, Made, added_unless, added, channel_form, array_of, made_arrays, record_form}
+use Rattle.pfc_types.specs.rules.Constants.{fields_begun, made, made_items, type_place}
 use Rattle.pfc_types.proofs.Walking.{note_kept}
 use Rattle.pfc_type_laws.proofs.WalkTypes.{name_is, note_forms}
 

@@ -3,7 +3,8 @@ use Rattle.std.proofs.Common.{◌≡◌, ℕ, ◌+◌, ◌≤◌, List, [], ◌�
 use Rattle.std.proofs.lemmas.List.{length-map}
 use Rattle.pfc_tree.specs.trees.Parts.{ProgramTree}
 use Rattle.pfc_semantics.specs.Programs.{Program, program_of}
-use Rattle.pfc_translation.specs.Images.{statements_code, body_code, Piece, a_body, an_initial, a_resource, pieces, Coded, coded, strings_in, before_main, of_main, size_of, put_from, scans_from, image_of}
+use Rattle.pfc_translation.specs.Images.{statements_code, body_code, Piece, a_body, an_initial, a_resource, pieces, Coded, coded, strings_in, before_main}
+use Rattle.pfc_translation.specs.Images.{of_main, size_of, put_from, scans_from, image_of}
 
 fewer_scans : (g : Program) (ps : List Piece) (at number strings : ℕ)
     → length (scans_from at (before_main (coded g number strings ps))) ≤ length (put_from at (before_main (coded g number strings ps)))

@@ -1,14 +1,17 @@
 -- The names of the program and of its modules, by induction over the parts.
-use Rattle.std.proofs.Common.{◌≡◌, ◌≢◌, ℕ, suc, ◌+◌, ◌<◌, ◌≤◌, ◌&&◌, Bool, true, false, if◌then◌else◌, is_some, List, [], ◌∷◌, ◌++◌, length, length-append, Option, Some, None, refl, sym, ap, ◌∙◌, subst, arith}
+use Rattle.std.proofs.Common.{◌≡◌, ◌≢◌, ℕ, suc, ◌+◌, ◌<◌, ◌≤◌, ◌&&◌, Bool, true, false, if◌then◌else◌, is_some, List, [], ◌∷◌, ◌++◌, length, length-append}
+use Rattle.std.proofs.Common.{Option, Some, None, refl, sym, ap, ◌∙◌, subst, arith}
 use Rattle.std.specs.List.{All}
 use Rattle.std.proofs.lemmas.List.Elements.{All-nil, All-cons, All-head, All-tail}
 use Rattle.pfc_base.specs.declared.places.Place.{Place}
 use Rattle.pfc_tree.specs.Symbols.{Text}
 use Rattle.pfc_tree.specs.declared.tree.ConstItem.{ConstItem}
 use Rattle.pfc_tree.specs.trees.Types.{VarTrees, TypeItemTree, GroupTree, var_item, no_vars, more_vars}
-use Rattle.pfc_tree.specs.trees.Parts.{KindTree, PartTree, PartTrees, SubTree, ModuleTree, ProcessTree, ProgramTree, consts, types, vars, sub_part, monitor, resource, process_part, no_parts, more_parts, sub, the_module, process}
+use Rattle.pfc_tree.specs.trees.Parts.{KindTree, PartTree, PartTrees, SubTree, ModuleTree, ProcessTree, ProgramTree, consts, types, vars, sub_part, monitor}
+use Rattle.pfc_tree.specs.trees.Parts.{resource, process_part, no_parts, more_parts, sub, the_module, process}
 use Rattle.pfc_tree.specs.forget.Parts.{forget_part, forget_parts, forget_module, forget_process, forget_program}
-use Rattle.pfc_tree.specs.lawful.Parts.{Home, of_program, of_resource, of_other, HoldsModules, IsLawfulPart, AreLawfulParts, IsLawfulModule, IsLawfulProcess, IsLawful}
+use Rattle.pfc_tree.specs.lawful.Parts.{Home, of_program, of_resource, of_other, HoldsModules, IsLawfulPart, AreLawfulParts, IsLawfulModule, IsLawfulProcess}
+use Rattle.pfc_tree.specs.lawful.Parts.{IsLawful}
 use Rattle.pfc_types.specs.Types.{Forms}
 use Rattle.pfc_types.specs.Growing.{Begins}
 use Rattle.pfc_types.specs.Scopes.{Names, Level, scope_at, here, meaning_in}
@@ -21,7 +24,11 @@ use Rattle.pfc_types.specs.declared.heads.ProcessHead.{ProcessHead}
 use Rattle.pfc_types.specs.declared.scope.Meaning.TheVariants.{Named, Module, Process, Faulty}
 use Rattle.pfc_types.specs.rules.Kinds.{type_meaning}
 use Rattle.pfc_types.specs.rules.Constants.{Ordinal, constant_value, broken_constant, made, type_place}
-use Rattle.pfc_types.specs.rules.Declarations.{constant_meaning, const_state, consts_state, type_state, types_state, Owner, in_program, elsewhere, owner_rules, owned_type, populated, var_state, vars_state, heading, broken_sort, sort_of, whole_sort, sub_meaning, sub_headed, module_owner, module_closed, exports_state, init_state, process_named, process_headed, entries_state, body_state, cells_rule, scope_cells, result_cells, process_cells, part_state, parts_state, sub_state, module_state, process_state}
+use Rattle.pfc_types.specs.rules.Declarations.{constant_meaning, const_state, consts_state, type_state, types_state, Owner, in_program, elsewhere, owner_rules}
+use Rattle.pfc_types.specs.rules.Declarations.{owned_type, populated, var_state, vars_state, heading, broken_sort, sort_of, whole_sort, sub_meaning, sub_headed}
+use Rattle.pfc_types.specs.rules.Declarations.{module_owner, module_closed, exports_state, init_state, process_named, process_headed, entries_state, body_state}
+use Rattle.pfc_types.specs.rules.Declarations.{cells_rule, scope_cells, result_cells, process_cells, part_state, parts_state, sub_state, module_state}
+use Rattle.pfc_types.specs.rules.Declarations.{process_state}
 use Rattle.pfc_types.specs.rules.Bodies.{part_scopes, parts_scopes}
 use Rattle.pfc_types.specs.rules.Whole.{begun, declared_parts, declared_all, finished, main_cells}
 use Rattle.pfc_types.proofs.Prefixes.{begins_trans}
@@ -31,11 +38,13 @@ use Rattle.pfc_types.proofs.WalkStatements.{heading_opened, body_opened, init_op
 use Rattle.pfc_types.proofs.WalkParts.{part_walked, parts_walked, sub_headed_walked, process_headed_walked, module_closed_walked}
 use Rattle.pfc_image_laws.specs.Modules.{modules_from}
 use Rattle.pfc_type_laws.proofs.WalkTypes.{note_forms}
-use Rattle.pfc_image_cells.proofs.Subs.{note_same, declare_same, consts_same, types_same, vars_same, entries_same, exports_same, body_same, init_same, process_headed_same, sub_modules}
+use Rattle.pfc_image_cells.proofs.Subs.{note_same, declare_same, consts_same, types_same, vars_same, entries_same, exports_same, body_same, init_same}
+use Rattle.pfc_image_cells.proofs.Subs.{process_headed_same, sub_modules}
 use Rattle.pfc_main_names.specs.Owners.{IsOfOwner}
 use Rattle.pfc_main_names.proofs.Placed.{IsPlaced, IsPlain, ArePlaced, all_grown, IsAround, made_placed, type_meaning_placed}
 use Rattle.pfc_main_names.proofs.Rising.{Rises, rises_next}
-use Rattle.pfc_main_names.proofs.Owned.{add_fine, owned_fine, IsFine, fine_kept, fine_opened, fine_elsewhere, declare_fine, populated_fine, var_names_fine, names_forms}
+use Rattle.pfc_main_names.proofs.Owned.{add_fine, owned_fine, IsFine, fine_kept, fine_opened, fine_elsewhere, declare_fine, populated_fine, var_names_fine}
+use Rattle.pfc_main_names.proofs.Owned.{names_forms}
 
 -- ## Around
 

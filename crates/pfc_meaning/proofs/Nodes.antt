@@ -3,7 +3,8 @@ use Rattle.std.proofs.Common.{◌≡◌}
 use Rattle.pfc_tree.specs.declared.tree.Term.{Term, out-Term, fold_out-Term}
 use Rattle.pfc_tree.specs.declared.tree.Simple.{Simple, out-Simple, fold_out-Simple}
 use Rattle.pfc_tree.specs.trees.Exprs.{FactorTree, SelectorTree, ActualTree, DesigTree, ExprTree, SimpleTree, TermTree, product, sum}
-use Rattle.pfc_tree.specs.views.Exprs.{simple_view, term_view, factor_view, summands_view, multipliers_view, factor_step, selector_step, actual_step, desig_step, expr_step, simple_step, term_step}
+use Rattle.pfc_tree.specs.views.Exprs.{simple_view, term_view, factor_view, summands_view, multipliers_view, factor_step, selector_step, actual_step}
+use Rattle.pfc_tree.specs.views.Exprs.{desig_step, expr_step, simple_step, term_step}
 
 pub term_view-out : (t : Term) → term_view t ≡ product (factor_view (out-Term t).first) (multipliers_view (out-Term t).rest.items)
 term_view-out t = fold_out-Term FactorTree SelectorTree ActualTree DesigTree ExprTree SimpleTree TermTree factor_step selector_step actual_step desig_step expr_step simple_step term_step t

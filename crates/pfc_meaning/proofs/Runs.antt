@@ -8,9 +8,12 @@ use Rattle.pfc_tree.specs.declared.tree.Sign.TheVariants.{Minus}
 use Rattle.pfc_tree.specs.declared.tree.Relation.TheVariants.{Eq, Gt}
 use Rattle.pfc_tree.specs.declared.tree.AddOp.TheVariants.{Add, Sub}
 use Rattle.pfc_tree.specs.declared.tree.MulOp.TheVariants.{Mul, Div, Mod, And}
-use Rattle.pfc_tree.specs.trees.Exprs.{plain, related, sum, no_summands, more_summands, product, no_multipliers, more_multipliers, number, literal, negation, paren, applied, desig, index, field, no_selectors, more_selectors, no_exprs, more_exprs, actual, actual_width, no_actuals, more_actuals}
+use Rattle.pfc_tree.specs.trees.Exprs.{plain, related, sum, no_summands, more_summands, product, no_multipliers, more_multipliers, number, literal, negation}
+use Rattle.pfc_tree.specs.trees.Exprs.{paren, applied, desig, index, field, no_selectors, more_selectors, no_exprs, more_exprs, actual, actual_width}
+use Rattle.pfc_tree.specs.trees.Exprs.{no_actuals, more_actuals}
 use Rattle.pfc_tree.specs.trees.Types.{named, array, fields, var_item, no_vars, more_vars}
-use Rattle.pfc_tree.specs.trees.Stmts.{empty, null, block, if_then_else, case_of, while_do, repeat_until, repeat_forever, for_do, assign, call, no_stmts, more_stmts, body, arm, no_arms, more_arms}
+use Rattle.pfc_tree.specs.trees.Stmts.{empty, null, block, if_then_else, case_of, while_do, repeat_until, repeat_forever, for_do, assign, call, no_stmts}
+use Rattle.pfc_tree.specs.trees.Stmts.{more_stmts, body, arm, no_arms, more_arms}
 use Rattle.pfc_tree.specs.trees.Parts.{ProgramTree, consts, types, vars, no_parts, more_parts}
 use Rattle.pfc_types.specs.rules.Whole.{first_fault}
 use Rattle.pfc_state.specs.declared.endings.Ending.{Ending}

@@ -16,7 +16,8 @@ use Rattle.pfc_meaning.specs.Store.{Location, Store, value_at, stored, fresh}
 use Rattle.pfc_values.specs.Numbers.{truth}
 use Rattle.pfc_values.specs.Inputs.{Left, Item, item, opened, skipped, at_end, at_line_end}
 use Rattle.pfc_meaning.specs.Operators.{simple_of}
-use Rattle.pfc_meaning.specs.Frames.{Rest, Use, Next, Task, ends, perform, store_whole, reads, copies_from, writes, turns, prints, inputs, skips, asks_eof, asks_eoln, draws, faults, finishes, going, holding}
+use Rattle.pfc_meaning.specs.Frames.{Rest, Use, Next, Task, ends, perform, store_whole, reads, copies_from, writes, turns, prints, inputs, skips, asks_eof}
+use Rattle.pfc_meaning.specs.Frames.{asks_eoln, draws, faults, finishes, going, holding}
 use Rattle.pfc_meaning.specs.Remainders.{next}
 
 -- the fault in which an action of a process ended, at a line

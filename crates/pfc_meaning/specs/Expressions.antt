@@ -6,7 +6,10 @@
 use Rattle.std.specs.Prelude.{ℕ, ℤ, pos, ◌-ℤ◌, nat_abs, int_le, ◌&&◌, if◌then◌else◌, [], ◌∷◌, Option, Some, None, Ok, Err}
 use Rattle.pfc_base.specs.declared.faults.RunFault.TheVariants.{Index}
 use Rattle.pfc_tree.specs.Symbols.{Text}
-use Rattle.pfc_tree.specs.trees.Exprs.{ExprTree, SimpleTree, SummandTrees, TermTree, MultiplierTrees, FactorTree, DesigTree, SelectorTrees, ExprTrees, ActualTrees, plain, related, sum, no_summands, more_summands, product, no_multipliers, more_multipliers, number, literal, negation, paren, applied as used, desig, index, field, no_selectors, more_selectors, no_exprs, more_exprs, actual, actual_width, no_actuals, more_actuals}
+use Rattle.pfc_tree.specs.trees.Exprs.{ExprTree, SimpleTree, SummandTrees, TermTree, MultiplierTrees, FactorTree, DesigTree, SelectorTrees, ExprTrees}
+use Rattle.pfc_tree.specs.trees.Exprs.{ActualTrees, plain, related, sum, no_summands, more_summands, product, no_multipliers, more_multipliers, number, literal}
+use Rattle.pfc_tree.specs.trees.Exprs.{negation, paren, applied as used, desig, index, field, no_selectors, more_selectors, no_exprs, more_exprs, actual}
+use Rattle.pfc_tree.specs.trees.Exprs.{actual_width, no_actuals, more_actuals}
 use Rattle.pfc_types.specs.Types.{Forms, form_of}
 use Rattle.pfc_types.specs.Fields.{position_of}
 use Rattle.pfc_types.specs.Scopes.{meaning_of}
@@ -21,7 +24,8 @@ use Rattle.pfc_types.specs.declared.view.Found.{Found}
 use Rattle.pfc_meaning.specs.Store.{Location, inner}
 use Rattle.pfc_meaning.specs.Operators.{signed, added, multiplied, compared, Function, eof, eoln, random, function_of, applied, simple_of}
 use Rattle.pfc_values.specs.Numbers.{Outcome, inverse_of}
-use Rattle.pfc_meaning.specs.Frames.{Part, Use, Goal, Next, begin_sum, add_to, begin_product, multiply_by, compare_with, compare_to, invert, apply, index_into, read_for, reads, asks_eof, asks_eoln, draws, faults}
+use Rattle.pfc_meaning.specs.Frames.{Part, Use, Goal, Next, begin_sum, add_to, begin_product, multiply_by, compare_with, compare_to, invert, apply, index_into}
+use Rattle.pfc_meaning.specs.Frames.{read_for, reads, asks_eof, asks_eoln, draws, faults}
 
 -- what is known where an expression stands: the names in view, and the line of its statement
 pub record Context : Type 0 where

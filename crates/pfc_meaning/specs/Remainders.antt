@@ -7,9 +7,14 @@ use Rattle.pfc_meaning.specs.Store.{Location}
 use Rattle.pfc_values.specs.Numbers.{inverse_of, is_true}
 use Rattle.pfc_values.specs.Pieces.{shown}
 use Rattle.pfc_meaning.specs.Operators.{signed, added, multiplied, compared, simple_of}
-use Rattle.pfc_meaning.specs.Frames.{Rest, Use, Goal, Next, Task, ends, perform, turn, until, behind_pass, next_pass, store_whole, write_on, read_on, begin_sum, add_to, begin_product, multiply_by, compare_with, compare_to, invert, apply, index_into, store_at, choose, choose_arm, while_true, until_true, count_from, count_to, show, show_wide, pad, read_for, assign_to, copy_to, copy_from, input_to, reads, copies_from, writes, turns, prints, inputs, finishes, going, holding}
-use Rattle.pfc_meaning.specs.Expressions.{Context, with_number, with_element, element_part, finish_call, from_expr, from_simple, from_summands, from_multipliers, from_selectors, from_indices, from_desig}
-use Rattle.pfc_meaning.specs.Statements.{context, from_stmt, from_stmts, from_arms, from_until, from_bounds, begin_pass, from_pass, from_writes, from_reads, from_width, counting, again}
+use Rattle.pfc_meaning.specs.Frames.{Rest, Use, Goal, Next, Task, ends, perform, turn, until, behind_pass, next_pass, store_whole, write_on, read_on, begin_sum}
+use Rattle.pfc_meaning.specs.Frames.{add_to, begin_product, multiply_by, compare_with, compare_to, invert, apply, index_into, store_at, choose, choose_arm}
+use Rattle.pfc_meaning.specs.Frames.{while_true, until_true, count_from, count_to, show, show_wide, pad, read_for, assign_to, copy_to, copy_from, input_to}
+use Rattle.pfc_meaning.specs.Frames.{reads, copies_from, writes, turns, prints, inputs, finishes, going, holding}
+use Rattle.pfc_meaning.specs.Expressions.{Context, with_number, with_element, element_part, finish_call, from_expr, from_simple, from_summands}
+use Rattle.pfc_meaning.specs.Expressions.{from_multipliers, from_selectors, from_indices, from_desig}
+use Rattle.pfc_meaning.specs.Statements.{context, from_stmt, from_stmts, from_arms, from_until, from_bounds, begin_pass, from_pass, from_writes, from_reads}
+use Rattle.pfc_meaning.specs.Statements.{from_width, counting, again}
 
 -- the line of a loop
 abbrev pub loop_line : StmtTree → ℕ

@@ -8,8 +8,10 @@ use Rattle.pfc_base.specs.declared.faults.RunFault.{RunFault}
 use Rattle.pfc_base.specs.declared.faults.RunFault.TheVariants.{Case}
 use Rattle.pfc_tree.specs.Symbols.{Text}
 use Rattle.pfc_tree.specs.declared.tree.Constant.{Constant}
-use Rattle.pfc_tree.specs.trees.Exprs.{ExprTree, FactorTree, DesigTree, ActualTree, ActualTrees, plain, sum, no_summands, product, no_multipliers, paren, applied as used, desig, actual, actual_width, no_actuals, more_actuals}
-use Rattle.pfc_tree.specs.trees.Stmts.{StmtTree, StmtTrees, ArmTrees, empty, null, block, if_then, if_then_else, case_of, while_do, repeat_until, repeat_forever, for_do, assign, call, no_stmts, more_stmts, body, arm, no_arms, more_arms}
+use Rattle.pfc_tree.specs.trees.Exprs.{ExprTree, FactorTree, DesigTree, ActualTree, ActualTrees, plain, sum, no_summands, product, no_multipliers, paren}
+use Rattle.pfc_tree.specs.trees.Exprs.{applied as used, desig, actual, actual_width, no_actuals, more_actuals}
+use Rattle.pfc_tree.specs.trees.Stmts.{StmtTree, StmtTrees, ArmTrees, empty, null, block, if_then, if_then_else, case_of, while_do, repeat_until}
+use Rattle.pfc_tree.specs.trees.Stmts.{repeat_forever, for_do, assign, call, no_stmts, more_stmts, body, arm, no_arms, more_arms}
 use Rattle.pfc_types.specs.Types.{is_simple}
 use Rattle.pfc_types.specs.Scopes.{meaning_of}
 use Rattle.pfc_types.specs.rules.Constants.{Ordinal, constant_value, is_char}
@@ -22,7 +24,9 @@ use Rattle.pfc_meaning.specs.Store.{Location}
 use Rattle.pfc_values.specs.Numbers.{is_true}
 use Rattle.pfc_values.specs.Pieces.{shown, padded}
 use Rattle.pfc_meaning.specs.Operators.{Procedure, reader, writer, no_procedure, procedure_of, simple_of}
-use Rattle.pfc_meaning.specs.Frames.{Count, Rest, Next, perform, turn, until, behind_pass, next_pass, write_on, read_on, store_at, choose, choose_arm, while_true, until_true, count_from, count_to, show, show_wide, pad, assign_to, copy_to, copy_from, input_to, copies_from, writes, turns, prints, inputs, skips, faults}
+use Rattle.pfc_meaning.specs.Frames.{Count, Rest, Next, perform, turn, until, behind_pass, next_pass, write_on, read_on, store_at, choose, choose_arm}
+use Rattle.pfc_meaning.specs.Frames.{while_true, until_true, count_from, count_to, show, show_wide, pad, assign_to, copy_to, copy_from, input_to, copies_from}
+use Rattle.pfc_meaning.specs.Frames.{writes, turns, prints, inputs, skips, faults}
 use Rattle.pfc_meaning.specs.Expressions.{Context, variable_found, from_expr, from_desig}
 
 abbrev pub context : Env → ℕ → Context

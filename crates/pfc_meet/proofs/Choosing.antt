@@ -1,5 +1,6 @@
 -- The walk to a matched alternative.
-use Rattle.std.proofs.Common.{◌≡◌, ℕ, suc, ◌+◌, ◌<◌, ◌≤◌, true, Option, None, Some, List, ◌∷◌, length, drop, drop-cons, drop_of_length-le, get_or, refl, sym, ap, ◌∙◌, cond}
+use Rattle.std.proofs.Common.{◌≡◌, ℕ, suc, ◌+◌, ◌<◌, ◌≤◌, true, Option, None, Some, List, ◌∷◌, length, drop, drop-cons, drop_of_length-le, get_or, refl, sym}
+use Rattle.std.proofs.Common.{ap, ◌∙◌, cond}
 use Rattle.std.specs.Prelude.{is_some, slice_get}
 use Rattle.std.proofs.lemmas.Option.{slice_get-get_or}
 use Rattle.pfc_state.specs.declared.waits.Arm.{Arm}

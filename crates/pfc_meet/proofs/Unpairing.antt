@@ -1,5 +1,6 @@
 -- No two processes that could meet each other both wait.
-use Rattle.std.proofs.Common.{◌≡◌, ℕ, ◌+◌, inl, inr, ◌⊎◌, Bool, true, false, ◌||◌, ◌&&◌, ◌==◌, Option, None, Some, List, [], ◌∷◌, length, set, refl, sym, ap, ◌∙◌, subst, cond}
+use Rattle.std.proofs.Common.{◌≡◌, ℕ, ◌+◌, inl, inr, ◌⊎◌, Bool, true, false, ◌||◌, ◌&&◌, ◌==◌, Option, None, Some, List, [], ◌∷◌, length, set, refl, sym, ap}
+use Rattle.std.proofs.Common.{◌∙◌, subst, cond}
 use Rattle.std.specs.Prelude.{is_some}
 use Rattle.std.proofs.lemmas.Bool.{cases_eq, cases_lt, eqb-true}
 use Rattle.std.proofs.lemmas.List.{get_or-set_same, get_or-set_other, set_past}

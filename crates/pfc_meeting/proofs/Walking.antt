@@ -1,5 +1,6 @@
 -- Walks over what is open.
-use Rattle.std.proofs.Common.{◌≡◌, ℕ, ◌+◌, ◌<◌, ◌≤◌, ◌-◌, zero, suc, false, ◌||◌, arith, List, [], ◌∷◌, length, drop, drop-cons, drop_of_length-le, add-one, get_or, Some, None, refl, sym, ap, ◌∙◌}
+use Rattle.std.proofs.Common.{◌≡◌, ℕ, ◌+◌, ◌<◌, ◌≤◌, ◌-◌, zero, suc, false, ◌||◌, arith, List, [], ◌∷◌, length, drop, drop-cons, drop_of_length-le, add-one}
+use Rattle.std.proofs.Common.{get_or, Some, None, refl, sym, ap, ◌∙◌}
 use Rattle.pfc_state.specs.declared.waits.Arm.{Arm}
 use Rattle.std.specs.Prelude.{if◌then◌else◌, slice_get}
 use Rattle.pfc_semantics.specs.Store.{Store}

@@ -1,5 +1,6 @@
 -- Each heading is one as its step has it: each further step keeps it.
-use Rattle.std.proofs.Common.{◌≡◌, ◌≢◌, ℕ, ◌<◌, ◌≤◌, ◌==◌, Bool, true, false, List, [], ◌∷◌, ◌++◌, length, length-append, length-set, get_or, set, get_or-set_same, get_or-set_other, map, refl, ap, sym, ◌∙◌, subst, arith}
+use Rattle.std.proofs.Common.{◌≡◌, ◌≢◌, ℕ, ◌<◌, ◌≤◌, ◌==◌, Bool, true, false, List, [], ◌∷◌, ◌++◌, length, length-append, length-set, get_or, set}
+use Rattle.std.proofs.Common.{get_or-set_same, get_or-set_other, map, refl, ap, sym, ◌∙◌, subst, arith}
 use Rattle.std.proofs.Math.ListN.{get_or-append}
 use Rattle.std.proofs.lemmas.Bool.Decides.{nat_tests}
 use Rattle.std.proofs.lemmas.List.{map-append}
@@ -14,7 +15,8 @@ use Rattle.pfc_types.specs.declared.heads.Formal.{Formal}
 use Rattle.pfc_types.specs.declared.heads.SubHead.{SubHead}
 use Rattle.pfc_types.specs.declared.heads.ProcessHead.{ProcessHead}
 use Rattle.pfc_types.proofs.Prefixes.{begins_same, begins_trans}
-use Rattle.pfc_name_laws.specs.Reached.{formal_meaning, meanings_of, IsHeading, is_function, IsSubHeading, Reached, at_begin, noted, opened, named, a_sub, exported, a_module, a_process, an_entry, a_type, counted}
+use Rattle.pfc_name_laws.specs.Reached.{formal_meaning, meanings_of, IsHeading, is_function, IsSubHeading, Reached, at_begin, noted, opened, named, a_sub}
+use Rattle.pfc_name_laws.specs.Reached.{exported, a_module, a_process, an_entry, a_type, counted}
 use Rattle.pfc_name_laws.specs.Headings.{AreHeaded}
 use Rattle.pfc_name_laws.proofs.Numbers.{each_push, none_before}
 

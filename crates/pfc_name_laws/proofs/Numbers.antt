@@ -1,5 +1,7 @@
 -- What a name stands for has its heading: each step keeps it.
-use Rattle.std.proofs.Common.{◌≡◌, ◌≢◌, ℕ, ◌+◌, ◌-◌, ◌<◌, ◌≤◌, zero, suc, ◌==◌, nat_lt, Bool, true, false, List, [], ◌∷◌, ◌++◌, length, get_or, set, bytes_eq, option_map, cond, if◌then◌else◌, Option, Some, None, refl, ap, sym, ◌∙◌, subst, arith, length-append, length-set, get_or-set_same, get_or-set_other}
+use Rattle.std.proofs.Common.{◌≡◌, ◌≢◌, ℕ, ◌+◌, ◌-◌, ◌<◌, ◌≤◌, zero, suc, ◌==◌, nat_lt, Bool, true, false, List, [], ◌∷◌, ◌++◌, length, get_or, set, bytes_eq}
+use Rattle.std.proofs.Common.{option_map, cond, if◌then◌else◌, Option, Some, None, refl, ap, sym, ◌∙◌, subst, arith, length-append, length-set, get_or-set_same}
+use Rattle.std.proofs.Common.{get_or-set_other}
 use Rattle.std.specs.List.{All}
 use Rattle.std.specs.Option.{IfSome, option_or}
 use Rattle.std.proofs.Math.ListN.{get_or-append}
@@ -8,12 +10,14 @@ use Rattle.std.proofs.lemmas.Bool.Decides.{nat_tests}
 use Rattle.std.proofs.lemmas.List.Elements.{All-nil, All-cons, All-append, All-weaker}
 use Rattle.pfc_base.specs.declared.faults.Refusal.{Refusal}
 use Rattle.pfc_tree.specs.Symbols.{Text}
-use Rattle.pfc_types.specs.Scopes.{Names, Level, meaning_in, scope_at, position_in, within, found_at, found_in, predeclared, predeclared_names, meaning_of, look}
+use Rattle.pfc_types.specs.Scopes.{Names, Level, meaning_in, scope_at, position_in, within, found_at, found_in, predeclared, predeclared_names, meaning_of}
+use Rattle.pfc_types.specs.Scopes.{look}
 use Rattle.pfc_types.specs.Faulty.{IsSimpleConstant, HoldSimpleConstants}
 use Rattle.pfc_types.specs.rules.FaultyNames.{stands_faulty}
 use Rattle.pfc_types.specs.declared.view.Found.{Found}
 use Rattle.std.proofs.lemmas.Map.Entries.{All-lookup}
-use Rattle.pfc_types.specs.Blocks.{State, Blocks, no_sub, no_module, no_process, sub_at, module_at, process_at, open_scope, add_name, add_sub, add_module, add_process, add_entry, add_form, export_sub}
+use Rattle.pfc_types.specs.Blocks.{State, Blocks, no_sub, no_module, no_process, sub_at, module_at, process_at, open_scope, add_name, add_sub, add_module}
+use Rattle.pfc_types.specs.Blocks.{add_process, add_entry, add_form, export_sub}
 use Rattle.pfc_tree.specs.trees.Parts.{ProgramTree}
 use Rattle.pfc_types.specs.Faults.{listed, all_of}
 use Rattle.pfc_types.specs.rules.Whole.{begun, finished, broken, broken_bodies}
@@ -25,7 +29,8 @@ use Rattle.pfc_types.specs.declared.heads.Formal.{Formal}
 use Rattle.pfc_types.specs.declared.heads.SubHead.{SubHead}
 use Rattle.pfc_types.specs.declared.heads.ModuleHead.{ModuleHead}
 use Rattle.pfc_types.specs.declared.heads.ProcessHead.{ProcessHead}
-use Rattle.pfc_name_laws.specs.Reached.{entries_of, HasEntry, IsNumbered, IsOfProcess, IsNextProcess, Reached, at_begin, noted, opened, named, a_sub, exported, a_module, a_process, an_entry, a_type, counted}
+use Rattle.pfc_name_laws.specs.Reached.{entries_of, HasEntry, IsNumbered, IsOfProcess, IsNextProcess, Reached, at_begin, noted, opened, named, a_sub, exported}
+use Rattle.pfc_name_laws.specs.Reached.{a_module, a_process, an_entry, a_type, counted}
 use Rattle.pfc_name_laws.specs.Numbers.{AreNumbered}
 
 -- ## Lists

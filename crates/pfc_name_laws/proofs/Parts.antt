@@ -1,15 +1,18 @@
 -- Declarations are made of steps: headings, the parts of blocks, and the whole program.
-use Rattle.std.proofs.Common.{◌≡◌, ℕ, ◌+◌, ◌<◌, ◌≤◌, Bool, true, false, not, ◌&&◌, if◌then◌else◌, is_some, List, [], ◌∷◌, ◌++◌, length, length-append, get_or, map, Option, Some, None, refl, ap, sym, ◌∙◌, subst, arith}
+use Rattle.std.proofs.Common.{◌≡◌, ℕ, ◌+◌, ◌<◌, ◌≤◌, Bool, true, false, not, ◌&&◌, if◌then◌else◌, is_some, List, [], ◌∷◌, ◌++◌, length, length-append, get_or}
+use Rattle.std.proofs.Common.{map, Option, Some, None, refl, ap, sym, ◌∙◌, subst, arith}
 use Rattle.std.proofs.Math.Seq.{get_or-append_seam}
 use Rattle.std.proofs.lemmas.List.{append-nil}
 use Rattle.pfc_base.specs.declared.places.Place.{Place}
 use Rattle.pfc_tree.specs.Symbols.{Text}
 use Rattle.pfc_tree.specs.trees.Types.{GroupTree}
-use Rattle.pfc_tree.specs.trees.Parts.{KindTree, procedure, function, guarded, EntryTree, PartTree, PartTrees, SubTree, ModuleTree, ProcessTree, ProgramTree, consts, types, vars, sub_part, monitor, resource, process_part, no_parts, more_parts, sub, the_module, process}
+use Rattle.pfc_tree.specs.trees.Parts.{KindTree, procedure, function, guarded, EntryTree, PartTree, PartTrees, SubTree, ModuleTree, ProcessTree, ProgramTree}
+use Rattle.pfc_tree.specs.trees.Parts.{consts, types, vars, sub_part, monitor, resource, process_part, no_parts, more_parts, sub, the_module, process}
 use Rattle.pfc_types.specs.Faults.{unless}
 use Rattle.pfc_types.specs.Types.{is_simple}
 use Rattle.pfc_types.specs.Scopes.{Names, Level, scope_at, here, meaning_in, look}
-use Rattle.pfc_types.specs.Blocks.{Blocks, State, no_process, process_at, note, declare, add_form, add_sub, add_module, add_process, add_entry, sub_at, export_sub, open_scope}
+use Rattle.pfc_types.specs.Blocks.{Blocks, State, no_process, process_at, note, declare, add_form, add_sub, add_module, add_process, add_entry, sub_at}
+use Rattle.pfc_types.specs.Blocks.{export_sub, open_scope}
 use Rattle.pfc_types.specs.declared.types.TypeId.{TypeId}
 use Rattle.pfc_types.specs.declared.types.TypeForm.TheVariants.{Process as AProcess}
 use Rattle.pfc_types.specs.declared.heads.SubHead.{SubHead}
@@ -19,9 +22,14 @@ use Rattle.pfc_types.specs.declared.heads.ModuleHead.{ModuleHead}
 use Rattle.pfc_types.specs.declared.heads.ProcessHead.{ProcessHead}
 use Rattle.pfc_types.specs.declared.scope.Meaning.{Meaning}
 use Rattle.pfc_types.specs.declared.scope.Meaning.TheVariants.{Constant as AConstant, Named, Variable, Sub, Module, Process, Entry, Predeclared, Faulty}
-use Rattle.pfc_types.specs.rules.Declarations.{Owner, in_program, elsewhere, Heading, heading, group_type, broken_group, EntryHeading, entry_formal, entry_formals, entry_group, entry_groups, entry_meaning, entries_state, may_export, export_state, export_list, exports_state, populated, process_named, process_headed, process_cells, body_state, init_state, broken_sort, sort_of, result_type, whole_sort, sub_meaning, sub_headed, module_owner, module_closed, cells_rule, scope_cells, result_cells, part_state, parts_state, sub_state, module_state, process_state}
+use Rattle.pfc_types.specs.rules.Declarations.{Owner, in_program, elsewhere, Heading, heading, group_type, broken_group, EntryHeading, entry_formal}
+use Rattle.pfc_types.specs.rules.Declarations.{entry_formals, entry_group, entry_groups, entry_meaning, entries_state, may_export, export_state, export_list}
+use Rattle.pfc_types.specs.rules.Declarations.{exports_state, populated, process_named, process_headed, process_cells, body_state, init_state, broken_sort}
+use Rattle.pfc_types.specs.rules.Declarations.{sort_of, result_type, whole_sort, sub_meaning, sub_headed, module_owner, module_closed, cells_rule, scope_cells}
+use Rattle.pfc_types.specs.rules.Declarations.{result_cells, part_state, parts_state, sub_state, module_state, process_state}
 use Rattle.pfc_types.specs.rules.Whole.{begun, declared_parts, declared_all, main_cells, finished}
-use Rattle.pfc_name_laws.specs.Reached.{HasEntry, IsNumbered, formal_meaning, meanings_of, IsHeading, GivesSimple, is_function, IsSubHeading, IsNextProcess, Reached, at_begin, a_sub, exported, a_module, a_process, an_entry}
+use Rattle.pfc_name_laws.specs.Reached.{HasEntry, IsNumbered, formal_meaning, meanings_of, IsHeading, GivesSimple, is_function, IsSubHeading, IsNextProcess}
+use Rattle.pfc_name_laws.specs.Reached.{Reached, at_begin, a_sub, exported, a_module, a_process, an_entry}
 use Rattle.pfc_name_laws.proofs.Numbers.{get_or-beyond, numbered, no_faulty}
 use Rattle.pfc_name_laws.proofs.Unused.{clash, clean_list}
 use Rattle.pfc_types.proofs.Clean.{clean}
@@ -30,7 +38,9 @@ use Rattle.pfc_types.proofs.Prefixes.{begins_same, begins_push, begins_trans}
 use Rattle.pfc_types.proofs.FaultyConstants.{named_type_exact}
 use Rattle.pfc_types.specs.rules.FaultyNames.{all_typed, stands_faulty}
 use Rattle.pfc_types.specs.rules.Kinds.{where_so, may_be_simple, type_name_rules, named_type}
-use Rattle.pfc_name_laws.proofs.Steps.{Stepped, Plain, stepped_then, same, ◌⊳◌, note_clean, note_scopes, note_plain, never_noted, open_plain, declare_plain, repeated_plain, form_plain, consts_plain, types_plain, populated_plain, vars_plain, AreFormals, both_true, typed_more, some_type, groups_plain, group_known, body_plain, init_plain}
+use Rattle.pfc_name_laws.proofs.Steps.{Stepped, Plain, stepped_then, same, ◌⊳◌, note_clean, note_scopes, note_plain, never_noted, open_plain, declare_plain}
+use Rattle.pfc_name_laws.proofs.Steps.{repeated_plain, form_plain, consts_plain, types_plain, populated_plain, vars_plain, AreFormals, both_true, typed_more}
+use Rattle.pfc_name_laws.proofs.Steps.{some_type, groups_plain, group_known, body_plain, init_plain}
 
 -- ## Steps with headings
 

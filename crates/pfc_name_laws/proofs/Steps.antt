@@ -1,5 +1,6 @@
 -- Declarations are made of steps: those in which no heading is added, and statements.
-use Rattle.std.proofs.Common.{◌≡◌, ℕ, ◌+◌, ◌<◌, ◌≤◌, Bool, true, false, not, ◌&&◌, if◌then◌else◌, is_some, List, [], ◌∷◌, ◌++◌, length, length-append, length-set, get_or-set_same, map, Option, Some, None, refl, ap, sym, ◌∙◌, subst, ◌≢◌, ◌⊎◌, inl, inr, arith}
+use Rattle.std.proofs.Common.{◌≡◌, ℕ, ◌+◌, ◌<◌, ◌≤◌, Bool, true, false, not, ◌&&◌, if◌then◌else◌, is_some, List, [], ◌∷◌, ◌++◌, length, length-append}
+use Rattle.std.proofs.Common.{length-set, get_or-set_same, map, Option, Some, None, refl, ap, sym, ◌∙◌, subst, ◌≢◌, ◌⊎◌, inl, inr, arith}
 use Rattle.std.specs.List.{list_any}
 use Rattle.std.proofs.lemmas.List.{append-nil, append_assoc, map-append}
 use Rattle.std.specs.Option.{IfSome}
@@ -8,7 +9,10 @@ use Rattle.pfc_tree.specs.Symbols.{Text}
 use Rattle.pfc_tree.specs.declared.tree.Constant.{Constant}
 use Rattle.pfc_tree.specs.declared.tree.ConstItem.{ConstItem}
 use Rattle.pfc_tree.specs.trees.Types.{TypeTree, VarTree, VarTrees, TypeItemTree, GroupTree, named, channel, array, fields, var_item, no_vars, more_vars}
-use Rattle.pfc_tree.specs.trees.Stmts.{StmtTree, StmtTrees, BodyTree, ArmTree, ArmTrees, AcceptTree, AltTree, AltTrees, CommTree, empty, null, block, if_then, if_then_else, case_of, while_do, repeat_until, repeat_forever, for_do, cobegin, accepting, requeue, select, select_else, assign, send, receive, call, no_stmts, more_stmts, body, arm, no_arms, more_arms, accept, accept_do, alt, no_alts, more_alts, comm_accept, comm_send, comm_receive, timeout, terminate}
+use Rattle.pfc_tree.specs.trees.Stmts.{StmtTree, StmtTrees, BodyTree, ArmTree, ArmTrees, AcceptTree, AltTree, AltTrees, CommTree, empty, null, block, if_then}
+use Rattle.pfc_tree.specs.trees.Stmts.{if_then_else, case_of, while_do, repeat_until, repeat_forever, for_do, cobegin, accepting, requeue, select, select_else}
+use Rattle.pfc_tree.specs.trees.Stmts.{assign, send, receive, call, no_stmts, more_stmts, body, arm, no_arms, more_arms, accept, accept_do, alt, no_alts}
+use Rattle.pfc_tree.specs.trees.Stmts.{more_alts, comm_accept, comm_send, comm_receive, timeout, terminate}
 use Rattle.pfc_types.specs.Faults.{Faults, none, one, ◌⨾◌, unless, listed}
 use Rattle.pfc_types.specs.Types.{Forms, integer, is_object, refusal_of, most_processes}
 use Rattle.pfc_types.specs.Fields.{type_named}
@@ -23,8 +27,14 @@ use Rattle.pfc_types.specs.declared.scope.Meaning.{Meaning}
 use Rattle.pfc_types.specs.declared.heads.Formal.{Formal}
 use Rattle.pfc_types.specs.declared.scope.Meaning.TheVariants.{Faulty}
 use Rattle.pfc_types.specs.rules.Kinds.{where_so, type_name_rules, has_object, type_meaning, variable_meaning}
-use Rattle.pfc_types.specs.rules.Constants.{Ordinal, Extent, same_ordinal, constant_place, constant_value, broken_constant, broken_ranges, range_extents, Made, added_unless, added, channel_form, array_of, made_arrays, MadeFields, made_field, made_names, made_group, record_form, fields_begun, made, made_items, made_item, type_place}
-use Rattle.pfc_types.specs.rules.Declarations.{shared_fits, condition_fits, constant_meaning, const_state, consts_state, type_state, types_state, Owner, owner_rules, owned_type, passes_most, populated, brought, var_name_state, var_names_state, var_state, vars_state, group_type, broken_group, Heading, formal_heading, formals_heading, group_viewed, group_heading, groups_heading, accept_groups, accept_heading, accept_rule, accepted, Labels, label_noted, labels_noted, stmt_state, stmts_state, body_state, arms_state, arm_state, accept_state, alts_state, alt_state, comm_state, init_state}
+use Rattle.pfc_types.specs.rules.Constants.{Ordinal, Extent, same_ordinal, constant_place, constant_value, broken_constant, broken_ranges, range_extents, Made}
+use Rattle.pfc_types.specs.rules.Constants.{added_unless, added, channel_form, array_of, made_arrays, MadeFields, made_field, made_names, made_group}
+use Rattle.pfc_types.specs.rules.Constants.{record_form, fields_begun, made, made_items, made_item, type_place}
+use Rattle.pfc_types.specs.rules.Declarations.{shared_fits, condition_fits, constant_meaning, const_state, consts_state, type_state, types_state, Owner}
+use Rattle.pfc_types.specs.rules.Declarations.{owner_rules, owned_type, passes_most, populated, brought, var_name_state, var_names_state, var_state, vars_state}
+use Rattle.pfc_types.specs.rules.Declarations.{group_type, broken_group, Heading, formal_heading, formals_heading, group_viewed, group_heading, groups_heading}
+use Rattle.pfc_types.specs.rules.Declarations.{accept_groups, accept_heading, accept_rule, accepted, Labels, label_noted, labels_noted, stmt_state, stmts_state}
+use Rattle.pfc_types.specs.rules.Declarations.{body_state, arms_state, arm_state, accept_state, alts_state, alt_state, comm_state, init_state}
 use Rattle.pfc_name_laws.specs.Reached.{IsNumbered, IsOfProcess, formal_meaning, meanings_of, Reached, noted, opened, named as a_name, a_type, counted}
 use Rattle.pfc_name_laws.proofs.Numbers.{still, numbered_then, numbered, none_before, none_behind, no_faulty, simple_constants}
 use Rattle.pfc_name_laws.proofs.Unused.{clash, clean_list, constant_unused, type_unused}

@@ -5,7 +5,8 @@ use Rattle.pfc_tree.specs.Symbols.{Text}
 use Rattle.pfc_types.specs.Types.{is_simple, refusal_of}
 use Rattle.pfc_types.specs.Growing.{Begins}
 use Rattle.pfc_types.specs.Scopes.{Names, meaning_in, scope_at}
-use Rattle.pfc_types.specs.Blocks.{State, Blocks, with_noted, no_process, sub_at, process_at, open_scope, add_name, add_sub, add_module, add_process, add_entry, add_form, export_sub, set_population}
+use Rattle.pfc_types.specs.Blocks.{State, Blocks, with_noted, no_process, sub_at, process_at, open_scope, add_name, add_sub, add_module, add_process, add_entry}
+use Rattle.pfc_types.specs.Blocks.{add_form, export_sub, set_population}
 use Rattle.pfc_types.specs.rules.FaultyNames.{all_typed}
 use Rattle.pfc_types.specs.rules.Kinds.{variable_meaning}
 use Rattle.pfc_types.specs.rules.Whole.{begun}

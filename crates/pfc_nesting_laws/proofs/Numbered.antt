@@ -1,12 +1,15 @@
 -- The blocks of a program are told apart by their scopes, and the scopes in view fall.
-use Rattle.std.proofs.Common.{◌≡◌, ℕ, zero, suc, ◌+◌, ◌<◌, ◌≤◌, Bool, true, false, ◌&&◌, if◌then◌else◌, List, [], ◌∷◌, ◌++◌, slice_get, Some, refl, sym, ap, ◌∙◌, subst, arith}
+use Rattle.std.proofs.Common.{◌≡◌, ℕ, zero, suc, ◌+◌, ◌<◌, ◌≤◌, Bool, true, false, ◌&&◌, if◌then◌else◌, List, [], ◌∷◌, ◌++◌, slice_get, Some, refl, sym, ap}
+use Rattle.std.proofs.Common.{◌∙◌, subst, arith}
 use Rattle.std.specs.Prelude.{nat_lt, nat_le}
 use Rattle.pfc_tree.specs.trees.Stmts.{body}
-use Rattle.pfc_tree.specs.trees.Parts.{PartTree, PartTrees, SubTree, ModuleTree, ProcessTree, consts, types, vars, sub_part, monitor, resource, process_part, no_parts, more_parts, sub, the_module, process}
+use Rattle.pfc_tree.specs.trees.Parts.{PartTree, PartTrees, SubTree, ModuleTree, ProcessTree, consts, types, vars, sub_part, monitor, resource, process_part}
+use Rattle.pfc_tree.specs.trees.Parts.{no_parts, more_parts, sub, the_module, process}
 use Rattle.pfc_types.specs.Scopes.{Level, scope_at}
 use Rattle.pfc_types.specs.Blocks.{Blocks, State}
 use Rattle.pfc_types.specs.rules.Statements.{body_scopes}
-use Rattle.pfc_types.specs.rules.Bodies.{level, passed, passed_part, passed_groups, passed_entries, part_scopes, parts_scopes, sub_scopes, module_scopes, process_scopes}
+use Rattle.pfc_types.specs.rules.Bodies.{level, passed, passed_part, passed_groups, passed_entries, part_scopes, parts_scopes, sub_scopes, module_scopes}
+use Rattle.pfc_types.specs.rules.Bodies.{process_scopes}
 use Rattle.pfc_semantics.specs.Programs.{Block, part_blocks, parts_blocks, sub_blocks, module_blocks, process_blocks}
 use Rattle.pfc_translation.specs.Sites.{is_mains, linked, is_accept}
 use Rattle.pfc_nesting_laws.specs.Nesting.{AreOnce}

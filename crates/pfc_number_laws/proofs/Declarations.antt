@@ -7,7 +7,10 @@ use Rattle.pfc_tree.specs.Symbols.{Text}
 use Rattle.pfc_tree.specs.declared.tree.Constant.{Constant}
 use Rattle.pfc_tree.specs.declared.tree.ConstItem.{ConstItem}
 use Rattle.pfc_tree.specs.trees.Types.{TypeTree, VarTree, VarTrees, TypeItemTree, GroupTree, named, channel, array, fields, var_item, no_vars, more_vars}
-use Rattle.pfc_tree.specs.trees.Stmts.{StmtTree, StmtTrees, BodyTree, ArmTree, ArmTrees, AcceptTree, AltTree, AltTrees, CommTree, empty, null, block, if_then, if_then_else, case_of, while_do, repeat_until, repeat_forever, for_do, cobegin, accepting, requeue, select, select_else, assign, send, receive, call, no_stmts, more_stmts, body, arm, no_arms, more_arms, accept, accept_do, alt, no_alts, more_alts, comm_accept, comm_send, comm_receive, timeout, terminate}
+use Rattle.pfc_tree.specs.trees.Stmts.{StmtTree, StmtTrees, BodyTree, ArmTree, ArmTrees, AcceptTree, AltTree, AltTrees, CommTree, empty, null, block, if_then}
+use Rattle.pfc_tree.specs.trees.Stmts.{if_then_else, case_of, while_do, repeat_until, repeat_forever, for_do, cobegin, accepting, requeue, select, select_else}
+use Rattle.pfc_tree.specs.trees.Stmts.{assign, send, receive, call, no_stmts, more_stmts, body, arm, no_arms, more_arms, accept, accept_do, alt, no_alts}
+use Rattle.pfc_tree.specs.trees.Stmts.{more_alts, comm_accept, comm_send, comm_receive, timeout, terminate}
 use Rattle.pfc_tree.specs.trees.Parts.{EntryTree}
 use Rattle.pfc_types.specs.Faults.{Faults, none, one, ◌⨾◌, unless}
 use Rattle.pfc_types.specs.Fields.{type_named}
@@ -21,8 +24,15 @@ use Rattle.pfc_types.specs.declared.table.TypeFault.TheVariants.{Bounds, Cells, 
 use Rattle.pfc_types.specs.declared.scope.Meaning.{Meaning}
 use Rattle.pfc_types.specs.declared.scope.Meaning.TheVariants.{Faulty}
 use Rattle.pfc_types.specs.rules.Kinds.{has_object, type_name_rules, type_meaning, variable_meaning}
-use Rattle.pfc_types.specs.rules.Constants.{Ordinal, Extent, same_ordinal, constant_value, constant_place, broken_constant, broken_ranges, range_extents, Made, added_unless, added, channel_form, array_of, made_arrays, MadeFields, made_field, made_names, made_group, record_form, fields_begun, made, made_items, made_item, type_place}
-use Rattle.pfc_types.specs.rules.Declarations.{constant_meaning, const_state, consts_state, type_state, types_state, Owner, owner_rules, owned_type, passes_most, populated, brought, var_name_state, var_names_state, var_state, vars_state, broken_group, group_type, Heading, formal_heading, formals_heading, group_viewed, group_heading, groups_heading, heading, EntryHeading, entry_formal, entry_formals, entry_group, entry_groups, entry_meaning, entry_state, entries_state, accept_rule, accept_groups, accept_heading, accepted, Labels, label_noted, labels_noted, stmt_state, stmts_state, body_state, arms_state, arm_state, accept_state, alts_state, alt_state, comm_state, sub_meaning}
+use Rattle.pfc_types.specs.rules.Constants.{Ordinal, Extent, same_ordinal, constant_value, constant_place, broken_constant, broken_ranges, range_extents, Made}
+use Rattle.pfc_types.specs.rules.Constants.{added_unless, added, channel_form, array_of, made_arrays, MadeFields, made_field, made_names, made_group}
+use Rattle.pfc_types.specs.rules.Constants.{record_form, fields_begun, made, made_items, made_item, type_place}
+use Rattle.pfc_types.specs.rules.Declarations.{constant_meaning, const_state, consts_state, type_state, types_state, Owner, owner_rules, owned_type}
+use Rattle.pfc_types.specs.rules.Declarations.{passes_most, populated, brought, var_name_state, var_names_state, var_state, vars_state, broken_group}
+use Rattle.pfc_types.specs.rules.Declarations.{group_type, Heading, formal_heading, formals_heading, group_viewed, group_heading, groups_heading, heading}
+use Rattle.pfc_types.specs.rules.Declarations.{EntryHeading, entry_formal, entry_formals, entry_group, entry_groups, entry_meaning, entry_state, entries_state}
+use Rattle.pfc_types.specs.rules.Declarations.{accept_rule, accept_groups, accept_heading, accepted, Labels, label_noted, labels_noted, stmt_state, stmts_state}
+use Rattle.pfc_types.specs.rules.Declarations.{body_state, arms_state, arm_state, accept_state, alts_state, alt_state, comm_state, sub_meaning}
 use Rattle.pfc_run_invariants.specs.Fitting.{FitsMeaning}
 use Rattle.pfc_number_laws.specs.Written.{FitsItem}
 use Rattle.pfc_run_invariants.proofs.Lists.{all_push, all_set, all_get}

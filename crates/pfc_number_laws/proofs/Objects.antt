@@ -13,7 +13,9 @@ use Rattle.pfc_types.specs.declared.types.TypeForm.TheVariants.{Channel, Array, 
 use Rattle.pfc_types.specs.declared.scope.Meaning.{Meaning}
 use Rattle.pfc_types.specs.declared.scope.Meaning.TheVariants.{Variable, Process as Single, Module}
 use Rattle.pfc_semantics.specs.Values.{Value, ordinal, copies}
-use Rattle.pfc_semantics.specs.Objects.{first_of, first_fields, first_next, all_first, Objects, no_objects, Numbered, Numbering, unnumbered, a_semaphore, a_channel, a_condition, a_process, numbering_of, numbered_copies, numbered_fields, predeclared_numberings, numbering_next, all_numberings, numbered_names, module_number, of_main, numbered_main, main_objects}
+use Rattle.pfc_semantics.specs.Objects.{first_of, first_fields, first_next, all_first, Objects, no_objects, Numbered, Numbering, unnumbered, a_semaphore}
+use Rattle.pfc_semantics.specs.Objects.{a_channel, a_condition, a_process, numbering_of, numbered_copies, numbered_fields, predeclared_numberings}
+use Rattle.pfc_semantics.specs.Objects.{numbering_next, all_numberings, numbered_names, module_number, of_main, numbered_main, main_objects}
 use Rattle.pfc_run_invariants.specs.Fitting.{Fits, FitsValue, FitValues, FitList}
 use Rattle.pfc_number_laws.specs.Objects.{AreFew}
 use Rattle.pfc_run_invariants.proofs.Lists.{all_append, all_push, all_get}

@@ -5,7 +5,8 @@ use Rattle.pfc_base.specs.declared.places.Place.{Place}
 use Rattle.pfc_tree.specs.Symbols.{Text}
 use Rattle.pfc_tree.specs.trees.Types.{GroupTree}
 use Rattle.pfc_tree.specs.trees.Stmts.{BodyTree}
-use Rattle.pfc_tree.specs.trees.Parts.{KindTree, PartTree, PartTrees, SubTree, ModuleTree, ProcessTree, ProgramTree, consts, types, vars, sub_part, monitor, resource, process_part, no_parts, more_parts, sub, the_module, process}
+use Rattle.pfc_tree.specs.trees.Parts.{KindTree, PartTree, PartTrees, SubTree, ModuleTree, ProcessTree, ProgramTree, consts, types, vars, sub_part, monitor}
+use Rattle.pfc_tree.specs.trees.Parts.{resource, process_part, no_parts, more_parts, sub, the_module, process}
 use Rattle.pfc_types.specs.Faults.{unless}
 use Rattle.pfc_types.specs.Scopes.{Level, meaning_in, scope_at, here}
 use Rattle.pfc_types.specs.Blocks.{State, note, declare, open_scope, add_form, add_sub, add_module, add_process, export_sub, sub_at}
@@ -14,12 +15,16 @@ use Rattle.pfc_types.specs.declared.scope.Meaning.{Meaning}
 use Rattle.pfc_types.specs.declared.scope.Meaning.TheVariants.{Sub, Module, Process, Named, Faulty}
 use Rattle.pfc_types.specs.declared.heads.SubHead.{SubHead}
 use Rattle.pfc_types.specs.declared.heads.ProcessHead.{ProcessHead}
-use Rattle.pfc_types.specs.rules.Declarations.{Owner, in_program, elsewhere, populated, heading, entries_state, scope_cells, result_cells, cells_rule, body_state, broken_sort, sort_of, whole_sort, sub_meaning, sub_headed, may_export, export_state, export_list, exports_state, module_owner, module_closed, init_state, process_named, process_headed, process_cells, part_state, parts_state, sub_state, module_state, process_state}
+use Rattle.pfc_types.specs.rules.Declarations.{Owner, in_program, elsewhere, populated, heading, entries_state, scope_cells, result_cells, cells_rule}
+use Rattle.pfc_types.specs.rules.Declarations.{body_state, broken_sort, sort_of, whole_sort, sub_meaning, sub_headed, may_export, export_state, export_list}
+use Rattle.pfc_types.specs.rules.Declarations.{exports_state, module_owner, module_closed, init_state, process_named, process_headed, process_cells, part_state}
+use Rattle.pfc_types.specs.rules.Declarations.{parts_state, sub_state, module_state, process_state}
 use Rattle.pfc_types.specs.rules.Whole.{begun, declared_parts, declared_all, main_cells, finished}
 use Rattle.pfc_run_invariants.specs.Fitting.{FitNames}
 use Rattle.pfc_number_laws.specs.Written.{FitsPart, FitParts, FitsSub, FitsModule, FitsProcess, FitsTree}
 use Rattle.pfc_number_laws.proofs.Names.{names_fit}
-use Rattle.pfc_number_laws.proofs.Declarations.{FitsState, noted, opened, declared, either_state, sub_fits, consts_fit, types_fit, populated_fits, vars_fit, heading_fits, entries_fit, body_fits}
+use Rattle.pfc_number_laws.proofs.Declarations.{FitsState, noted, opened, declared, either_state, sub_fits, consts_fit, types_fit, populated_fits, vars_fit}
+use Rattle.pfc_number_laws.proofs.Declarations.{heading_fits, entries_fit, body_fits}
 
 -- ## Subs, modules and processes
 

@@ -2,15 +2,18 @@
 use Rattle.std.proofs.Common.{ℕ, ◌+◌, Bool, true, false, List, [], ◌∷◌, take, drop, Option, Some, None}
 use Rattle.std.specs.List.{AllByRecursion}
 use Rattle.pfc_tree.specs.trees.Stmts.{BodyTree, body}
-use Rattle.pfc_tree.specs.trees.Parts.{KindTree, PartTree, PartTrees, SubTree, ModuleTree, ProcessTree, ProgramTree, procedure, function, guarded, consts, types, vars, sub_part, monitor, resource, process_part, no_parts, more_parts, sub, the_module, process}
+use Rattle.pfc_tree.specs.trees.Parts.{KindTree, PartTree, PartTrees, SubTree, ModuleTree, ProcessTree, ProgramTree, procedure, function, guarded, consts}
+use Rattle.pfc_tree.specs.trees.Parts.{types, vars, sub_part, monitor, resource, process_part, no_parts, more_parts, sub, the_module, process}
 use Rattle.pfc_types.specs.Scopes.{Level, scope_at, here}
 use Rattle.pfc_types.specs.Blocks.{State}
 use Rattle.pfc_types.specs.rules.Expressions.{Env}
 use Rattle.pfc_types.specs.rules.Statements.{body_scopes}
-use Rattle.pfc_types.specs.rules.Bodies.{env_at, around_nothing, around_process, around_sub, around_guard, passed, passed_part, passed_groups, passed_entries, part_scopes, parts_scopes, level}
+use Rattle.pfc_types.specs.rules.Bodies.{env_at, around_nothing, around_process, around_sub, around_guard, passed, passed_part, passed_groups, passed_entries}
+use Rattle.pfc_types.specs.rules.Bodies.{part_scopes, parts_scopes, level}
 use Rattle.pfc_types.specs.rules.Whole.{finished}
 use Rattle.pfc_semantics.specs.Layouts.{Layout, main_layout, sub_layout_at, process_layout}
-use Rattle.pfc_semantics.specs.Programs.{Block, Program, Guard, block_of, guard_of, part_blocks, parts_blocks, sub_blocks, module_blocks, process_blocks, init_block, module_inits, part_inits, parts_inits, env_of_main, program_of}
+use Rattle.pfc_semantics.specs.Programs.{Block, Program, Guard, block_of, guard_of, part_blocks, parts_blocks, sub_blocks, module_blocks, process_blocks}
+use Rattle.pfc_semantics.specs.Programs.{init_block, module_inits, part_inits, parts_inits, env_of_main, program_of}
 use Rattle.pfc_run_invariants.specs.Fitting.{FitNames}
 use Rattle.pfc_number_laws.specs.Written.{HasBody, FitsKind, FitsEnding, FitsPart, FitParts, FitsSub, FitsModule, FitsProcess, FitsTree}
 use Rattle.pfc_number_laws.specs.Objects.{AreFew}

@@ -9,20 +9,35 @@ use Rattle.pfc_tree.specs.declared.tree.Constant.{Constant}
 use Rattle.pfc_tree.specs.declared.tree.Constant.TheVariants.{Number, Named, Literal}
 use Rattle.pfc_tree.specs.declared.tree.ConstItem.{ConstItem}
 use Rattle.pfc_tree.specs.declared.tree.Spread.{Spread}
-use Rattle.pfc_tree.specs.trees.Exprs.{ExprTree, SimpleTree, SummandTrees, TermTree, MultiplierTrees, FactorTree, DesigTree, SelectorTree, SelectorTrees, ExprTrees, ActualTree, ActualTrees, plain, related, sum, no_summands, more_summands, product, no_multipliers, more_multipliers, number, literal, negation, paren, applied, desig, index, field, no_selectors, more_selectors, no_exprs, more_exprs, actual, actual_width, no_actuals, more_actuals}
+use Rattle.pfc_tree.specs.trees.Exprs.{ExprTree, SimpleTree, SummandTrees, TermTree, MultiplierTrees, FactorTree, DesigTree, SelectorTree, SelectorTrees}
+use Rattle.pfc_tree.specs.trees.Exprs.{ExprTrees, ActualTree, ActualTrees, plain, related, sum, no_summands, more_summands, product, no_multipliers}
+use Rattle.pfc_tree.specs.trees.Exprs.{more_multipliers, number, literal, negation, paren, applied, desig, index, field, no_selectors, more_selectors, no_exprs}
+use Rattle.pfc_tree.specs.trees.Exprs.{more_exprs, actual, actual_width, no_actuals, more_actuals}
 use Rattle.pfc_tree.specs.trees.Types.{GroupTree}
-use Rattle.pfc_tree.specs.trees.Stmts.{StmtTree, StmtTrees, BodyTree, ArmTrees, AcceptTree, AltTree, AltTrees, CommTree, empty, null, block, if_then, if_then_else, case_of, while_do, repeat_until, repeat_forever, for_do, cobegin, accepting, requeue, select, select_else, assign, send, receive, call, no_stmts, more_stmts, body, arm, no_arms, more_arms, accept, accept_do, alt, no_alts, more_alts, comm_accept, comm_send, comm_receive, timeout, terminate}
-use Rattle.pfc_tree.specs.trees.Parts.{KindTree, PartTree, PartTrees, SubTree, ModuleTree, ProcessTree, ProgramTree, procedure, function, guarded, consts, types, vars, sub_part, monitor, resource, process_part, no_parts, more_parts, sub, the_module, process}
+use Rattle.pfc_tree.specs.trees.Stmts.{StmtTree, StmtTrees, BodyTree, ArmTrees, AcceptTree, AltTree, AltTrees, CommTree, empty, null, block, if_then}
+use Rattle.pfc_tree.specs.trees.Stmts.{if_then_else, case_of, while_do, repeat_until, repeat_forever, for_do, cobegin, accepting, requeue, select, select_else}
+use Rattle.pfc_tree.specs.trees.Stmts.{assign, send, receive, call, no_stmts, more_stmts, body, arm, no_arms, more_arms, accept, accept_do, alt, no_alts}
+use Rattle.pfc_tree.specs.trees.Stmts.{more_alts, comm_accept, comm_send, comm_receive, timeout, terminate}
+use Rattle.pfc_tree.specs.trees.Parts.{KindTree, PartTree, PartTrees, SubTree, ModuleTree, ProcessTree, ProgramTree, procedure, function, guarded, consts}
+use Rattle.pfc_tree.specs.trees.Parts.{types, vars, sub_part, monitor, resource, process_part, no_parts, more_parts, sub, the_module, process}
 use Rattle.pfc_tree.specs.forget.Types.{bare, forget_constant, forget_const_item, forget_group}
-use Rattle.pfc_tree.specs.forget.Stmts.{forget_spread, forget_stmt, forget_stmts, forget_body, forget_arm, forget_arms, forget_accept, forget_alt, forget_alts, forget_comm}
+use Rattle.pfc_tree.specs.forget.Stmts.{forget_spread, forget_stmt, forget_stmts, forget_body, forget_arm, forget_arms, forget_accept, forget_alt, forget_alts}
+use Rattle.pfc_tree.specs.forget.Stmts.{forget_comm}
 use Rattle.pfc_tree.specs.forget.Parts.{forget_entry, forget_part, forget_parts, forget_sub, forget_module, forget_process, forget_kind, forget_program}
 use Rattle.pfc_tree.specs.tokens.Types.{constant_tokens, constants_tokens, const_items_tokens, last_tokens, formals_tokens}
-use Rattle.pfc_tree.specs.tokens.Stmts.{direction_symbol, spread_tokens, guard_tokens, stmt_tokens, stmts_tokens, semicolon_stmts_tokens, body_tokens, arm_tokens, arms_tokens, semicolon_arms_tokens, accept_tokens, alt_tokens, comm_tokens, alts_tokens, or_alts_tokens}
-use Rattle.pfc_tree.specs.tokens.Parts.{exports_tokens, entries_tokens, ending_tokens, heading_tokens, part_tokens, parts_tokens, sub_tokens, module_tokens, process_tokens, params_tokens, tokens_of}
-use Rattle.pfc_tree.specs.forget.Exprs.{forget_expr, forget_simple, forget_summands, forget_term, forget_multipliers, forget_factor, forget_desig, forget_selector, forget_selectors, forget_exprs, forget_actual, forget_actuals}
-use Rattle.pfc_tree.specs.tokens.Exprs.{expr_tokens, simple_tokens, summands_tokens, term_tokens, multipliers_tokens, factor_tokens, desig_tokens, selectors_tokens, selector_tokens, exprs_tokens, comma_exprs_tokens, actuals_tokens, comma_actuals_tokens, actual_tokens}
+use Rattle.pfc_tree.specs.tokens.Stmts.{direction_symbol, spread_tokens, guard_tokens, stmt_tokens, stmts_tokens, semicolon_stmts_tokens, body_tokens}
+use Rattle.pfc_tree.specs.tokens.Stmts.{arm_tokens, arms_tokens, semicolon_arms_tokens, accept_tokens, alt_tokens, comm_tokens, alts_tokens, or_alts_tokens}
+use Rattle.pfc_tree.specs.tokens.Parts.{exports_tokens, entries_tokens, ending_tokens, heading_tokens, part_tokens, parts_tokens, sub_tokens, module_tokens}
+use Rattle.pfc_tree.specs.tokens.Parts.{process_tokens, params_tokens, tokens_of}
+use Rattle.pfc_tree.specs.forget.Exprs.{forget_expr, forget_simple, forget_summands, forget_term, forget_multipliers, forget_factor, forget_desig}
+use Rattle.pfc_tree.specs.forget.Exprs.{forget_selector, forget_selectors, forget_exprs, forget_actual, forget_actuals}
+use Rattle.pfc_tree.specs.tokens.Exprs.{expr_tokens, simple_tokens, summands_tokens, term_tokens, multipliers_tokens, factor_tokens, desig_tokens}
+use Rattle.pfc_tree.specs.tokens.Exprs.{selectors_tokens, selector_tokens, exprs_tokens, comma_exprs_tokens, actuals_tokens, comma_actuals_tokens}
+use Rattle.pfc_tree.specs.tokens.Exprs.{actual_tokens}
 use Rattle.pfc_number_laws.specs.Written.{any, FitsKind, FitsEnding, FitsItem, FitsPart, FitParts, FitsSub, FitsModule, FitsProcess, FitsTree}
-use Rattle.pfc_run_invariants.specs.Written.{FitsConstant, FitsSpread, FitsStmt, FitStmts, FitsBody, FitArms, FitsAccept, FitsAlt, FitAlts, FitsComm, FitsExpr, FitsSimple, FitSummands, FitsTerm, FitMultipliers, FitsFactor, FitsDesig, FitSelectors, FitsSelector, FitExprs, FitsActual, FitActuals}
+use Rattle.pfc_run_invariants.specs.Written.{FitsConstant, FitsSpread, FitsStmt, FitStmts, FitsBody, FitArms, FitsAccept, FitsAlt, FitAlts, FitsComm, FitsExpr}
+use Rattle.pfc_run_invariants.specs.Written.{FitsSimple, FitSummands, FitsTerm, FitMultipliers, FitsFactor, FitsDesig, FitSelectors, FitsSelector, FitExprs}
+use Rattle.pfc_run_invariants.specs.Written.{FitsActual, FitActuals}
 use Rattle.pfc_number_laws.specs.Tokens.{FitSymbols}
 
 front : (xs ys : List Symbol) → FitSymbols (xs ++ ys) → FitSymbols xs

@@ -1,5 +1,6 @@
 -- Places in lists that are made of others.
-use Rattle.std.proofs.Common.{◌≡◌, ℕ, zero, suc, ◌+◌, ◌*◌, ◌<◌, Bool, pos, List, [], ◌∷◌, ◌++◌, length, slice_get, if◌then◌else◌, Some, refl, ap, ◌∙◌, arith, length-append}
+use Rattle.std.proofs.Common.{◌≡◌, ℕ, zero, suc, ◌+◌, ◌*◌, ◌<◌, Bool, pos, List, [], ◌∷◌, ◌++◌, length, slice_get, if◌then◌else◌, Some, refl, ap, ◌∙◌, arith}
+use Rattle.std.proofs.Common.{length-append}
 use Rattle.pfc_translation.specs.Objects.{times}
 use Rattle.pfc_object_laws.specs.Objects.{marked}
 

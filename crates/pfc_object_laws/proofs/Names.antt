@@ -1,5 +1,6 @@
 -- The first values of main's variables, name by name: they are laid out as main's layout has it, and their objects are numbered one behind the other.
-use Rattle.std.proofs.Common.{◌≡◌, ℕ, zero, suc, ◌+◌, ◌-◌, ◌*◌, ◌<◌, ◌≤◌, min, ℤ, pos, true, false, List, [], ◌∷◌, ◌++◌, length, take, fold, slice_get, Some, refl, sym, ap, ap₂, ◌∙◌, subst, arith, ◌⊎◌, inl, inr}
+use Rattle.std.proofs.Common.{◌≡◌, ℕ, zero, suc, ◌+◌, ◌-◌, ◌*◌, ◌<◌, ◌≤◌, min, ℤ, pos, true, false, List, [], ◌∷◌, ◌++◌, length, take, fold, slice_get, Some}
+use Rattle.std.proofs.Common.{refl, sym, ap, ap₂, ◌∙◌, subst, arith, ◌⊎◌, inl, inr}
 use Rattle.std.specs.List.{All}
 use Rattle.std.proofs.lemmas.List.{append_assoc, map-append}
 use Rattle.std.proofs.lemmas.List.Elements.{All-head, All-tail}
@@ -27,7 +28,8 @@ use Rattle.pfc_object_laws.proofs.Tables.{by_types}
 use Rattle.pfc_object_laws.proofs.Lists.{get_left, get_right_at}
 use Rattle.pfc_object_laws.proofs.Parts.{cells}
 use Rattle.pfc_object_laws.proofs.Values.{numbering, IsFirst, first_of_type}
-use Rattle.pfc_object_laws.proofs.Numbers.{AreFirst, declared_in, Goes, goes_nowhere, goes_on, first_before, count_behind, labelled, labelled_formless, labelled_formed, labelled_array, labelled_record, numbered}
+use Rattle.pfc_object_laws.proofs.Numbers.{AreFirst, declared_in, Goes, goes_nowhere, goes_on, first_before, count_behind, labelled, labelled_formless}
+use Rattle.pfc_object_laws.proofs.Numbers.{labelled_formed, labelled_array, labelled_record, numbered}
 
 -- ## One value for each variable
 

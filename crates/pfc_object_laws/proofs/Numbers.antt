@@ -1,5 +1,6 @@
 -- The numbers of the objects in a first value: each is one of its kind, and they go on where those of what stands before end.
-use Rattle.std.proofs.Common.{◌≡◌, ℕ, zero, suc, ◌+◌, ◌-◌, ◌<◌, ◌≤◌, ℤ, pos, ◌+ℤ◌, List, [], ◌∷◌, ◌++◌, length, take, map, get_or, fold, slice_get, Option, Some, None, refl, sym, ap, ap₂, ◌∙◌, subst, arith, length-append}
+use Rattle.std.proofs.Common.{◌≡◌, ℕ, zero, suc, ◌+◌, ◌-◌, ◌<◌, ◌≤◌, ℤ, pos, ◌+ℤ◌, List, [], ◌∷◌, ◌++◌, length, take, map, get_or, fold, slice_get, Option}
+use Rattle.std.proofs.Common.{Some, None, refl, sym, ap, ap₂, ◌∙◌, subst, arith, length-append}
 use Rattle.std.proofs.lemmas.List.{append-nil, append_assoc, map-append}
 use Rattle.pfc_tree.specs.Symbols.{Text}
 use Rattle.pfc_types.specs.Types.{Forms, form_of, extent, semaphore, condition}
@@ -11,7 +12,8 @@ use Rattle.pfc_types.specs.declared.types.TypeForm.TheVariants.{Channel, Array, 
 use Rattle.pfc_semantics.specs.Values.{Value, Values, ordinal, compound, more_values, part, part_at}
 use Rattle.pfc_semantics.specs.Objects.{Objects, Numbered, Numbering, numbered_copies, numbered_fields, all_numberings}
 use Rattle.pfc_semantics.proofs.Tables.{built_form, built_none, built_part}
-use Rattle.pfc_translation.specs.Objects.{Labelled, no_process, labelled_before, with_index, elements_labelled, fields_labelled, labelled_form, labelled_next, all_labelled}
+use Rattle.pfc_translation.specs.Objects.{Labelled, no_process, labelled_before, with_index, elements_labelled, fields_labelled, labelled_form, labelled_next}
+use Rattle.pfc_translation.specs.Objects.{all_labelled}
 use Rattle.pfc_cells.specs.Shapes.{IsPath, here, into_element, into_field}
 use Rattle.pfc_type_laws.specs.Tables.{AreBefore, IsBefore, IsBuiltUp}
 use Rattle.pfc_object_laws.specs.Kinds.{Kinds, HasKind, EachKind}

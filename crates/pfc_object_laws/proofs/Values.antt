@@ -1,15 +1,18 @@
 -- The first values of variables of each type, with the numbers of their objects: they are of the type, and their words are those numbers.
-use Rattle.std.proofs.Common.{◌≡◌, ℕ, zero, suc, ◌+◌, ◌<◌, ◌≤◌, ℤ, pos, Bool, true, false, List, [], ◌∷◌, ◌++◌, length, take, get_or, Some, None, refl, sym, ap, ap₂, ◌∙◌, subst, arith, length-append}
+use Rattle.std.proofs.Common.{◌≡◌, ℕ, zero, suc, ◌+◌, ◌<◌, ◌≤◌, ℤ, pos, Bool, true, false, List, [], ◌∷◌, ◌++◌, length, take, get_or, Some, None, refl, sym, ap}
+use Rattle.std.proofs.Common.{ap₂, ◌∙◌, subst, arith, length-append}
 use Rattle.pfc_types.specs.Types.{Forms, form_of, extent}
 use Rattle.pfc_types.specs.Fields.{FieldList}
 use Rattle.pfc_types.specs.declared.types.TypeId.{TypeId}
 use Rattle.pfc_types.specs.declared.types.TypeForm.{TypeForm}
 use Rattle.pfc_types.specs.declared.types.TypeForm.TheVariants.{Channel, Array, Record, Process}
 use Rattle.pfc_semantics.specs.Values.{Value, Values, ordinal, compound, more_values}
-use Rattle.pfc_semantics.specs.Objects.{Objects, Numbering, unnumbered, predeclared_numberings, numbering_of, numbered_copies, numbered_fields, numbering_form, numbering_next, all_numberings}
+use Rattle.pfc_semantics.specs.Objects.{Objects, Numbering, unnumbered, predeclared_numberings, numbering_of, numbered_copies, numbered_fields, numbering_form}
+use Rattle.pfc_semantics.specs.Objects.{numbering_next, all_numberings}
 use Rattle.pfc_semantics.proofs.Tables.{built_form, built_part}
 use Rattle.pfc_translation.specs.Objects.{times, numbers_of, numbers_in}
-use Rattle.pfc_cells.specs.Shapes.{AreCounted, has_parts, IsOf, AreOf, AreFieldsOf, is_number, is_array, is_record, none_of, one_of, no_field, one_field, words_of, words_in}
+use Rattle.pfc_cells.specs.Shapes.{AreCounted, has_parts, IsOf, AreOf, AreFieldsOf, is_number, is_array, is_record, none_of, one_of, no_field, one_field}
+use Rattle.pfc_cells.specs.Shapes.{words_of, words_in}
 use Rattle.pfc_type_laws.specs.Tables.{AreBefore, IsBefore, IsBuiltUp}
 use Rattle.pfc_object_laws.specs.Objects.{marked}
 use Rattle.pfc_object_laws.proofs.Tables.{by_types, formless_at}

@@ -1,5 +1,6 @@
 -- Which cells of a variable of each type hold an object.
-use Rattle.std.proofs.Common.{◌≡◌, ℕ, zero, suc, ◌+◌, ◌<◌, ◌≤◌, Bool, true, false, nat_lt, List, [], ◌∷◌, ◌++◌, length, take, drop, get_or, slice_get, min, ◌⊎◌, inl, inr, Some, None, refl, sym, ap, ap₂, ◌∙◌, arith}
+use Rattle.std.proofs.Common.{◌≡◌, ℕ, zero, suc, ◌+◌, ◌<◌, ◌≤◌, Bool, true, false, nat_lt, List, [], ◌∷◌, ◌++◌, length, take, drop, get_or, slice_get, min, ◌⊎◌}
+use Rattle.std.proofs.Common.{inl, inr, Some, None, refl, sym, ap, ap₂, ◌∙◌, arith}
 use Rattle.std.specs.Prelude.{◌||◌}
 use Rattle.std.proofs.lemmas.Bool.Decides.{nat_tests}
 use Rattle.std.proofs.lemmas.List.{append_assoc, append-nil, drop_more, get_or_past, length-take-le, drop_all}
@@ -15,7 +16,8 @@ use Rattle.pfc_semantics.proofs.Tables.{built_length, built_at, built_below, bui
 use Rattle.pfc_semantics.specs.Layouts.{Layout}
 use Rattle.pfc_store.proofs.Living.{unlike}
 use Rattle.pfc_code.specs.declared.images.Object.{Object}
-use Rattle.pfc_translation.specs.Objects.{cells_before, times, object_fields, object_form, predeclared_objects, object_next, all_objects, laid_objects, objects_from}
+use Rattle.pfc_translation.specs.Objects.{cells_before, times, object_fields, object_form, predeclared_objects, object_next, all_objects, laid_objects}
+use Rattle.pfc_translation.specs.Objects.{objects_from}
 use Rattle.pfc_objects.specs.Cells.{laid_object, object_in}
 
 -- ## A type, and its parts

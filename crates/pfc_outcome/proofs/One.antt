@@ -1,5 +1,6 @@
 -- There is one outcome.
-use Rattle.std.proofs.Common.{◌≡◌, ℕ, zero, suc, ◌+◌, ◌<◌, ◌≤◌, ◌⊎◌, inl, inr, List, [], ◌∷◌, All, drop, slice_index, true, false, Option, Some, None, sym, ap, ap₂, ◌∙◌, subst, arith, take-append-drop}
+use Rattle.std.proofs.Common.{◌≡◌, ℕ, zero, suc, ◌+◌, ◌<◌, ◌≤◌, ◌⊎◌, inl, inr, List, [], ◌∷◌, All, drop, slice_index, true, false, Option, Some, None, sym, ap}
+use Rattle.std.proofs.Common.{ap₂, ◌∙◌, subst, arith, take-append-drop}
 use Rattle.pfc_base.specs.declared.places.Place.{Place}
 use Rattle.pfc_base.specs.declared.tokens.Token.{Token}
 use Rattle.pfc_io.specs.Files.{File}
@@ -18,7 +19,9 @@ use Rattle.pfc_grammar.proofs.placed_one.Parts.{one_tree_of}
 use Rattle.pfc_outcome.specs.Loading.{Lack, first_lack, long, missing}
 use Rattle.pfc_outcome.specs.Meanings.{Meaning}
 use Rattle.pfc_outcome.specs.Options.{Asked, options_of}
-use Rattle.pfc_outcome.specs.Outcomes.{Outcome, IsOutcome, IsOutcomeBy, IsOutcomeOf, IsOutcomeOfCutting, IsOutcomeOfFiles, IsOutcomeOfText, IsOutcomeOfTokens, IsOutcomeOfTree, IsUnlisted, behind, large, listing_written, names_by, no_fault, not_built, refused, run, static_fault, syntax_fault, syntax_refusal}
+use Rattle.pfc_outcome.specs.Outcomes.{Outcome, IsOutcome, IsOutcomeBy, IsOutcomeOf, IsOutcomeOfCutting, IsOutcomeOfFiles, IsOutcomeOfText, IsOutcomeOfTokens}
+use Rattle.pfc_outcome.specs.Outcomes.{IsOutcomeOfTree, IsUnlisted, behind, large, listing_written, names_by, no_fault, not_built, refused, run, static_fault}
+use Rattle.pfc_outcome.specs.Outcomes.{syntax_fault, syntax_refusal}
 use Rattle.pfc_outcome.specs.Requests.{Request}
 
 -- ## A program has no syntax fault

@@ -1,7 +1,8 @@
 -- What the words of the walker's command line ask for.
 use Rattle.std.specs.Prelude.{ℕ, min, Bool, true, false, List, Option, Some, None, codes, option_and_then, option_map, unwrap_or}
 use Rattle.clap.specs.Words.{App, Row, Rule, Text, first_of, matches_of, new_app, with_rule}
-use Rattle.pfc_outcome.specs.Options.{Asked, file_rule, flag, from_file, greatest, is_set, most_actions, number_at, options_by, usual_limit, usual_seed, with_number, with_word}
+use Rattle.pfc_outcome.specs.Options.{Asked, file_rule, flag, from_file, greatest, is_set, most_actions, number_at, options_by, usual_limit, usual_seed}
+use Rattle.pfc_outcome.specs.Options.{with_number, with_word}
 use Rattle.pfc_outcome.specs.declared.walk_options.Shown.{Shown}
 use Rattle.pfc_outcome.specs.declared.walk_options.Shown.TheVariants.{Output, Trace, Races}
 

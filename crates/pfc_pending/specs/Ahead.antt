@@ -4,8 +4,10 @@ use Rattle.pfc_pending.specs.Texts.{stmts_left, stmt_at, actuals_left}
 use Rattle.pfc_program.specs.declared.tables.Tables.{Tables}
 use Rattle.pfc_values.specs.Pieces.{piece}
 use Rattle.pfc_store.specs.Views.{spot_view, typed_spot_view, value_view}
-use Rattle.pfc_semantics.specs.Remainders.{Context, Action, reads, writes, turns, calls, finishes, inputs, skips, asks_eof, asks_eoln, asks_clock, asks_empty, draws, joins, initials, waits, signals, delays, resumes, sleeps, meets, decides, parts, scans, bars, passes, faults}
-use Rattle.pfc_semantics.specs.Expressions.{from_expr, from_simple, from_summands, from_term, from_multipliers, from_factor, from_selectors, from_indices, from_args}
+use Rattle.pfc_semantics.specs.Remainders.{Context, Action, reads, writes, turns, calls, finishes, inputs, skips, asks_eof, asks_eoln, asks_clock, asks_empty}
+use Rattle.pfc_semantics.specs.Remainders.{draws, joins, initials, waits, signals, delays, resumes, sleeps, meets, decides, parts, scans, bars, passes, faults}
+use Rattle.pfc_semantics.specs.Expressions.{from_expr, from_simple, from_summands, from_term, from_multipliers, from_factor, from_selectors, from_indices}
+use Rattle.pfc_semantics.specs.Expressions.{from_args}
 use Rattle.pfc_types.specs.rules.Expressions.{Env}
 use Rattle.pfc_semantics.specs.Alternatives.{context, from_alternatives, from_replica, from_guard, from_comm}
 use Rattle.pfc_semantics.specs.Statements.{from_stmt, from_stmts, from_writes, from_reads, from_item, from_piece, plain_open}

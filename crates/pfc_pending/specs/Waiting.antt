@@ -12,7 +12,14 @@ use Rattle.pfc_tree.specs.views.Exprs.{expr_view, desig_view, simple_view, summa
 use Rattle.pfc_program.specs.declared.tables.Tables.{Tables}
 use Rattle.pfc_program.specs.Views.{names_view}
 use Rattle.pfc_store.specs.Views.{spot_view, typed_spot_view, value_view}
-use Rattle.pfc_semantics.specs.Remainders.{Remainder, AwaitsValue, AwaitsLocation, ends, perform, in_names, turn, until, behind_pass, next_pass, write_on, read_on, at_coend, part_from, write_again, go_through, try_guard, scan_on, try_other, begin_sum, add_to, begin_product, multiply_by, compare_with, compare_to, invert, apply, index_into, pass_value, store_at, choose, choose_arm, while_true, until_true, count_from, count_to, show, show_wide, pad, set_count, delay_with, sleep_for, send_on, open_if, offer_value, offer_wait, pass_own, pass_other, read_for, assign_to, input_to, pass_variable, ask_empty, activate_with, enter_with, initial_to, wait_at, signal_at, delay_at, resume_at, send_to, receive_from, receive_into, offer_to, offer_from, offer_into, by_value, by_reference, to_procedure, to_function, to_module, to_requeue, to_process, to_entry, leave, own}
+use Rattle.pfc_semantics.specs.Remainders.{Remainder, AwaitsValue, AwaitsLocation, ends, perform, in_names, turn, until, behind_pass, next_pass, write_on}
+use Rattle.pfc_semantics.specs.Remainders.{read_on, at_coend, part_from, write_again, go_through, try_guard, scan_on, try_other, begin_sum, add_to}
+use Rattle.pfc_semantics.specs.Remainders.{begin_product, multiply_by, compare_with, compare_to, invert, apply, index_into, pass_value, store_at, choose}
+use Rattle.pfc_semantics.specs.Remainders.{choose_arm, while_true, until_true, count_from, count_to, show, show_wide, pad, set_count, delay_with, sleep_for}
+use Rattle.pfc_semantics.specs.Remainders.{send_on, open_if, offer_value, offer_wait, pass_own, pass_other, read_for, assign_to, input_to, pass_variable}
+use Rattle.pfc_semantics.specs.Remainders.{ask_empty, activate_with, enter_with, initial_to, wait_at, signal_at, delay_at, resume_at, send_to, receive_from}
+use Rattle.pfc_semantics.specs.Remainders.{receive_into, offer_to, offer_from, offer_into, by_value, by_reference, to_procedure, to_function, to_module}
+use Rattle.pfc_semantics.specs.Remainders.{to_requeue, to_process, to_entry, leave, own}
 use Rattle.pfc_semantics.specs.Displays.{Spot}
 use Rattle.pfc_semantics.specs.Remainders as remainders
 use Rattle.pfc_facts.specs.Views.{function_view}

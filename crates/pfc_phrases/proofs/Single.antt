@@ -1,6 +1,7 @@
 -- An expression is a designator, or a literal, where its one factor is one.
 use Rattle.std.proofs.Common.{◌≡◌, Some, None, refl, sym}
-use Rattle.pfc_tree.specs.trees.Exprs.{ExprTree, FactorTree, SummandTrees, MultiplierTrees, plain, related, sum, no_summands, more_summands, product, no_multipliers, more_multipliers, number, literal, negation, paren, applied, no_actuals, more_actuals}
+use Rattle.pfc_tree.specs.trees.Exprs.{ExprTree, FactorTree, SummandTrees, MultiplierTrees, plain, related, sum, no_summands, more_summands, product}
+use Rattle.pfc_tree.specs.trees.Exprs.{no_multipliers, more_multipliers, number, literal, negation, paren, applied, no_actuals, more_actuals}
 use Rattle.pfc_types.specs.rules.Expressions.{as_desig, as_literal}
 use Rattle.pfc_phrases.specs.Single.{as_factor, factor_in, single_term, factor_desig, factor_literal}
 

@@ -1,7 +1,8 @@
 -- Expressions that are no more than one factor.
 use Rattle.std.specs.Prelude.{Option, Some, None}
 use Rattle.pfc_tree.specs.Symbols.{Text}
-use Rattle.pfc_tree.specs.trees.Exprs.{ExprTree, SimpleTree, TermTree, FactorTree, DesigTree, plain, sum, no_summands, product, no_multipliers, literal, applied, no_actuals}
+use Rattle.pfc_tree.specs.trees.Exprs.{ExprTree, SimpleTree, TermTree, FactorTree, DesigTree, plain, sum, no_summands, product, no_multipliers, literal}
+use Rattle.pfc_tree.specs.trees.Exprs.{applied, no_actuals}
 
 -- the term that a sum is, without a sign
 abbrev pub single_term : SimpleTree → Option TermTree

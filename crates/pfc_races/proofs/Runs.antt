@@ -1,5 +1,6 @@
 -- The steps of a run.
-use Rattle.std.proofs.Common.{◌≡◌, ℕ, zero, suc, ◌≤◌, Bool, List, [], ◌∷◌, ◌++◌, length, map, append_assoc, append-nil, Option, Some, None, refl, sym, ap, ◌∙◌, arith}
+use Rattle.std.proofs.Common.{◌≡◌, ℕ, zero, suc, ◌≤◌, Bool, List, [], ◌∷◌, ◌++◌, length, map, append_assoc, append-nil, Option, Some, None, refl, sym, ap, ◌∙◌}
+use Rattle.std.proofs.Common.{arith}
 use Rattle.pfc_hb.specs.declared.events.Event.{Event as EventSeen}
 use Rattle.pfc_state.specs.declared.endings.Ending.{Ending}
 use Rattle.pfc_state.specs.declared.endings.Ending.TheVariants.{Limit}

@@ -2,11 +2,14 @@
 use Rattle.std.proofs.Common.{refl}
 use Rattle.std.specs.Prelude.{ℕ, ◌+◌, Bool, true, false, List, [], ◌∷◌, Option, Some, None}
 use Rattle.pfc_tree.specs.trees.Stmts.{BodyTree}
-use Rattle.pfc_tree.specs.trees.Parts.{KindTree, PartTree, PartTrees, SubTree, ModuleTree, ProcessTree, ProgramTree, procedure, function, guarded, consts, types, vars, sub_part, monitor, resource, process_part, no_parts, more_parts, sub, the_module, process}
+use Rattle.pfc_tree.specs.trees.Parts.{KindTree, PartTree, PartTrees, SubTree, ModuleTree, ProcessTree, ProgramTree, procedure, function, guarded, consts}
+use Rattle.pfc_tree.specs.trees.Parts.{types, vars, sub_part, monitor, resource, process_part, no_parts, more_parts, sub, the_module, process}
 use Rattle.pfc_types.specs.Scopes.{Level, scope_at, here}
 use Rattle.pfc_types.specs.Blocks.{State}
 use Rattle.pfc_types.specs.rules.Expressions.{Env}
-use Rattle.pfc_types.specs.rules.Bodies.{passed, passed_groups, passed_entries, passed_part, part_scopes, parts_scopes, around_nothing, around_main, around_process, around_sub, around_guard, level, env_at, broken_when, broken_init, broken_part, broken_parts, broken_sub, broken_module, broken_process}
+use Rattle.pfc_types.specs.rules.Bodies.{passed, passed_groups, passed_entries, passed_part, part_scopes, parts_scopes, around_nothing, around_main}
+use Rattle.pfc_types.specs.rules.Bodies.{around_process, around_sub, around_guard, level, env_at, broken_when, broken_init, broken_part, broken_parts}
+use Rattle.pfc_types.specs.rules.Bodies.{broken_sub, broken_module, broken_process}
 use Rattle.pfc_types.specs.rules.Whole.{broken_bodies}
 use Rattle.pfc_refusals.proofs.Worded.{Worded, no_rule, ◌&◌, rule}
 use Rattle.pfc_refusals.proofs.Expressions.{expr_worded}

@@ -3,7 +3,8 @@ use Rattle.std.proofs.Common.{refl}
 use Rattle.std.specs.Prelude.{ℕ, true, false, List, [], Option, Some, None}
 use Rattle.pfc_base.specs.declared.places.Place.{Place}
 use Rattle.pfc_tree.specs.Symbols.{Text}
-use Rattle.pfc_tree.specs.trees.Exprs.{ExprTree, DesigTree, SelectorTrees, ActualTree, ActualTrees, desig, no_selectors, more_selectors, actual, actual_width, no_actuals, more_actuals}
+use Rattle.pfc_tree.specs.trees.Exprs.{ExprTree, DesigTree, SelectorTrees, ActualTree, ActualTrees, desig, no_selectors, more_selectors, actual, actual_width}
+use Rattle.pfc_tree.specs.trees.Exprs.{no_actuals, more_actuals}
 use Rattle.pfc_types.specs.Faults.{Faults, ◌⨾◌, unless}
 use Rattle.pfc_types.specs.Types.{form_of, process_form}
 use Rattle.pfc_types.specs.Scopes.{meaning_in, scope_at, meaning_of}
@@ -14,9 +15,13 @@ use Rattle.pfc_types.specs.declared.scope.Meaning.TheVariants.{Constant, Named, 
 use Rattle.pfc_types.specs.declared.heads.Formal.{Formal}
 use Rattle.pfc_types.specs.declared.heads.SubSort.{SubSort}
 use Rattle.pfc_types.specs.declared.heads.SubSort.TheVariants.{Procedure, Guarded, Function}
-use Rattle.pfc_types.specs.rules.Routines.{wants_for, called_with, anywhere, in_monitor_sub, Callee, Routine, the_signal, a_function, a_procedure, a_delay, a_reader, a_writer, routine_of, delay_wants}
+use Rattle.pfc_types.specs.rules.Routines.{wants_for, called_with, anywhere, in_monitor_sub, Callee, Routine, the_signal, a_function, a_procedure, a_delay}
+use Rattle.pfc_types.specs.rules.Routines.{a_reader, a_writer, routine_of, delay_wants}
 use Rattle.pfc_types.specs.rules.Expressions.{Env, find, as_literal, selected, first_type, field_type, actual_count}
-use Rattle.pfc_types.specs.rules.Calls.{unasked, asked, asked_formals, broken_read, broken_reads, written, broken_written, broken_writes, call_routine, call_sub, activate, activate_type, activate_variable, call_name, call_entry_named, call_entry, call_exported, call_module, call_field, call_part, last_field, before_last, call_selected, unselected, only_field, call_in_module, call_in_process, call_part_of, broken_call, requeue_asked, requeue_sub, requeue_rules}
+use Rattle.pfc_types.specs.rules.Calls.{unasked, asked, asked_formals, broken_read, broken_reads, written, broken_written, broken_writes, call_routine}
+use Rattle.pfc_types.specs.rules.Calls.{call_sub, activate, activate_type, activate_variable, call_name, call_entry_named, call_entry, call_exported}
+use Rattle.pfc_types.specs.rules.Calls.{call_module, call_field, call_part, last_field, before_last, call_selected, unselected, only_field, call_in_module}
+use Rattle.pfc_types.specs.rules.Calls.{call_in_process, call_part_of, broken_call, requeue_asked, requeue_sub, requeue_rules}
 use Rattle.pfc_refusals.proofs.Worded.{Worded, no_rule, ◌&◌, rule, broken_rule}
 use Rattle.pfc_refusals.proofs.Small.{site_worded}
 use Rattle.pfc_refusals.proofs.Expressions.{expr_worded, selectors_worded, actuals_worded}

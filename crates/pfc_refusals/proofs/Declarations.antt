@@ -18,7 +18,12 @@ use Rattle.pfc_types.specs.declared.heads.SubHead.{SubHead}
 use Rattle.pfc_types.specs.declared.heads.ProcessHead.{ProcessHead}
 use Rattle.pfc_types.specs.rules.Kinds.{named_type, variable_meaning, type_meaning}
 use Rattle.pfc_types.specs.rules.Constants.{constant_value, type_place, made}
-use Rattle.pfc_types.specs.rules.Declarations.{constant_meaning, const_state, consts_state, type_state, types_state, Owner, owner_rules, owned_type, passes_most, populated, brought, var_name_state, var_names_state, var_state, vars_state, parameter_rules, group_type, broken_group, Heading, formal_heading, formals_heading, group_viewed, group_heading, groups_heading, heading, EntryHeading, entry_formal, entry_formals, entry_group, entry_groups, entry_meaning, entry_state, entries_state, broken_sort, sort_of, whole_sort, sub_meaning, sub_headed, may_export, export_state, export_list, exports_state, process_named, process_headed}
+use Rattle.pfc_types.specs.rules.Declarations.{constant_meaning, const_state, consts_state, type_state, types_state, Owner, owner_rules, owned_type}
+use Rattle.pfc_types.specs.rules.Declarations.{passes_most, populated, brought, var_name_state, var_names_state, var_state, vars_state, parameter_rules}
+use Rattle.pfc_types.specs.rules.Declarations.{group_type, broken_group, Heading, formal_heading, formals_heading, group_viewed, group_heading, groups_heading}
+use Rattle.pfc_types.specs.rules.Declarations.{heading, EntryHeading, entry_formal, entry_formals, entry_group, entry_groups, entry_meaning, entry_state}
+use Rattle.pfc_types.specs.rules.Declarations.{entries_state, broken_sort, sort_of, whole_sort, sub_meaning, sub_headed, may_export, export_state, export_list}
+use Rattle.pfc_types.specs.rules.Declarations.{exports_state, process_named, process_headed}
 use Rattle.pfc_refusals.proofs.Worded.{Worded, no_rule, ◌&◌, rule, broken_rule}
 use Rattle.pfc_refusals.proofs.Small.{constant_worded, type_name_worded}
 use Rattle.pfc_refusals.proofs.Noted.{Noted, noted, one_of, declared}

@@ -3,7 +3,10 @@ use Rattle.std.proofs.Common.{refl}
 use Rattle.std.specs.Prelude.{ℕ, Bool, if◌then◌else◌, List, [], ◌∷◌, Option, Some, None}
 use Rattle.pfc_base.specs.declared.places.Place.{Place}
 use Rattle.pfc_tree.specs.declared.tree.Sign.{Sign}
-use Rattle.pfc_tree.specs.trees.Exprs.{ExprTree, SimpleTree, SummandTrees, TermTree, MultiplierTrees, FactorTree, DesigTree, SelectorTree, SelectorTrees, ExprTrees, ActualTree, ActualTrees, plain, related, sum, no_summands, more_summands, product, no_multipliers, more_multipliers, number, literal, negation, paren, applied, desig, index, field, no_selectors, more_selectors, no_exprs, more_exprs, actual, actual_width, no_actuals, more_actuals}
+use Rattle.pfc_tree.specs.trees.Exprs.{ExprTree, SimpleTree, SummandTrees, TermTree, MultiplierTrees, FactorTree, DesigTree, SelectorTree, SelectorTrees}
+use Rattle.pfc_tree.specs.trees.Exprs.{ExprTrees, ActualTree, ActualTrees, plain, related, sum, no_summands, more_summands, product, no_multipliers}
+use Rattle.pfc_tree.specs.trees.Exprs.{more_multipliers, number, literal, negation, paren, applied, desig, index, field, no_selectors, more_selectors, no_exprs}
+use Rattle.pfc_tree.specs.trees.Exprs.{more_exprs, actual, actual_width, no_actuals, more_actuals}
 use Rattle.pfc_tree.specs.Symbols.{Text}
 use Rattle.pfc_types.specs.Types.{Forms}
 use Rattle.pfc_types.specs.Scopes.{meaning_of}
@@ -11,7 +14,10 @@ use Rattle.pfc_types.specs.declared.types.TypeId.{TypeId}
 use Rattle.pfc_types.specs.declared.view.Found.{Found}
 use Rattle.pfc_types.specs.rules.Kinds.{a_variable, variable_type}
 use Rattle.pfc_types.specs.rules.Routines.{Want, called_function, nothing_called}
-use Rattle.pfc_types.specs.rules.Expressions.{Env, find, expr_place, add_operand, mul_operand, operated, signed_type, signed_rule, element_type, index_rule, field_rule, use_rules, no_selector, no_actual, is_variable, expr_type, term_type, factor_type, selected_by, first_type, broken_expr, broken_simple, broken_summands, broken_term, broken_multipliers, broken_factor, broken_selectors, broken_selector, broken_indexes, broken_actuals, broken_actual, broken_wanted, broken_desig}
+use Rattle.pfc_types.specs.rules.Expressions.{Env, find, expr_place, add_operand, mul_operand, operated, signed_type, signed_rule, element_type, index_rule}
+use Rattle.pfc_types.specs.rules.Expressions.{field_rule, use_rules, no_selector, no_actual, is_variable, expr_type, term_type, factor_type, selected_by}
+use Rattle.pfc_types.specs.rules.Expressions.{first_type, broken_expr, broken_simple, broken_summands, broken_term, broken_multipliers, broken_factor}
+use Rattle.pfc_types.specs.rules.Expressions.{broken_selectors, broken_selector, broken_indexes, broken_actuals, broken_actual, broken_wanted, broken_desig}
 use Rattle.pfc_refusals.proofs.Worded.{Worded, no_rule, ◌&◌, rule, broken_rule}
 use Rattle.pfc_refusals.proofs.Small.{name_worded, want_worded, site_worded}
 

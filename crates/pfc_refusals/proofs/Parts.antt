@@ -6,8 +6,12 @@ use Rattle.pfc_base.specs.declared.places.Place.{Place}
 use Rattle.pfc_tree.specs.Symbols.{Text}
 use Rattle.pfc_tree.specs.declared.tree.Constant.{Constant}
 use Rattle.pfc_tree.specs.trees.Types.{GroupTree}
-use Rattle.pfc_tree.specs.trees.Stmts.{StmtTree, StmtTrees, BodyTree, ArmTree, ArmTrees, AcceptTree, AltTree, AltTrees, CommTree, empty, null, block, if_then, if_then_else, case_of, while_do, repeat_until, repeat_forever, for_do, cobegin, accepting, requeue, select, select_else, assign, send, receive, call, no_stmts, more_stmts, body, arm, no_arms, more_arms, accept, accept_do, alt, no_alts, more_alts, comm_accept, comm_send, comm_receive, timeout, terminate}
-use Rattle.pfc_tree.specs.trees.Parts.{PartTree, PartTrees, SubTree, ModuleTree, ProcessTree, consts, types, vars, sub_part, monitor, resource, process_part, no_parts, more_parts, sub, the_module, process}
+use Rattle.pfc_tree.specs.trees.Stmts.{StmtTree, StmtTrees, BodyTree, ArmTree, ArmTrees, AcceptTree, AltTree, AltTrees, CommTree, empty, null, block, if_then}
+use Rattle.pfc_tree.specs.trees.Stmts.{if_then_else, case_of, while_do, repeat_until, repeat_forever, for_do, cobegin, accepting, requeue, select, select_else}
+use Rattle.pfc_tree.specs.trees.Stmts.{assign, send, receive, call, no_stmts, more_stmts, body, arm, no_arms, more_arms, accept, accept_do, alt, no_alts}
+use Rattle.pfc_tree.specs.trees.Stmts.{more_alts, comm_accept, comm_send, comm_receive, timeout, terminate}
+use Rattle.pfc_tree.specs.trees.Parts.{PartTree, PartTrees, SubTree, ModuleTree, ProcessTree, consts, types, vars, sub_part, monitor, resource, process_part}
+use Rattle.pfc_tree.specs.trees.Parts.{no_parts, more_parts, sub, the_module, process}
 use Rattle.pfc_types.specs.Faults.{unless}
 use Rattle.pfc_types.specs.Scopes.{Level, here, look}
 use Rattle.pfc_types.specs.Blocks.{State, Blocks, note, open_scope, add_module}
@@ -16,10 +20,14 @@ use Rattle.pfc_types.specs.declared.scope.Meaning.TheVariants.{Module, Entry}
 use Rattle.pfc_types.specs.declared.heads.Formal.{Formal}
 use Rattle.pfc_types.specs.declared.heads.ModuleHead.{ModuleHead}
 use Rattle.pfc_types.specs.rules.Constants.{Ordinal, same_ordinal, constant_value, constant_place}
-use Rattle.pfc_types.specs.rules.Declarations.{Owner, elsewhere, Heading, group_viewed, accept_rule, accept_groups, accept_heading, accepted, Labels, label_noted, labels_noted, stmt_state, stmts_state, body_state, arms_state, arm_state, accept_state, alts_state, alt_state, comm_state, exports_state, module_owner, module_closed, init_state, sub_headed, process_headed, entries_state, part_state, parts_state, sub_state, module_state, process_state}
+use Rattle.pfc_types.specs.rules.Declarations.{Owner, elsewhere, Heading, group_viewed, accept_rule, accept_groups, accept_heading, accepted, Labels}
+use Rattle.pfc_types.specs.rules.Declarations.{label_noted, labels_noted, stmt_state, stmts_state, body_state, arms_state, arm_state, accept_state, alts_state}
+use Rattle.pfc_types.specs.rules.Declarations.{alt_state, comm_state, exports_state, module_owner, module_closed, init_state, sub_headed, process_headed}
+use Rattle.pfc_types.specs.rules.Declarations.{entries_state, part_state, parts_state, sub_state, module_state, process_state}
 use Rattle.pfc_refusals.proofs.Worded.{Worded, no_rule, rule, broken_rule}
 use Rattle.pfc_refusals.proofs.Noted.{Noted, noted, one_of, declared}
-use Rattle.pfc_refusals.proofs.Declarations.{consts_noted, types_noted, vars_noted, group_noted, entries_noted, opened_noted, sub_headed_noted, exports_noted, process_headed_noted}
+use Rattle.pfc_refusals.proofs.Declarations.{consts_noted, types_noted, vars_noted, group_noted, entries_noted, opened_noted, sub_headed_noted, exports_noted}
+use Rattle.pfc_refusals.proofs.Declarations.{process_headed_noted}
 
 -- ## Accepts and labels
 

@@ -6,7 +6,10 @@ use Rattle.pfc_tree.specs.Symbols.{Text}
 use Rattle.pfc_tree.specs.declared.tree.Constant.{Constant}
 use Rattle.pfc_tree.specs.declared.tree.Spread.{Spread}
 use Rattle.pfc_tree.specs.trees.Exprs.{ExprTree, DesigTree, ActualTrees, desig, no_selectors, more_selectors}
-use Rattle.pfc_tree.specs.trees.Stmts.{StmtTree, StmtTrees, BodyTree, ArmTree, ArmTrees, AcceptTree, AltTree, AltTrees, CommTree, empty, null, block, if_then, if_then_else, case_of, while_do, repeat_until, repeat_forever, for_do, cobegin, accepting, requeue, select, select_else, assign, send, receive, call, no_stmts, more_stmts, body, arm, no_arms, more_arms, accept, accept_do, alt, no_alts, more_alts, comm_accept, comm_send, comm_receive, timeout, terminate}
+use Rattle.pfc_tree.specs.trees.Stmts.{StmtTree, StmtTrees, BodyTree, ArmTree, ArmTrees, AcceptTree, AltTree, AltTrees, CommTree, empty, null, block, if_then}
+use Rattle.pfc_tree.specs.trees.Stmts.{if_then_else, case_of, while_do, repeat_until, repeat_forever, for_do, cobegin, accepting, requeue, select, select_else}
+use Rattle.pfc_tree.specs.trees.Stmts.{assign, send, receive, call, no_stmts, more_stmts, body, arm, no_arms, more_arms, accept, accept_do, alt, no_alts}
+use Rattle.pfc_tree.specs.trees.Stmts.{more_alts, comm_accept, comm_send, comm_receive, timeout, terminate}
 use Rattle.pfc_types.specs.Types.{Forms}
 use Rattle.pfc_types.specs.Scopes.{meaning_of}
 use Rattle.pfc_types.specs.Blocks.{sub_at}
@@ -18,7 +21,12 @@ use Rattle.pfc_types.specs.declared.heads.SubSort.TheVariants.{Procedure, Guarde
 use Rattle.pfc_types.specs.rules.Kinds.{a_variable, an_entry}
 use Rattle.pfc_types.specs.rules.Constants.{constant_type, constant_place}
 use Rattle.pfc_types.specs.rules.Expressions.{Env, find, desig_place, expr_type, desig_type}
-use Rattle.pfc_types.specs.rules.Statements.{is_around, sub_target, target_rules, broken_target, broken_assign, carried_by, channel_rule, broken_channel, broken_message, broken_send, broken_receiver, broken_receive, written_constant, label_rule, broken_label, broken_labels, broken_for, broken_spread, within_cobegin, accept_rules, within_accept, innermost, broken_requeue, broken_timeout, communicates, way_rule, ways_rule, broken_guard, scopes_in, arm_scopes, alt_scopes, alts_scopes, comm_scopes, broken_stmt, broken_stmts, broken_body, broken_arms, broken_arm, broken_accept, broken_alts, broken_alt, broken_comm}
+use Rattle.pfc_types.specs.rules.Statements.{is_around, sub_target, target_rules, broken_target, broken_assign, carried_by, channel_rule, broken_channel}
+use Rattle.pfc_types.specs.rules.Statements.{broken_message, broken_send, broken_receiver, broken_receive, written_constant, label_rule, broken_label}
+use Rattle.pfc_types.specs.rules.Statements.{broken_labels, broken_for, broken_spread, within_cobegin, accept_rules, within_accept, innermost, broken_requeue}
+use Rattle.pfc_types.specs.rules.Statements.{broken_timeout, communicates, way_rule, ways_rule, broken_guard, scopes_in, arm_scopes, alt_scopes, alts_scopes}
+use Rattle.pfc_types.specs.rules.Statements.{comm_scopes, broken_stmt, broken_stmts, broken_body, broken_arms, broken_arm, broken_accept, broken_alts}
+use Rattle.pfc_types.specs.rules.Statements.{broken_alt, broken_comm}
 use Rattle.pfc_refusals.proofs.Worded.{Worded, no_rule, ◌&◌, rule, broken_rule, either}
 use Rattle.pfc_refusals.proofs.Small.{name_worded, constant_worded}
 use Rattle.pfc_refusals.proofs.Expressions.{expr_worded, desig_worded}

@@ -13,7 +13,8 @@ use Rattle.pfc_types.specs.declared.types.TypeId.{TypeId}
 use Rattle.pfc_types.specs.declared.types.TypeForm.{TypeForm}
 use Rattle.pfc_types.specs.declared.table.TypeFault.{TypeFault}
 use Rattle.pfc_types.specs.declared.table.TypeFault.TheVariants.{Bounds, Cells, Memory}
-use Rattle.pfc_types.specs.rules.Constants.{Extent, broken_ranges, range_extents, type_place, Made, added_unless, added, channel_form, made_channel, array_of, made_arrays, MadeFields, made_field, made_names, made_group, record_form, fields_begun, made, made_items, made_item}
+use Rattle.pfc_types.specs.rules.Constants.{Extent, broken_ranges, range_extents, type_place, Made, added_unless, added, channel_form, made_channel, array_of}
+use Rattle.pfc_types.specs.rules.Constants.{made_arrays, MadeFields, made_field, made_names, made_group, record_form, fields_begun, made, made_items, made_item}
 use Rattle.pfc_refusals.proofs.Worded.{rule, broken_rule}
 use Rattle.pfc_refusals.proofs.Small.{type_name_worded, ranges_worded}
 use Rattle.pfc_refusals.proofs.Noted.{Noted, noted, one_of}

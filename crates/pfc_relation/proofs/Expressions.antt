@@ -1,5 +1,6 @@
 -- The code of an expression follows the next action of the expression.
-use Rattle.std.proofs.Common.{◌≡◌, ℕ, suc, ◌+◌, ◌≤◌, ℤ, pos, ◌+ℤ◌, ◌-ℤ◌, nat_abs, Bool, true, false, if◌then◌else◌, List, [], ◌∷◌, ◌++◌, length, Option, Some, None, Ok, Err, refl, sym, ap, ◌∙◌, subst, arith, append_assoc}
+use Rattle.std.proofs.Common.{◌≡◌, ℕ, suc, ◌+◌, ◌≤◌, ℤ, pos, ◌+ℤ◌, ◌-ℤ◌, nat_abs, Bool, true, false, if◌then◌else◌, List, [], ◌∷◌, ◌++◌, length, Option, Some}
+use Rattle.std.proofs.Common.{None, Ok, Err, refl, sym, ap, ◌∙◌, subst, arith, append_assoc}
 use Rattle.std.proofs.lemmas.List.{length-append}
 use Rattle.pfc_base.specs.declared.places.Place.{Place}
 use Rattle.pfc_base.specs.declared.faults.RunFault.TheVariants.{Index}
@@ -7,7 +8,10 @@ use Rattle.pfc_code.specs.declared.instructions.Instr.TheVariants.{LIT, ADDR, ID
 use Rattle.pfc_tree.specs.Symbols.{Text}
 use Rattle.pfc_tree.specs.declared.tree.Sign.{Sign}
 use Rattle.pfc_tree.specs.declared.tree.Sign.TheVariants.{Plus, Minus}
-use Rattle.pfc_tree.specs.trees.Exprs.{ExprTree, SimpleTree, SummandTrees, TermTree, MultiplierTrees, FactorTree, SelectorTrees, ExprTrees, ActualTrees, plain, related, sum, no_summands, more_summands, product, no_multipliers, more_multipliers, number, literal, negation, paren, applied as used, desig, index, field, no_selectors, more_selectors, no_exprs, more_exprs, actual, actual_width, no_actuals, more_actuals}
+use Rattle.pfc_tree.specs.trees.Exprs.{ExprTree, SimpleTree, SummandTrees, TermTree, MultiplierTrees, FactorTree, SelectorTrees, ExprTrees, ActualTrees, plain}
+use Rattle.pfc_tree.specs.trees.Exprs.{related, sum, no_summands, more_summands, product, no_multipliers, more_multipliers, number, literal, negation, paren}
+use Rattle.pfc_tree.specs.trees.Exprs.{applied as used, desig, index, field, no_selectors, more_selectors, no_exprs, more_exprs, actual, actual_width}
+use Rattle.pfc_tree.specs.trees.Exprs.{no_actuals, more_actuals}
 use Rattle.pfc_types.specs.Types.{field_form, cells_in}
 use Rattle.pfc_types.specs.Scopes.{meaning_of}
 use Rattle.pfc_types.specs.rules.Kinds.{has_simple, variable_type}
@@ -22,22 +26,29 @@ use Rattle.pfc_values.specs.declared.simple.Simple.{Simple}
 use Rattle.pfc_values.specs.declared.simple.Simple.TheVariants.{Integer, Boolean, Char}
 use Rattle.pfc_values.specs.Numbers.{negative_of, inverse_of, next_of, before_of, magnitude_of, square_of, char_of}
 use Rattle.pfc_meaning.specs.Store.{inner}
-use Rattle.pfc_meaning.specs.Operators.{Function, abs, sqr, odd, ord, chr, succ, pred, eof, eoln, random, no_function, function_of, simple_of, signed, added, multiplied, compared}
-use Rattle.pfc_meaning.specs.Frames.{Part, Use, Goal, Next, begin_sum, add_to, begin_product, multiply_by, compare_with, compare_to, invert, apply, index_into, read_for, reads}
-use Rattle.pfc_meaning.specs.Expressions.{Context, with_number, char_in, part_found, place_among, field_place, form_in, field_part, element_in, element_part, with_element, finish_call, from_call, from_name, from_expr, from_simple, from_summands, from_term, from_multipliers, from_factor, from_argument, from_selectors, from_indices}
+use Rattle.pfc_meaning.specs.Operators.{Function, abs, sqr, odd, ord, chr, succ, pred, eof, eoln, random, no_function, function_of, simple_of, signed, added}
+use Rattle.pfc_meaning.specs.Operators.{multiplied, compared}
+use Rattle.pfc_meaning.specs.Frames.{Part, Use, Goal, Next, begin_sum, add_to, begin_product, multiply_by, compare_with, compare_to, invert, apply, index_into}
+use Rattle.pfc_meaning.specs.Frames.{read_for, reads}
+use Rattle.pfc_meaning.specs.Expressions.{Context, with_number, char_in, part_found, place_among, field_place, form_in, field_part, element_in, element_part}
+use Rattle.pfc_meaning.specs.Expressions.{with_element, finish_call, from_call, from_name, from_expr, from_simple, from_summands, from_term, from_multipliers}
+use Rattle.pfc_meaning.specs.Expressions.{from_factor, from_argument, from_selectors, from_indices}
 use Rattle.pfc_meaning.specs.Statements.{context}
 use Rattle.pfc_translation.specs.Addresses.{index_instr, fields_before}
 use Rattle.pfc_translation.specs.Expressions.{relation_instr, add_instr, multiply_instr, simple_number}
 use Rattle.pfc_translation.specs.Sites.{type_cells}
 use Rattle.pfc_relation.specs.code.Cells.{cell_found, field_cell, element_of, element_type, type_behind}
-use Rattle.pfc_relation.specs.code.Phrases.{Code, one, sign_code, function_code, call_code, type_selected, name_code, expr_code, simple_code, summands_code, term_code, multipliers_code, factor_code, argument_code, selectors_code, indices_code}
+use Rattle.pfc_relation.specs.code.Phrases.{Code, one, sign_code, function_code, call_code, type_selected, name_code, expr_code, simple_code, summands_code}
+use Rattle.pfc_relation.specs.code.Phrases.{term_code, multipliers_code, factor_code, argument_code, selectors_code, indices_code}
 use Rattle.pfc_machine.specs.Rows.{with_outcome, is_within, element_word, type_numbered}
 use Rattle.pfc_relation.specs.Cells.{here}
-use Rattle.pfc_relation.specs.Numbers.{IsArray, IsField, IsNumeric, IsNumericSimple, AreNumericSummands, IsNumericTerm, AreNumericMultipliers, IsNumericFactor, IsNumericUse, IsNumericArgument, AreSelectors, AreIndices}
+use Rattle.pfc_relation.specs.Numbers.{IsArray, IsField, IsNumeric, IsNumericSimple, AreNumericSummands, IsNumericTerm, AreNumericMultipliers, IsNumericFactor}
+use Rattle.pfc_relation.specs.Numbers.{IsNumericUse, IsNumericArgument, AreSelectors, AreIndices}
 use Rattle.pfc_relation.specs.Standing.{Program, IsChecked, forms_of, IsAt, Stands, IsWord, IsPart, has_argument, UseAt, GoalAt}
 use Rattle.pfc_relation.specs.Following.{IsFit, of_operands, Follows, arrives}
 use Rattle.pfc_relation.proofs.Glue.{held_after, room_for, room_after, front, back, tail, head, use_moved, goal_moved, follows_moved}
-use Rattle.pfc_relation.proofs.Held.{add_held, multiply_held, relation_held, sign_held, index_held, one_cell, held_expr, held_simple, held_term, held_factor, held_argument, held_selectors, held_indices}
+use Rattle.pfc_relation.proofs.Held.{add_held, multiply_held, relation_held, sign_held, index_held, one_cell, held_expr, held_simple, held_term, held_factor}
+use Rattle.pfc_relation.proofs.Held.{held_argument, held_selectors, held_indices}
 use Rattle.pfc_relation.proofs.Addresses.{word_is_address}
 use Rattle.pfc_relation.proofs.Moves.{fits, next_move, address_move, outcome_move, add_move, multiply_move, relation_move}
 use Rattle.pfc_relation.proofs.Steps.{element_kept, field_kept}

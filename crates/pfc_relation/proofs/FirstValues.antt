@@ -1,5 +1,6 @@
 -- The first value of a variable: of its type, with zero words alone, and the cells of a block before its first instruction.
-use Rattle.std.proofs.Common.{◌≡◌, ℕ, zero, suc, ◌<◌, true, false, ℤ, pos, List, [], ◌∷◌, ◌++◌, length, take, replicate, Some, None, refl, sym, ap, ap₂, ◌∙◌, subst, length-append}
+use Rattle.std.proofs.Common.{◌≡◌, ℕ, zero, suc, ◌<◌, true, false, ℤ, pos, List, [], ◌∷◌, ◌++◌, length, take, replicate, Some, None, refl, sym, ap, ap₂, ◌∙◌}
+use Rattle.std.proofs.Common.{subst, length-append}
 use Rattle.std.proofs.lemmas.List.{replicate-append-replicate}
 use Rattle.std.proofs.lemmas.List.Sums.{sum_by-cons}
 use Rattle.pfc_tree.specs.Symbols.{Text}
@@ -14,8 +15,10 @@ use Rattle.pfc_types.specs.declared.scope.Meaning.{Meaning}
 use Rattle.pfc_types.specs.declared.scope.Meaning.TheVariants.{Variable}
 use Rattle.pfc_meaning.specs.Values.{Value, Values, ordinal, compound, more_values, copies, first_of, first_fields, first_next, all_first, initial}
 use Rattle.pfc_meaning.specs.Store.{first_value, fresh}
-use Rattle.pfc_relation.specs.Cells.{IsOf, AreOf, AreFieldsOf, is_number, is_array, is_record, none_of, one_of, no_field, one_field, words_of, words_in, IsNamed, AreCells}
-use Rattle.pfc_relation.specs.Tables.{AreBefore, IsBuiltUp, IsPlain, ArePlain, plain_simple, plain_array, plain_record, plain_none, plain_field, IsPlainName, ArePlainNames}
+use Rattle.pfc_relation.specs.Cells.{IsOf, AreOf, AreFieldsOf, is_number, is_array, is_record, none_of, one_of, no_field, one_field, words_of, words_in}
+use Rattle.pfc_relation.specs.Cells.{IsNamed, AreCells}
+use Rattle.pfc_relation.specs.Tables.{AreBefore, IsBuiltUp, IsPlain, ArePlain, plain_simple, plain_array, plain_record, plain_none, plain_field, IsPlainName}
+use Rattle.pfc_relation.specs.Tables.{ArePlainNames}
 use Rattle.pfc_relation.proofs.Tables.{built_form, built_none, built_part}
 use Rattle.pfc_relation.proofs.SoundTables.{built_sound, simple_formless}
 use Rattle.pfc_relation.proofs.Words.{words_length}

@@ -10,7 +10,10 @@ use Rattle.pfc_tree.specs.declared.tree.AddOp.{AddOp}
 use Rattle.pfc_tree.specs.declared.tree.AddOp.TheVariants.{Add, Sub, Or}
 use Rattle.pfc_tree.specs.declared.tree.MulOp.{MulOp}
 use Rattle.pfc_tree.specs.declared.tree.MulOp.TheVariants.{Mul, Div, Mod, And}
-use Rattle.pfc_tree.specs.trees.Exprs.{ExprTree, SimpleTree, SummandTrees, TermTree, MultiplierTrees, FactorTree, SelectorTrees, ExprTrees, ActualTrees, plain, related, sum, no_summands, more_summands, product, no_multipliers, more_multipliers, number, literal, negation, paren, applied as used, desig, index, field, no_selectors, more_selectors, no_exprs, more_exprs, actual, actual_width, no_actuals, more_actuals}
+use Rattle.pfc_tree.specs.trees.Exprs.{ExprTree, SimpleTree, SummandTrees, TermTree, MultiplierTrees, FactorTree, SelectorTrees, ExprTrees, ActualTrees, plain}
+use Rattle.pfc_tree.specs.trees.Exprs.{related, sum, no_summands, more_summands, product, no_multipliers, more_multipliers, number, literal, negation, paren}
+use Rattle.pfc_tree.specs.trees.Exprs.{applied as used, desig, index, field, no_selectors, more_selectors, no_exprs, more_exprs, actual, actual_width}
+use Rattle.pfc_tree.specs.trees.Exprs.{no_actuals, more_actuals}
 use Rattle.pfc_types.specs.Types.{Forms}
 use Rattle.pfc_types.specs.Scopes.{meaning_of}
 use Rattle.pfc_types.specs.rules.Kinds.{has_simple, variable_type}
@@ -27,9 +30,11 @@ use Rattle.pfc_translation.specs.Expressions.{relation_instr, add_instr, multipl
 use Rattle.pfc_translation.specs.Sites.{type_cells}
 use Rattle.pfc_relation.specs.code.Cells.{cell_found, element_type, type_behind}
 use Rattle.pfc_relation.specs.code.Images.{held_behind}
-use Rattle.pfc_relation.specs.code.Phrases.{Code, one, sign_code, call_code, type_selected, name_code, expr_code, simple_code, summands_code, term_code, multipliers_code, factor_code, argument_code, selectors_code, indices_code}
+use Rattle.pfc_relation.specs.code.Phrases.{Code, one, sign_code, call_code, type_selected, name_code, expr_code, simple_code, summands_code, term_code}
+use Rattle.pfc_relation.specs.code.Phrases.{multipliers_code, factor_code, argument_code, selectors_code, indices_code}
 use Rattle.pfc_relation.specs.Cells.{IsSound}
-use Rattle.pfc_relation.specs.Numbers.{IsNumeric, IsNumericSimple, AreNumericSummands, IsNumericTerm, AreNumericMultipliers, IsNumericFactor, IsNumericUse, IsNumericArgument, AreSelectors, AreIndices}
+use Rattle.pfc_relation.specs.Numbers.{IsNumeric, IsNumericSimple, AreNumericSummands, IsNumericTerm, AreNumericMultipliers, IsNumericFactor, IsNumericUse}
+use Rattle.pfc_relation.specs.Numbers.{IsNumericArgument, AreSelectors, AreIndices}
 use Rattle.pfc_relation.proofs.Glue.{held_after, held_both}
 
 -- ## Instructions

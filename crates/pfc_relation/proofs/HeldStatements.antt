@@ -1,11 +1,14 @@
 -- How many operands the code of a statement leaves: as many as before.
-use Rattle.std.proofs.Common.{◌≡◌, ◌⊎◌, inl, inr, ℕ, suc, ◌+◌, ◌-◌, Bool, true, false, if◌then◌else◌, List, [], ◌∷◌, ◌++◌, length, Option, Some, None, refl, ap, ◌∙◌, arith}
+use Rattle.std.proofs.Common.{◌≡◌, ◌⊎◌, inl, inr, ℕ, suc, ◌+◌, ◌-◌, Bool, true, false, if◌then◌else◌, List, [], ◌∷◌, ◌++◌, length, Option, Some, None, refl, ap}
+use Rattle.std.proofs.Common.{◌∙◌, arith}
 use Rattle.pfc_code.specs.declared.instructions.Instr.{Instr}
 use Rattle.pfc_code.specs.declared.instructions.Instr.TheVariants.{LOAD, STORE, JMP, TURN, FORB, FORW, FORT, CERR, WRS, WRNL, RDNL}
 use Rattle.pfc_tree.specs.Symbols.{Text}
 use Rattle.pfc_tree.specs.declared.tree.Constant.{Constant}
 use Rattle.pfc_tree.specs.trees.Exprs.{ExprTree, DesigTree, ActualTree, ActualTrees, desig, actual, actual_width, no_actuals, more_actuals}
-use Rattle.pfc_tree.specs.trees.Stmts.{StmtTree, StmtTrees, ArmTree, ArmTrees, empty, null, block, if_then, if_then_else, case_of, while_do, repeat_until, repeat_forever, for_do, cobegin, accepting, requeue, select, select_else, assign, send, receive, call, no_stmts, more_stmts, body, arm, no_arms, more_arms}
+use Rattle.pfc_tree.specs.trees.Stmts.{StmtTree, StmtTrees, ArmTree, ArmTrees, empty, null, block, if_then, if_then_else, case_of, while_do, repeat_until}
+use Rattle.pfc_tree.specs.trees.Stmts.{repeat_forever, for_do, cobegin, accepting, requeue, select, select_else, assign, send, receive, call, no_stmts}
+use Rattle.pfc_tree.specs.trees.Stmts.{more_stmts, body, arm, no_arms, more_arms}
 use Rattle.pfc_types.specs.Types.{is_simple, cells_in}
 use Rattle.pfc_types.specs.Scopes.{meaning_of}
 use Rattle.pfc_types.specs.rules.Kinds.{variable_type}
@@ -23,10 +26,12 @@ use Rattle.pfc_translation.specs.Sites.{type_cells}
 use Rattle.pfc_translation.specs.Statements.{label_count}
 use Rattle.pfc_relation.specs.code.Images.{held_behind}
 use Rattle.pfc_relation.specs.code.Phrases.{Code, one, expr_code, desig_code, selectors_code}
-use Rattle.pfc_relation.specs.code.Statements.{assign_code, whole_code, plain_item, wide_item, item_code, string_count, writes_code, variable_code, reads_code, called, procedure_code, strings_in, labels_code, stmt_code, stmts_code, tests_code, arms_code, arms_size}
+use Rattle.pfc_relation.specs.code.Statements.{assign_code, whole_code, plain_item, wide_item, item_code, string_count, writes_code, variable_code, reads_code}
+use Rattle.pfc_relation.specs.code.Statements.{called, procedure_code, strings_in, labels_code, stmt_code, stmts_code, tests_code, arms_code, arms_size}
 use Rattle.pfc_relation.specs.Cells.{IsSound}
 use Rattle.pfc_relation.specs.Standing.{Program, IsChecked}
-use Rattle.pfc_relation.specs.Typed.{IsNumber, IsSimpleDesig, IsAssignment, of_number, of_whole, IsItem, IsWritten, AreWritten, AreRead, IsCall, IsTyped, AreTyped, AreArmsTyped}
+use Rattle.pfc_relation.specs.Typed.{IsNumber, IsSimpleDesig, IsAssignment, of_number, of_whole, IsItem, IsWritten, AreWritten, AreRead, IsCall, IsTyped}
+use Rattle.pfc_relation.specs.Typed.{AreTyped, AreArmsTyped}
 use Rattle.pfc_relation.proofs.Glue.{held_after, held_both}
 use Rattle.pfc_relation.proofs.Held.{held_expr, held_selectors}
 use Rattle.pfc_relation.proofs.Types.{number_is_numeric, selectors_are}

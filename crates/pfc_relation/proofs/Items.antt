@@ -1,5 +1,6 @@
 -- The code of `write` and of `read` follows their next action, and so does what waits for an item or a width.
-use Rattle.std.proofs.Common.{◌≡◌, ℕ, suc, ◌+◌, ℤ, Bool, true, false, List, [], ◌∷◌, ◌++◌, length, Option, Some, None, Result, Ok, Err, refl, sym, ap, ◌∙◌, subst, arith}
+use Rattle.std.proofs.Common.{◌≡◌, ℕ, suc, ◌+◌, ℤ, Bool, true, false, List, [], ◌∷◌, ◌++◌, length, Option, Some, None, Result, Ok, Err, refl, sym, ap, ◌∙◌}
+use Rattle.std.proofs.Common.{subst, arith}
 use Rattle.std.proofs.lemmas.List.{length-append}
 use Rattle.pfc_base.specs.declared.faults.RunFault.{RunFault}
 use Rattle.pfc_code.specs.declared.instructions.Instr.TheVariants.{WRS, WRNL, RDNL}
@@ -11,10 +12,12 @@ use Rattle.pfc_values.specs.Pieces.{shown, padded}
 use Rattle.pfc_meaning.specs.Operators.{simple_of, Procedure, reader, writer, no_procedure}
 use Rattle.pfc_meaning.specs.Frames.{Rest, Next, write_on, read_on, show, show_wide, pad, input_to, prints, inputs}
 use Rattle.pfc_meaning.specs.Expressions.{Context, from_expr}
-use Rattle.pfc_meaning.specs.Statements.{context, as_string, from_piece, from_width, from_string, from_wide_string, from_item, from_writes, item_of, from_variable, from_reads, from_procedure}
+use Rattle.pfc_meaning.specs.Statements.{context, as_string, from_piece, from_width, from_string, from_wide_string, from_item, from_writes, item_of}
+use Rattle.pfc_meaning.specs.Statements.{from_variable, from_reads, from_procedure}
 use Rattle.pfc_translation.specs.Calls.{write_instr, read_instr}
 use Rattle.pfc_relation.specs.code.Phrases.{one, expr_code, desig_code}
-use Rattle.pfc_relation.specs.code.Statements.{plain_item, wide_item, item_code, listed, strings_among, string_count, writes_code, variable_code, reads_code, procedure_code, procedure_strings}
+use Rattle.pfc_relation.specs.code.Statements.{plain_item, wide_item, item_code, listed, strings_among, string_count, writes_code, variable_code, reads_code}
+use Rattle.pfc_relation.specs.code.Statements.{procedure_code, procedure_strings}
 use Rattle.pfc_relation.specs.Typed.{IsNumber, IsSimpleDesig, IsItem, IsWritten, AreWritten, AreRead, IsCall}
 use Rattle.pfc_relation.specs.Standing.{Program, IsChecked, IsAt, Stands, HasTexts, arrived, RestAt, PadAt, of_number, of_string}
 use Rattle.pfc_relation.specs.Following.{number, wide_number, string, wide_string, newline, of_number_width, of_string_width, Follows, arrives}

@@ -1,5 +1,6 @@
 -- What is left of a loop: the way back, the test of `repeat`, and the passes of `for`.
-use Rattle.std.proofs.Common.{◌≡◌, ℕ, suc, ◌+◌, ◌<◌, ◌≤◌, ℤ, Bool, true, false, not, if◌then◌else◌, List, [], ◌∷◌, ◌++◌, length, refl, sym, ap, ◌∙◌, subst, arith}
+use Rattle.std.proofs.Common.{◌≡◌, ℕ, suc, ◌+◌, ◌<◌, ◌≤◌, ℤ, Bool, true, false, not, if◌then◌else◌, List, [], ◌∷◌, ◌++◌, length, refl, sym, ap, ◌∙◌, subst}
+use Rattle.std.proofs.Common.{arith}
 use Rattle.std.specs.Ordering.{int_eq}
 use Rattle.std.proofs.lemmas.List.{length-append, append-nil}
 use Rattle.pfc_base.specs.declared.places.Place.{Place}
@@ -9,13 +10,15 @@ use Rattle.pfc_tree.specs.trees.Exprs.{ExprTree}
 use Rattle.pfc_tree.specs.trees.Stmts.{StmtTree, StmtTrees, repeat_until}
 use Rattle.pfc_values.specs.Numbers.{truth, is_true, inverse_of}
 use Rattle.pfc_meaning.specs.Store.{Location}
-use Rattle.pfc_meaning.specs.Frames.{Count, Rest, Next, ends, perform, turn, until, behind_pass, next_pass, store_whole, write_on, read_on, until_true, count_to, turns}
+use Rattle.pfc_meaning.specs.Frames.{Count, Rest, Next, ends, perform, turn, until, behind_pass, next_pass, store_whole, write_on, read_on, until_true}
+use Rattle.pfc_meaning.specs.Frames.{count_to, turns}
 use Rattle.pfc_meaning.specs.Expressions.{from_expr}
 use Rattle.pfc_meaning.specs.Statements.{context, is_past, counting, next_count, begin_pass, from_bounds, from_pass, again, from_until}
 use Rattle.pfc_relation.specs.code.Phrases.{Code, one, expr_code}
 use Rattle.pfc_relation.specs.code.Statements.{stmt_code, stmts_code, strings_in}
 use Rattle.pfc_machine.specs.Rows.{quiet, action, alone, is_before, value_behind}
-use Rattle.pfc_relation.specs.Standing.{Program, IsChecked, IsAt, Stands, IsSimpleWord, HasTexts, StmtAt, HoldsCount, direction, HasPass, pass_code, arrived, jump, RestAt}
+use Rattle.pfc_relation.specs.Standing.{Program, IsChecked, IsAt, Stands, IsSimpleWord, HasTexts, StmtAt, HoldsCount, direction, HasPass, pass_code, arrived}
+use Rattle.pfc_relation.specs.Standing.{jump, RestAt}
 use Rattle.pfc_relation.specs.Following.{of_kept, of_loop, of_count, Follows, arrives}
 use Rattle.pfc_relation.specs.Typed.{IsNumber, IsTyped}
 use Rattle.pfc_relation.proofs.Glue.{room_for, front, back, tail, head, rest_moved, follows_moved}

@@ -6,22 +6,27 @@ use Rattle.pfc_types.specs.declared.types.TypeId.{TypeId}
 use Rattle.pfc_values.specs.Numbers.{inverse_of}
 use Rattle.pfc_meaning.specs.Values.{ordinal}
 use Rattle.pfc_meaning.specs.Operators.{added, multiplied, compared}
-use Rattle.pfc_meaning.specs.Frames.{Part, Rest, Use, Next, Task, ends, perform, turn, until, behind_pass, next_pass, store_whole, write_on, read_on, begin_sum, add_to, begin_product, multiply_by, compare_with, compare_to, invert, apply, index_into, store_at, choose, choose_arm, while_true, until_true, count_from, count_to, show, show_wide, pad, writes, going, holding}
-use Rattle.pfc_meaning.specs.Expressions.{Context, form_in, with_number, with_element, element_part, from_expr, from_summands, from_multipliers, from_selectors, from_indices}
+use Rattle.pfc_meaning.specs.Frames.{Part, Rest, Use, Next, Task, ends, perform, turn, until, behind_pass, next_pass, store_whole, write_on, read_on, begin_sum}
+use Rattle.pfc_meaning.specs.Frames.{add_to, begin_product, multiply_by, compare_with, compare_to, invert, apply, index_into, store_at, choose, choose_arm}
+use Rattle.pfc_meaning.specs.Frames.{while_true, until_true, count_from, count_to, show, show_wide, pad, writes, going, holding}
+use Rattle.pfc_meaning.specs.Expressions.{Context, form_in, with_number, with_element, element_part, from_expr, from_summands, from_multipliers, from_selectors}
+use Rattle.pfc_meaning.specs.Expressions.{from_indices}
 use Rattle.pfc_meaning.specs.Statements.{context, from_stmt, from_bounds, counting}
 use Rattle.pfc_meaning.specs.Remainders.{loop_line, from_rest, from_goal, from_use, next}
 use Rattle.pfc_translation.specs.Addresses.{index_instr}
 use Rattle.pfc_translation.specs.Expressions.{relation_instr, add_instr, multiply_instr}
 use Rattle.pfc_translation.specs.Statements.{label_count}
 use Rattle.pfc_relation.specs.code.Cells.{element_type, type_behind}
-use Rattle.pfc_relation.specs.code.Phrases.{one, sign_code, function_code, expr_code, simple_code, summands_code, multipliers_code, selectors_code, indices_code}
+use Rattle.pfc_relation.specs.code.Phrases.{one, sign_code, function_code, expr_code, simple_code, summands_code, multipliers_code, selectors_code}
+use Rattle.pfc_relation.specs.code.Phrases.{indices_code}
 use Rattle.pfc_relation.specs.code.Statements.{stmt_code, stmts_code, writes_code, reads_code, arms_size}
 use Rattle.pfc_relation.specs.Standing.{Program, IsChecked, forms_of, Stands, pass_code, RestAt, UseAt}
 use Rattle.pfc_relation.specs.Following.{of_value, Follows, arrives, TaskAt}
 use Rattle.pfc_relation.proofs.Glue.{room_for, room_after, front, back, tail, head, rest_moved, use_moved, follows_moved}
 use Rattle.pfc_relation.proofs.Held.{add_held, multiply_held, relation_held, sign_held, index_held, held_simple, held_indices}
 use Rattle.pfc_relation.proofs.Moves.{fits, next_move, add_move, multiply_move, relation_move, test_move, through}
-use Rattle.pfc_relation.proofs.Expressions.{ends_behind, element_follows, finish_follows, sign_follows, SelectorsAt, IndicesAt, simple_follows, summands_follow, multipliers_follow, selectors_follow, indices_follow}
+use Rattle.pfc_relation.proofs.Expressions.{ends_behind, element_follows, finish_follows, sign_follows, SelectorsAt, IndicesAt, simple_follows, summands_follow}
+use Rattle.pfc_relation.proofs.Expressions.{multipliers_follow, selectors_follow, indices_follow}
 use Rattle.pfc_relation.proofs.Locations.{stores, goal_follows}
 use Rattle.pfc_relation.proofs.Items.{shows, pad_follows, width_follows, writes_follow, reads_follow}
 use Rattle.pfc_relation.proofs.Loops.{turns_follow, pass_follows, behind_follows, bounds_follow, second_follows, tested_follows, until_follows}

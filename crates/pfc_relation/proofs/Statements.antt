@@ -1,11 +1,14 @@
 -- The code of a statement follows the next action of the statement.
-use Rattle.std.proofs.Common.{◌≡◌, ◌⊎◌, inl, inr, ℕ, suc, ◌+◌, ◌<◌, ◌≤◌, ℤ, pos, if◌then◌else◌, List, [], ◌∷◌, ◌++◌, length, Option, Some, None, refl, sym, ap, ◌∙◌, subst, arith, append_assoc}
+use Rattle.std.proofs.Common.{◌≡◌, ◌⊎◌, inl, inr, ℕ, suc, ◌+◌, ◌<◌, ◌≤◌, ℤ, pos, if◌then◌else◌, List, [], ◌∷◌, ◌++◌, length, Option, Some, None, refl, sym, ap}
+use Rattle.std.proofs.Common.{◌∙◌, subst, arith, append_assoc}
 use Rattle.std.proofs.lemmas.List.{length-append}
 use Rattle.pfc_base.specs.declared.places.Place.{Place}
 use Rattle.pfc_code.specs.declared.instructions.Instr.TheVariants.{ADDR, LOAD, STORE, JMP, JF, TURN, CERR}
 use Rattle.pfc_tree.specs.Symbols.{Text}
 use Rattle.pfc_tree.specs.trees.Exprs.{ExprTree, DesigTree, ActualTrees, desig}
-use Rattle.pfc_tree.specs.trees.Stmts.{StmtTree, StmtTrees, ArmTrees, empty, null, block, if_then, if_then_else, case_of, while_do, repeat_until, repeat_forever, for_do, cobegin, accepting, requeue, select, select_else, assign, send, receive, call, no_stmts, more_stmts, body, arm, no_arms, more_arms}
+use Rattle.pfc_tree.specs.trees.Stmts.{StmtTree, StmtTrees, ArmTrees, empty, null, block, if_then, if_then_else, case_of, while_do, repeat_until}
+use Rattle.pfc_tree.specs.trees.Stmts.{repeat_forever, for_do, cobegin, accepting, requeue, select, select_else, assign, send, receive, call, no_stmts}
+use Rattle.pfc_tree.specs.trees.Stmts.{more_stmts, body, arm, no_arms, more_arms}
 use Rattle.pfc_types.specs.Types.{is_simple, cells_in}
 use Rattle.pfc_types.specs.Scopes.{meaning_of}
 use Rattle.pfc_types.specs.rules.Kinds.{variable_type}
@@ -15,18 +18,22 @@ use Rattle.pfc_types.specs.declared.scope.Meaning.TheVariants.{Constant as ACons
 use Rattle.pfc_types.specs.declared.view.Found.{Found}
 use Rattle.pfc_values.specs.Numbers.{is_true}
 use Rattle.pfc_meaning.specs.Values.{ordinal}
-use Rattle.pfc_meaning.specs.Frames.{Rest, Next, perform, turn, until, choose, choose_arm, while_true, until_true, store_at, assign_to, copy_to, copy_from, count_from, count_to, turns, writes, copies_from}
+use Rattle.pfc_meaning.specs.Frames.{Rest, Next, perform, turn, until, choose, choose_arm, while_true, until_true, store_at, assign_to, copy_to, copy_from}
+use Rattle.pfc_meaning.specs.Frames.{count_from, count_to, turns, writes, copies_from}
 use Rattle.pfc_meaning.specs.Expressions.{Context, variable_found, from_expr, from_desig}
-use Rattle.pfc_meaning.specs.Statements.{context, from_assign, from_procedure, from_called, counting, from_bounds, again, from_stmt, from_stmts, from_arms, from_until}
+use Rattle.pfc_meaning.specs.Statements.{context, from_assign, from_procedure, from_called, counting, from_bounds, again, from_stmt, from_stmts, from_arms}
+use Rattle.pfc_meaning.specs.Statements.{from_until}
 use Rattle.pfc_translation.specs.Statements.{label_count}
 use Rattle.pfc_relation.specs.code.Cells.{cell_found}
 use Rattle.pfc_relation.specs.code.Phrases.{Code, one, expr_code, desig_code}
-use Rattle.pfc_relation.specs.code.Statements.{assign_code, procedure_meant, strings_in, strings_of, arms_strings, labels_code, stmt_code, stmts_code, tests_code, arms_code, arms_size}
+use Rattle.pfc_relation.specs.code.Statements.{assign_code, procedure_meant, strings_in, strings_of, arms_strings, labels_code, stmt_code, stmts_code}
+use Rattle.pfc_relation.specs.code.Statements.{tests_code, arms_code, arms_size}
 use Rattle.pfc_relation.specs.Standing.{Program, IsChecked, Stands, IsSimpleWord, HasTexts, StmtAt, StmtsAt, ArmsAt, pass_code, arrived, RestAt}
 use Rattle.pfc_relation.specs.Following.{of_operands, Follows, arrives}
 use Rattle.pfc_relation.specs.Typed.{IsNumber, IsSimpleName, IsAssignment, IsTyped}
 use Rattle.pfc_relation.proofs.Glue.{held_after, held_both, room_for, front, back, tail, head, stands_moved, rest_moved, follows_moved}
-use Rattle.pfc_relation.proofs.HeldStatements.{AssignsNumber, AssignsWhole, assigned, number_code, copy_code, from_number, from_whole, numeric_held, held_desig, held_labels, held_tests, held_stmt, held_stmts}
+use Rattle.pfc_relation.proofs.HeldStatements.{AssignsNumber, AssignsWhole, assigned, number_code, copy_code, from_number, from_whole, numeric_held, held_desig}
+use Rattle.pfc_relation.proofs.HeldStatements.{held_labels, held_tests, held_stmt, held_stmts}
 use Rattle.pfc_relation.proofs.Moves.{fits, move, address_move, test_move}
 use Rattle.pfc_relation.proofs.Types.{none_is_some, some_alike}
 use Rattle.pfc_relation.proofs.Expressions.{ends_behind}

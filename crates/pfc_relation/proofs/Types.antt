@@ -1,5 +1,6 @@
 -- What the type of a phrase tells of its parts: what has a simple type is numeric, and selectors that lead to a type fit.
-use Rattle.std.proofs.Common.{◌≡◌, ◌⊎◌, inl, inr, ℕ, zero, suc, ◌+◌, ◌<◌, nat_lt, Bool, true, false, not, ◌&&◌, ◌||◌, ◌==◌, cond, if◌then◌else◌, List, [], ◌∷◌, length, get_or, bytes_eq, Option, Some, None, refl, sym, ap, ◌∙◌, arith}
+use Rattle.std.proofs.Common.{◌≡◌, ◌⊎◌, inl, inr, ℕ, zero, suc, ◌+◌, ◌<◌, nat_lt, Bool, true, false, not, ◌&&◌, ◌||◌, ◌==◌, cond, if◌then◌else◌, List, [], ◌∷◌}
+use Rattle.std.proofs.Common.{length, get_or, bytes_eq, Option, Some, None, refl, sym, ap, ◌∙◌, arith}
 use Rattle.std.specs.List.{slice_get, list_all, position_or_len}
 use Rattle.std.specs.Map.{lookup, keys_of}
 use Rattle.std.proofs.lemmas.Bool.Decides.{nat_tests}
@@ -10,13 +11,20 @@ use Rattle.pfc_tree.specs.declared.tree.AddOp.{AddOp}
 use Rattle.pfc_tree.specs.declared.tree.AddOp.TheVariants.{Add, Sub, Or}
 use Rattle.pfc_tree.specs.declared.tree.MulOp.{MulOp}
 use Rattle.pfc_tree.specs.declared.tree.MulOp.TheVariants.{Mul, Div, Mod, And}
-use Rattle.pfc_tree.specs.trees.Exprs.{ExprTree, SimpleTree, SummandTrees, TermTree, MultiplierTrees, FactorTree, SelectorTrees, ExprTrees, ActualTrees, plain, related, sum, no_summands, more_summands, product, no_multipliers, more_multipliers, number, literal, negation, paren, applied as used, desig, index, field, no_selectors, more_selectors, no_exprs, more_exprs, actual, actual_width, no_actuals, more_actuals}
+use Rattle.pfc_tree.specs.trees.Exprs.{ExprTree, SimpleTree, SummandTrees, TermTree, MultiplierTrees, FactorTree, SelectorTrees, ExprTrees, ActualTrees, plain}
+use Rattle.pfc_tree.specs.trees.Exprs.{related, sum, no_summands, more_summands, product, no_multipliers, more_multipliers, number, literal, negation, paren}
+use Rattle.pfc_tree.specs.trees.Exprs.{applied as used, desig, index, field, no_selectors, more_selectors, no_exprs, more_exprs, actual, actual_width}
+use Rattle.pfc_tree.specs.trees.Exprs.{no_actuals, more_actuals}
 use Rattle.pfc_types.specs.Types.{Forms, integer, boolean, condition, is_same, is_simple, form_of, array_form, field_form}
 use Rattle.pfc_types.specs.Fields.{FieldList}
 use Rattle.pfc_types.specs.Scopes.{meaning_of}
 use Rattle.pfc_types.specs.rules.Kinds.{where_so, has, has_simple, agree, variable_type}
-use Rattle.pfc_types.specs.rules.Routines.{Want, a_value, a_simple_value, a_variable_of, fits_want, Routine, the_signal, a_function, a_procedure, a_delay, a_reader, a_writer, one_condition, routines, routine_of, in_monitor_sub, called_function, called_routine, site_fits, routine_value}
-use Rattle.pfc_types.specs.rules.Expressions.{Env, find, add_operand, mul_operand, operated, signed_type, related_type, element_of, element_type as indexed_type, field_type, guard_allows, no_selector, no_actual, plain_use, use_type, is_variable, expr_type, simple_type, summed, term_type, multiplied, factor_type, selected, indexed, args_fit, first_type}
+use Rattle.pfc_types.specs.rules.Routines.{Want, a_value, a_simple_value, a_variable_of, fits_want, Routine, the_signal, a_function, a_procedure, a_delay}
+use Rattle.pfc_types.specs.rules.Routines.{a_reader, a_writer, one_condition, routines, routine_of, in_monitor_sub, called_function, called_routine, site_fits}
+use Rattle.pfc_types.specs.rules.Routines.{routine_value}
+use Rattle.pfc_types.specs.rules.Expressions.{Env, find, add_operand, mul_operand, operated, signed_type, related_type, element_of}
+use Rattle.pfc_types.specs.rules.Expressions.{element_type as indexed_type, field_type, guard_allows, no_selector, no_actual, plain_use, use_type, is_variable}
+use Rattle.pfc_types.specs.rules.Expressions.{expr_type, simple_type, summed, term_type, multiplied, factor_type, selected, indexed, args_fit, first_type}
 use Rattle.pfc_types.specs.declared.types.TypeId.{TypeId}
 use Rattle.pfc_types.specs.declared.types.TypeForm.{TypeForm}
 use Rattle.pfc_types.specs.declared.types.TypeForm.TheVariants.{Channel, Array, Record, Process as AProcess}
@@ -27,7 +35,8 @@ use Rattle.pfc_relation.specs.code.Cells.{element_of as elements, element_type, 
 use Rattle.pfc_relation.specs.code.Phrases.{type_selected}
 use Rattle.pfc_relation.specs.Cells.{IsSound}
 use Rattle.pfc_relation.specs.Typed.{IsNumber}
-use Rattle.pfc_relation.specs.Numbers.{IsArray, IsField, IsNumeric, IsNumericSimple, AreNumericSummands, IsNumericTerm, AreNumericMultipliers, IsNumericFactor, IsNumericUse, IsNumericArgument, AreSelectors, AreIndices}
+use Rattle.pfc_relation.specs.Numbers.{IsArray, IsField, IsNumeric, IsNumericSimple, AreNumericSummands, IsNumericTerm, AreNumericMultipliers, IsNumericFactor}
+use Rattle.pfc_relation.specs.Numbers.{IsNumericUse, IsNumericArgument, AreSelectors, AreIndices}
 
 -- ## Tests
 

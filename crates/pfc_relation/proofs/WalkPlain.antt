@@ -1,5 +1,6 @@
 -- Trees with constants, types and variables alone: each of their types is plain, and each name of main's block holds numbers alone.
-use Rattle.std.proofs.Common.{◌≡◌, ℕ, ◌+◌, Bool, true, false, not, ◌&&◌, ◌||◌, if◌then◌else◌, is_some, List, [], ◌∷◌, ◌++◌, length, replicate, pos, bytes_eq, Option, Some, None, refl, sym, ap, ◌∙◌, subst, arith}
+use Rattle.std.proofs.Common.{◌≡◌, ℕ, ◌+◌, Bool, true, false, not, ◌&&◌, ◌||◌, if◌then◌else◌, is_some, List, [], ◌∷◌, ◌++◌, length, replicate, pos, bytes_eq}
+use Rattle.std.proofs.Common.{Option, Some, None, refl, sym, ap, ◌∙◌, subst, arith}
 use Rattle.std.proofs.lemmas.List.{get_or_push}
 use Rattle.std.proofs.lemmas.Slice.Eq.{bytes_eq-Decides}
 use Rattle.pfc_base.specs.declared.places.Place.{Place}
@@ -21,8 +22,12 @@ use Rattle.pfc_types.specs.declared.table.TypeFault.TheVariants.{Bounds, Cells, 
 use Rattle.pfc_types.specs.declared.scope.Meaning.{Meaning}
 use Rattle.pfc_types.specs.declared.scope.Meaning.TheVariants.{Named, Faulty}
 use Rattle.pfc_types.specs.rules.Kinds.{type_name_rules, named_type, where_so, type_meaning, variable_meaning}
-use Rattle.pfc_types.specs.rules.Constants.{Ordinal, Extent, constant_value, broken_constant, broken_ranges, range_extents, Made, added_unless, added, array_of, made_arrays, MadeFields, made_field, made_names, made_group, record_form, fields_begun, made, made_items, made_item, type_place}
-use Rattle.pfc_types.specs.rules.Declarations.{cells_rule, scope_cells, constant_meaning, const_state, consts_state, type_state, types_state, Owner, in_program, owner_rules, owned_type, passes_most, populated, brought, var_name_state, var_names_state, var_state, vars_state, part_state, parts_state, shared_fits, condition_fits}
+use Rattle.pfc_types.specs.rules.Constants.{Ordinal, Extent, constant_value, broken_constant, broken_ranges, range_extents, Made, added_unless, added, array_of}
+use Rattle.pfc_types.specs.rules.Constants.{made_arrays, MadeFields, made_field, made_names, made_group, record_form, fields_begun, made, made_items, made_item}
+use Rattle.pfc_types.specs.rules.Constants.{type_place}
+use Rattle.pfc_types.specs.rules.Declarations.{cells_rule, scope_cells, constant_meaning, const_state, consts_state, type_state, types_state, Owner, in_program}
+use Rattle.pfc_types.specs.rules.Declarations.{owner_rules, owned_type, passes_most, populated, brought, var_name_state, var_names_state, var_state, vars_state}
+use Rattle.pfc_types.specs.rules.Declarations.{part_state, parts_state, shared_fits, condition_fits}
 use Rattle.pfc_types.specs.rules.Whole.{begun, declared_parts, declared_all, types_of, scopes_of, main_cells}
 use Rattle.pfc_types.proofs.Prefixes.{begins_push, begins_trans}
 use Rattle.pfc_types.proofs.Walking.{note_kept}

@@ -1,5 +1,6 @@
 -- The words of a value: how many there are, and where those of a part lie among them.
-use Rattle.std.proofs.Common.{◌≡◌, ℕ, zero, suc, ◌+◌, ◌*◌, ◌<◌, ◌≤◌, true, ℤ, List, [], ◌∷◌, ◌++◌, length, take, drop, slice_get, Some, refl, sym, ap, ap₂, ◌∙◌, subst, arith, length-append, append_assoc, append-nil}
+use Rattle.std.proofs.Common.{◌≡◌, ℕ, zero, suc, ◌+◌, ◌*◌, ◌<◌, ◌≤◌, true, ℤ, List, [], ◌∷◌, ◌++◌, length, take, drop, slice_get, Some, refl, sym, ap, ap₂, ◌∙◌}
+use Rattle.std.proofs.Common.{subst, arith, length-append, append_assoc, append-nil}
 use Rattle.std.proofs.lemmas.List.Sums.{sum_by-cons}
 use Rattle.pfc_tree.specs.Symbols.{Text}
 use Rattle.pfc_types.specs.Types.{Forms, form_of, cells_in, extent, is_simple}
@@ -9,7 +10,8 @@ use Rattle.pfc_types.specs.declared.types.TypeForm.TheVariants.{Array, Record}
 use Rattle.pfc_meaning.specs.Values.{Value, Values, ordinal, ordinal_of, compound, more_values, part, with_part, part_at, with_part_at}
 use Rattle.pfc_translation.specs.Addresses.{fields_before}
 use Rattle.pfc_relation.proofs.Lists.{nested, over_written, middle_read, middle_within}
-use Rattle.pfc_relation.specs.Cells.{IsSound, IsOf, AreOf, AreFieldsOf, IsPath, is_number, is_array, is_record, none_of, one_of, no_field, one_field, here, into_element, into_field, words_of, words_in}
+use Rattle.pfc_relation.specs.Cells.{IsSound, IsOf, AreOf, AreFieldsOf, IsPath, is_number, is_array, is_record, none_of, one_of, no_field, one_field, here}
+use Rattle.pfc_relation.specs.Cells.{into_element, into_field, words_of, words_in}
 
 -- ## How many
 

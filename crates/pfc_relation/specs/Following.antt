@@ -10,7 +10,8 @@ use Rattle.pfc_values.specs.Pieces.{shown, padded}
 use Rattle.pfc_meaning.specs.Values.{Value, ordinal}
 use Rattle.pfc_meaning.specs.Store.{Location}
 use Rattle.pfc_meaning.specs.Operators.{simple_of}
-use Rattle.pfc_meaning.specs.Frames.{Rest, Next, Task, reads, copies_from, writes, turns, prints, inputs, skips, asks_eof, asks_eoln, draws, faults, finishes, going, holding}
+use Rattle.pfc_meaning.specs.Frames.{Rest, Next, Task, reads, copies_from, writes, turns, prints, inputs, skips, asks_eof, asks_eoln, draws, faults, finishes}
+use Rattle.pfc_meaning.specs.Frames.{going, holding}
 use Rattle.pfc_machine.specs.Fits.{needs, Reckons}
 use Rattle.pfc_machine.specs.Rows.{Alone, quiet, fault, alone, is_before, value_behind}
 use Rattle.pfc_translation.specs.Calls.{write_instr, read_instr}

@@ -4,7 +4,10 @@
 use Rattle.std.specs.Prelude.{ℕ, ◌≡◌, ℤ, true, Option, Some}
 use Rattle.std.specs.List.{slice_get}
 use Rattle.pfc_tree.specs.Symbols.{Text}
-use Rattle.pfc_tree.specs.trees.Exprs.{ExprTree, SimpleTree, SummandTrees, TermTree, MultiplierTrees, FactorTree, SelectorTrees, ExprTrees, ActualTrees, plain, related, sum, no_summands, more_summands, product, no_multipliers, more_multipliers, number, literal, negation, paren, applied as used, desig, index, field, no_selectors, more_selectors, no_exprs, more_exprs, actual, actual_width, no_actuals, more_actuals}
+use Rattle.pfc_tree.specs.trees.Exprs.{ExprTree, SimpleTree, SummandTrees, TermTree, MultiplierTrees, FactorTree, SelectorTrees, ExprTrees, ActualTrees, plain}
+use Rattle.pfc_tree.specs.trees.Exprs.{related, sum, no_summands, more_summands, product, no_multipliers, more_multipliers, number, literal, negation, paren}
+use Rattle.pfc_tree.specs.trees.Exprs.{applied as used, desig, index, field, no_selectors, more_selectors, no_exprs, more_exprs, actual, actual_width}
+use Rattle.pfc_tree.specs.trees.Exprs.{no_actuals, more_actuals}
 use Rattle.pfc_types.specs.Types.{Forms, form_of}
 use Rattle.pfc_types.specs.Fields.{FieldList, type_named, position_of}
 use Rattle.pfc_types.specs.Scopes.{meaning_of}

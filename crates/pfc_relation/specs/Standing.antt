@@ -20,7 +20,10 @@ use Rattle.pfc_values.specs.Pieces.{shown}
 use Rattle.pfc_meaning.specs.Values.{Value}
 use Rattle.pfc_meaning.specs.Store.{Location}
 use Rattle.pfc_meaning.specs.Operators.{Function, eof, eoln, simple_of}
-use Rattle.pfc_meaning.specs.Frames.{Part, Count, Rest, Use, Goal, ends, perform, turn, until, behind_pass, next_pass, store_whole, write_on, read_on, begin_sum, add_to, begin_product, multiply_by, compare_with, compare_to, invert, apply, index_into, store_at, choose, choose_arm, while_true, until_true, count_from, count_to, show, show_wide, pad, read_for, assign_to, copy_to, copy_from, input_to}
+use Rattle.pfc_meaning.specs.Frames.{Part, Count, Rest, Use, Goal, ends, perform, turn, until, behind_pass, next_pass, store_whole, write_on, read_on}
+use Rattle.pfc_meaning.specs.Frames.{begin_sum, add_to, begin_product, multiply_by, compare_with, compare_to, invert, apply, index_into, store_at, choose}
+use Rattle.pfc_meaning.specs.Frames.{choose_arm, while_true, until_true, count_from, count_to, show, show_wide, pad, read_for, assign_to, copy_to, copy_from}
+use Rattle.pfc_meaning.specs.Frames.{input_to}
 use Rattle.pfc_meaning.specs.Expressions.{Context, form_in}
 use Rattle.pfc_meaning.specs.Statements.{context, is_past}
 use Rattle.pfc_meaning.specs.Remainders.{loop_line}
@@ -29,8 +32,10 @@ use Rattle.pfc_translation.specs.Calls.{write_instr, read_instr}
 use Rattle.pfc_translation.specs.Expressions.{add_instr, multiply_instr, relation_instr}
 use Rattle.pfc_translation.specs.Statements.{label_count}
 use Rattle.pfc_relation.specs.code.Cells.{element_type, type_behind}
-use Rattle.pfc_relation.specs.code.Phrases.{Code, one, type_selected, sign_code, function_code, summands_code, multipliers_code, simple_code, expr_code, desig_code, selectors_code, indices_code}
-use Rattle.pfc_relation.specs.code.Statements.{stmt_code, stmts_code, tests_code, arms_code, arms_size, writes_code, reads_code, strings_among, strings_in, strings_of, arms_strings}
+use Rattle.pfc_relation.specs.code.Phrases.{Code, one, type_selected, sign_code, function_code, summands_code, multipliers_code, simple_code, expr_code}
+use Rattle.pfc_relation.specs.code.Phrases.{desig_code, selectors_code, indices_code}
+use Rattle.pfc_relation.specs.code.Statements.{stmt_code, stmts_code, tests_code, arms_code, arms_size, writes_code, reads_code, strings_among, strings_in}
+use Rattle.pfc_relation.specs.code.Statements.{strings_of, arms_strings}
 use Rattle.pfc_relation.specs.code.Images.{most_operands, instructions}
 use Rattle.pfc_relation.specs.Cells.{IsSound, IsOf, AreCells, LiesAt, words_of}
 use Rattle.pfc_relation.specs.Numbers.{IsArray, AreNumericSummands, AreNumericMultipliers, IsNumericSimple, AreIndices, AreSelectors}

@@ -18,7 +18,9 @@ use Rattle.pfc_traces.proofs.Acting.{acts_within}
 use Rattle.pfc_traces.proofs.Reading.{reads_back}
 use Rattle.pfc_traces.proofs.Replaying.{replays}
 use Rattle.pfc_outcome.specs.Meanings.{Meaning, Run}
-use Rattle.pfc_outcome.specs.Outcomes.{Outcome, Ran, IsOutcomeOfCutting, IsOutcomeOfText, IsOutcomeOfTokens, IsOutcomeOfTree, behind, code_written, no_fault, not_built, not_built_yet, ran_with, refused, report_of, run, run_under, static_fault, status_of, stopped_at, syntax_fault, syntax_refusal, too_large, large}
+use Rattle.pfc_outcome.specs.Outcomes.{Outcome, Ran, IsOutcomeOfCutting, IsOutcomeOfText, IsOutcomeOfTokens, IsOutcomeOfTree, behind, code_written, no_fault}
+use Rattle.pfc_outcome.specs.Outcomes.{not_built, not_built_yet, ran_with, refused, report_of, run, run_under, static_fault, status_of, stopped_at}
+use Rattle.pfc_outcome.specs.Outcomes.{syntax_fault, syntax_refusal, too_large, large}
 use Rattle.pfc_outcome.specs.Requests.{Request, Settings, policy_of, script_policy, settings_of}
 use Rattle.pfc_replays.specs.Laws.{ReplaysText}
 use Rattle.pfc_replays.specs.Replays.{IsOfSource, IsReplayed, replayed, script_of, source_run, told_of, with_script}

@@ -14,7 +14,8 @@ use Rattle.pfc_state.specs.declared.standings.State.{State}
 use Rattle.pfc_state.specs.declared.standings.State.TheVariants.{Idle, Created, Ready, Waiting, Done}
 use Rattle.pfc_state.specs.declared.standings.Standing.{Standing}
 use Rattle.pfc_state.specs.declared.waits.Why.{Why}
-use Rattle.pfc_state.specs.declared.waits.Why.TheVariants.{Coend, Semaphore, Send, Receive, Call, Meeting, Accept, Select, Enter, Condition, Resumer, Entrant, Barred, Sleep}
+use Rattle.pfc_state.specs.declared.waits.Why.TheVariants.{Coend, Semaphore, Send, Receive, Call, Meeting, Accept, Select, Enter, Condition, Resumer, Entrant}
+use Rattle.pfc_state.specs.declared.waits.Why.TheVariants.{Barred, Sleep}
 
 -- the words for the cause of a wait
 abbrev pub words_of_wait : Why → List ℕ

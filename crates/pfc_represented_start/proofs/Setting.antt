@@ -10,7 +10,8 @@ use Rattle.pfc_types.specs.rules.Whole.{finished}
 use Rattle.pfc_types.specs.declared.heads.SubHead.{SubHead}
 use Rattle.pfc_semantics.specs.Layouts.{Layout, sub_with}
 use Rattle.pfc_semantics.specs.Programs.{Guard, block_of, program_of}
-use Rattle.pfc_translation.specs.Images.{Coded, a_body, body_code, pieces, coded, strings_in, before_main, of_main, size_of, put_from, blocks_from, main_block, end_of, instructions, image_of}
+use Rattle.pfc_translation.specs.Images.{Coded, a_body, body_code, pieces, coded, strings_in, before_main, of_main, size_of, put_from, blocks_from, main_block}
+use Rattle.pfc_translation.specs.Images.{end_of, instructions, image_of}
 use Rattle.pfc_image_laws.proofs.Layouts.{image_lines, image_count}
 use Rattle.pfc_image_cells.proofs.Subs.{program_subs}
 use Rattle.pfc_image_cells.proofs.Trees.{among, sub_none, parts_out}

@@ -1,5 +1,6 @@
 -- The machine before its first instruction represents the start of the source text.
-use Rattle.std.proofs.Common.{◌≡◌, ℕ, zero, suc, ◌+◌, ◌-◌, ◌^◌, ◌<◌, ◌≤◌, if◌then◌else◌, pos, Bool, true, List, [], ◌∷◌, length, map, get_or, replicate, slice_get, Some, None, refl, sym, ap, ◌∙◌, subst, arith}
+use Rattle.std.proofs.Common.{◌≡◌, ℕ, zero, suc, ◌+◌, ◌-◌, ◌^◌, ◌<◌, ◌≤◌, if◌then◌else◌, pos, Bool, true, List, [], ◌∷◌, length, map, get_or, replicate}
+use Rattle.std.proofs.Common.{slice_get, Some, None, refl, sym, ap, ◌∙◌, subst, arith}
 use Rattle.std.proofs.lemmas.List.{length-map}
 use Rattle.pfc_code.specs.declared.images.ProcessInfo.{ProcessInfo}
 use Rattle.pfc_tree.specs.Symbols.{Text}

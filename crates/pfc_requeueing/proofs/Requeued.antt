@@ -1,5 +1,6 @@
 -- Requeues, on both sides.
-use Rattle.std.proofs.Common.{◌≡◌, ℕ, ◌+◌, ◌<◌, Bool, true, false, List, [], ◌∷◌, ◌++◌, length, map, reverse, drop, set, get_or, Option, Some, None, IfSome, Ok, Err, arith, length-append, refl, sym, ap, ◌∙◌, subst}
+use Rattle.std.proofs.Common.{◌≡◌, ℕ, ◌+◌, ◌<◌, Bool, true, false, List, [], ◌∷◌, ◌++◌, length, map, reverse, drop, set, get_or, Option, Some, None, IfSome, Ok}
+use Rattle.std.proofs.Common.{Err, arith, length-append, refl, sym, ap, ◌∙◌, subst}
 use Rattle.std.specs.Prelude.{nat_le, ◌-◌, ◌==◌, if◌then◌else◌, position, unwrap_or}
 use Rattle.std.proofs.lemmas.List.{append-nil, map-append, reverse-append, set-set, set-get_or, get_or-set_same, length-set}
 use Rattle.std.proofs.Math.Seq.{get_or-append_seam, set-append_seam}

@@ -1,5 +1,6 @@
 -- Actions on a resource leave no resource free that an entrant waits for.
-use Rattle.std.proofs.Common.{◌≡◌, ℕ, ◌<◌, inl, inr, Bool, true, false, ◌==◌, ◌&&◌, nat_lt, Option, None, Some, List, [], length, set, arith, refl, sym, ap, ◌∙◌, subst, cond}
+use Rattle.std.proofs.Common.{◌≡◌, ℕ, ◌<◌, inl, inr, Bool, true, false, ◌==◌, ◌&&◌, nat_lt, Option, None, Some, List, [], length, set, arith, refl, sym, ap}
+use Rattle.std.proofs.Common.{◌∙◌, subst, cond}
 use Rattle.std.proofs.lemmas.Bool.{cases_eq, ne_eqb}
 use Rattle.std.proofs.lemmas.Bool.Decides.{nat_tests}
 use Rattle.std.proofs.lemmas.List.{get_or-set_same, get_or-set_other}

@@ -8,7 +8,10 @@ use Rattle.pfc_store.specs.declared.spots.Spot.{Spot}
 use Rattle.pfc_program.specs.declared.tables.Tables.{Tables}
 use Rattle.pfc_pending.specs.Waiting.{Waiting, awaits_of, remainder_of, over}
 use Rattle.pfc_pending.specs.declared.pending.Pending.{Pending}
-use Rattle.pfc_pending.specs.declared.pending.Pending.TheVariants.{Ends, Perform, InNames, WriteOn, ReadOn, AtCoend, PartFrom, WriteAgain, GoThrough, TryGuard, ScanOn, TryOther, Within, BeginSum, AddTo, BeginProduct, MultiplyBy, CompareWith, CompareTo, Invert, Apply, IndexInto, PassValue, StoreAt, Show, ShowWide, Pad, SetCount, DelayWith, SleepFor, SendOn, OpenIf, OfferValue, OfferWait, PassOwn, PassOther}
+use Rattle.pfc_pending.specs.declared.pending.Pending.TheVariants.{Ends, Perform, InNames, WriteOn, ReadOn, AtCoend, PartFrom, WriteAgain, GoThrough, TryGuard}
+use Rattle.pfc_pending.specs.declared.pending.Pending.TheVariants.{ScanOn, TryOther, Within, BeginSum, AddTo, BeginProduct, MultiplyBy, CompareWith, CompareTo}
+use Rattle.pfc_pending.specs.declared.pending.Pending.TheVariants.{Invert, Apply, IndexInto, PassValue, StoreAt, Show, ShowWide, Pad, SetCount, DelayWith}
+use Rattle.pfc_pending.specs.declared.pending.Pending.TheVariants.{SleepFor, SendOn, OpenIf, OfferValue, OfferWait, PassOwn, PassOther}
 use Rattle.pfc_pending.specs.declared.pending.Point.{Point}
 use Rattle.pfc_pending.specs.declared.select.Choosing.{Choosing}
 use Rattle.pfc_pending.specs.declared.text.OneStmt.{OneStmt}

@@ -1,5 +1,6 @@
 -- Runs turn by turn.
-use Rattle.std.proofs.Common.{◌≡◌, ℕ, zero, suc, Bool, true, false, List, [], ◌++◌, if◌then◌else◌, Option, Some, None, refl, sym, ap, ◌∙◌, subst, append_assoc, append-nil}
+use Rattle.std.proofs.Common.{◌≡◌, ℕ, zero, suc, Bool, true, false, List, [], ◌++◌, if◌then◌else◌, Option, Some, None, refl, sym, ap, ◌∙◌, subst, append_assoc}
+use Rattle.std.proofs.Common.{append-nil}
 use Rattle.pfc_code.specs.Images.{PlainImage}
 use Rattle.pfc_machines.specs.declared.machine.Machine.{Machine}
 use Rattle.pfc_machine_acts.specs.Settling.{machine_settled}
@@ -21,7 +22,8 @@ use Rattle.pfc_semantics.specs.Runs.{behind_choice, choice_among}
 use Rattle.pfc_semantics.specs.Runs as sr
 use Rattle.pfc_semantics.specs.Time.{terminated_over, settled_config}
 use Rattle.pfc_run_laws.proofs.Runs.{run_grows}
-use Rattle.pfc_sessions.specs.Runs.{Run, is_done, ending_at, is_worn_out, ended_with, behind_bytes, by_pick, unless_ended, unless_worn_out, unless_fault, behind_step, run_from, IsPicked, step_of, MayRun}
+use Rattle.pfc_sessions.specs.Runs.{Run, is_done, ending_at, is_worn_out, ended_with, behind_bytes, by_pick, unless_ended, unless_worn_out, unless_fault}
+use Rattle.pfc_sessions.specs.Runs.{behind_step, run_from, IsPicked, step_of, MayRun}
 use Rattle.pfc_sessions.specs.Steps.{FaultAt, Step}
 use Rattle.pfc_run_agreement.specs.Agreement.{LookAlike, fault_of, picking_behind, choices_of, behind_action, AreStepsAlike, AgreesHere, Agree, AreRunsAlike}
 

@@ -1,5 +1,6 @@
 -- What comes next in the alternatives of a select has only numbers of 32 bits.
-use Rattle.std.proofs.Common.{◌≡◌, ℕ, zero, suc, ◌+◌, ◌-◌, ◌%◌, ◌<◌, ℤ, pos, negsuc, ◌+ℤ◌, Bool, true, false, if◌then◌else◌, List, [], ◌∷◌, Option, Some, None, refl, arith}
+use Rattle.std.proofs.Common.{◌≡◌, ℕ, zero, suc, ◌+◌, ◌-◌, ◌%◌, ◌<◌, ℤ, pos, negsuc, ◌+ℤ◌, Bool, true, false, if◌then◌else◌, List, [], ◌∷◌, Option, Some, None}
+use Rattle.std.proofs.Common.{refl, arith}
 use Rattle.std.proofs.lemmas.Bool.Decides.{nat_tests}
 use Rattle.std.proofs.Math.Nat.{mod-lt}
 use Rattle.std.specs.Prelude.{int_le, int_lt}
@@ -15,7 +16,8 @@ use Rattle.pfc_tree.specs.declared.tree.Constant.{Constant}
 use Rattle.pfc_tree.specs.declared.tree.Constant.TheVariants.{Number, Named, Literal}
 use Rattle.pfc_tree.specs.declared.tree.Spread.{Spread}
 use Rattle.pfc_tree.specs.trees.Exprs.{ExprTree, DesigTree}
-use Rattle.pfc_tree.specs.trees.Stmts.{StmtTrees, AcceptTree, AltTrees, CommTree, accept, accept_do, alt, no_alts, more_alts, comm_accept, comm_send, comm_receive, timeout, terminate}
+use Rattle.pfc_tree.specs.trees.Stmts.{StmtTrees, AcceptTree, AltTrees, CommTree, accept, accept_do, alt, no_alts, more_alts, comm_accept, comm_send}
+use Rattle.pfc_tree.specs.trees.Stmts.{comm_receive, timeout, terminate}
 use Rattle.pfc_types.specs.Types.{extent}
 use Rattle.pfc_types.specs.Scopes.{Names, Level, look}
 use Rattle.pfc_types.specs.declared.scope.Meaning.{Meaning}
@@ -26,12 +28,16 @@ use Rattle.pfc_types.specs.rules.Statements.{names_any, comm_scopes, alt_scopes}
 use Rattle.pfc_values.specs.Numbers.{is_true}
 use Rattle.pfc_semantics.specs.Values.{Value, ordinal_of}
 use Rattle.pfc_semantics.specs.Displays.{Spot}
-use Rattle.pfc_semantics.specs.Remainders.{Context, Replica, Offer, Alternative, Selecting, Remainder, Action, to_send, to_receive, to_accept, to_wait, to_end, open_if, offer_value, offer_wait, offer_to, offer_from, offer_into, faults}
+use Rattle.pfc_semantics.specs.Remainders.{Context, Replica, Offer, Alternative, Selecting, Remainder, Action, to_send, to_receive, to_accept, to_wait, to_end}
+use Rattle.pfc_semantics.specs.Remainders.{open_if, offer_value, offer_wait, offer_to, offer_from, offer_into, faults}
 use Rattle.pfc_semantics.specs.Expressions.{spot_of, char_in}
-use Rattle.pfc_semantics.specs.Alternatives.{replicas_from, replicas_between, replicas_by, replicas, alternative, spread_out, alternatives, accepting_of, message_of, receiver_of, a_signal, with_open, from_seconds, from_message, from_receiver, from_comm, from_opened, from_guard, from_replica, from_alternatives, select_begun}
+use Rattle.pfc_semantics.specs.Alternatives.{replicas_from, replicas_between, replicas_by, replicas, alternative, spread_out, alternatives, accepting_of}
+use Rattle.pfc_semantics.specs.Alternatives.{message_of, receiver_of, a_signal, with_open, from_seconds, from_message, from_receiver, from_comm, from_opened}
+use Rattle.pfc_semantics.specs.Alternatives.{from_guard, from_replica, from_alternatives, select_begun}
 use Rattle.pfc_run_invariants.specs.Fitting.{Fits, FitsMeaning, FitNames}
 use Rattle.pfc_run_invariants.specs.Written.{FitsExpr, FitsDesig, FitsPerhaps, FitsTarget, FitsConstant, FitsSpread, FitStmts, FitsAccept, FitsComm, FitAlts}
-use Rattle.pfc_run_invariants.specs.Remainders.{FitsEnv, FitsReplica, FitsOffer, FitsOpen, FitsAlternative, FitAlternatives, FitsSelecting, FitsRemainder, FitsAction}
+use Rattle.pfc_run_invariants.specs.Remainders.{FitsEnv, FitsReplica, FitsOffer, FitsOpen, FitsAlternative, FitAlternatives, FitsSelecting, FitsRemainder}
+use Rattle.pfc_run_invariants.specs.Remainders.{FitsAction}
 use Rattle.pfc_run_invariants.proofs.Lists.{all_append, all_push, all_mapped}
 use Rattle.pfc_run_invariants.proofs.Expressions.{either, expr_fits, desig_fits}
 use Rattle.pfc_semantics.specs.Configurations.{Mark}

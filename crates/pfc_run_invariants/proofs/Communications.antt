@@ -11,12 +11,16 @@ use Rattle.pfc_semantics.specs.Values.{Value}
 use Rattle.pfc_semantics.specs.Store.{values_in}
 use Rattle.pfc_semantics.specs.Displays.{Spot, frame_of}
 use Rattle.pfc_semantics.specs.Programs.{Program}
-use Rattle.pfc_semantics.specs.Remainders.{Context, Replica, Accepting, Offer, Open, Otherwise, Selecting, Remainder, to_send, to_receive, to_accept, to_wait, perform, in_names, part_from}
+use Rattle.pfc_semantics.specs.Remainders.{Context, Replica, Accepting, Offer, Open, Otherwise, Selecting, Remainder, to_send, to_receive, to_accept, to_wait}
+use Rattle.pfc_semantics.specs.Remainders.{perform, in_names, part_from}
 use Rattle.pfc_semantics.specs.Statements.{behind}
 use Rattle.pfc_semantics.specs.Configurations.{Hand, empty_hand, offering, asking, Config, activity_of, goes_on, showing}
-use Rattle.pfc_semantics.specs.Channels.{arm_of, arms_of_all, is_communication, communications, behind_replica, behind_open, Side, is_arm, first_open, side_in, side_of, goes_behind, delivered, sent_into, sent_to, received_out, received_from}
+use Rattle.pfc_semantics.specs.Channels.{arm_of, arms_of_all, is_communication, communications, behind_replica, behind_open, Side, is_arm, first_open, side_in}
+use Rattle.pfc_semantics.specs.Channels.{side_of, goes_behind, delivered, sent_into, sent_to, received_out, received_from}
 use Rattle.pfc_semantics.specs.Rendezvous.{taken_from, parameters_taken, meeting_of, met_by, called_into, called_at, asked, accepts_from}
-use Rattle.pfc_semantics.specs.Selects.{communicates_by, communicates, partner_at, plainly, meets_or_waits, meets_at, matched_places, place_taken, open_at, takes, Timeout, timeout_at, or_timeout, open_timeout, may_terminate_at, latest, waits_until, waits_or_closed, times_out, goes_otherwise, decides_by}
+use Rattle.pfc_semantics.specs.Selects.{communicates_by, communicates, partner_at, plainly, meets_or_waits, meets_at, matched_places, place_taken, open_at}
+use Rattle.pfc_semantics.specs.Selects.{takes, Timeout, timeout_at, or_timeout, open_timeout, may_terminate_at, latest, waits_until, waits_or_closed, times_out}
+use Rattle.pfc_semantics.specs.Selects.{goes_otherwise, decides_by}
 use Rattle.pfc_run_invariants.specs.Fitting.{FitsValue, FitList}
 use Rattle.pfc_run_invariants.specs.Remainders.{FitsEnv, FitsReplica, FitsOffer, FitsOpen, FitOpens, FitsOtherwise, FitsSelecting, FitsRemainder}
 use Rattle.pfc_run_invariants.specs.Configurations.{FitsProgram, FitsHand, FitsConfig}

@@ -1,5 +1,6 @@
 -- Behind every action all numbers have 32 bits.
-use Rattle.std.proofs.Common.{arith, inr, inl, ◌⊎◌, subst, ◌∙◌, ap, sym, refl, ◌≢◌, ◌≡◌, ℕ, ℤ, pos, negsuc, zero, suc, ◌+◌, Bool, true, false, nat_le, if◌then◌else◌, List, [], ◌∷◌, ◌++◌, Option, Some, None, Result, Ok, Err}
+use Rattle.std.proofs.Common.{arith, inr, inl, ◌⊎◌, subst, ◌∙◌, ap, sym, refl, ◌≢◌, ◌≡◌, ℕ, ℤ, pos, negsuc, zero, suc, ◌+◌, Bool, true, false, nat_le}
+use Rattle.std.proofs.Common.{if◌then◌else◌, List, [], ◌∷◌, ◌++◌, Option, Some, None, Result, Ok, Err}
 use Rattle.std.specs.Prelude.{◌*◌, ◌/◌, ◌==◌}
 use Rattle.rand_pcg.specs.Lcg.{Lcg}
 use Rattle.pfc_base.specs.declared.faults.RunFault.{RunFault}
@@ -25,15 +26,21 @@ use Rattle.pfc_semantics.specs.Objects.{module_number}
 use Rattle.pfc_semantics.specs.Operators.{simple_of}
 use Rattle.pfc_semantics.specs.Displays.{Spot}
 use Rattle.pfc_semantics.specs.Programs.{Guard, Block, Program, block_at}
-use Rattle.pfc_semantics.specs.Remainders.{Context, Argument, Call, Remainder, AwaitsValue, Scan, Tried, Way, leave, own, in_names, scan_on, try_guard, try_other, to_procedure, to_function, to_module, to_requeue, to_process, to_entry, Action, reads, writes, turns, calls, finishes, prints, inputs, skips, asks_eof, asks_eoln, asks_clock, asks_empty, draws, joins, initials, waits, signals, delays, resumes, sleeps, meets, decides, parts, scans, bars, passes, faults}
+use Rattle.pfc_semantics.specs.Remainders.{Context, Argument, Call, Remainder, AwaitsValue, Scan, Tried, Way, leave, own, in_names, scan_on, try_guard}
+use Rattle.pfc_semantics.specs.Remainders.{try_other, to_procedure, to_function, to_module, to_requeue, to_process, to_entry, Action, reads, writes, turns}
+use Rattle.pfc_semantics.specs.Remainders.{calls, finishes, prints, inputs, skips, asks_eof, asks_eoln, asks_clock, asks_empty, draws, joins, initials, waits}
+use Rattle.pfc_semantics.specs.Remainders.{signals, delays, resumes, sleeps, meets, decides, parts, scans, bars, passes, faults}
 use Rattle.pfc_semantics.specs.Rewriting.{going, holding}
-use Rattle.pfc_semantics.specs.Configurations.{Mark, plain, of_monitor, of_resource, Caller, of_nobody, of_remainder, of_value, Activation, Activity, Hand, asking, barred_at, Config, Effect, activity_of, goes_on, showing, value_for, number_for, written_for, all_passed, with_table, counted, with_counted, monitors_held, with_monitors, resources_held, with_resources, body_of}
+use Rattle.pfc_semantics.specs.Configurations.{Mark, plain, of_monitor, of_resource, Caller, of_nobody, of_remainder, of_value, Activation, Activity, Hand}
+use Rattle.pfc_semantics.specs.Configurations.{asking, barred_at, Config, Effect, activity_of, goes_on, showing, value_for, number_for, written_for, all_passed}
+use Rattle.pfc_semantics.specs.Configurations.{with_table, counted, with_counted, monitors_held, with_monitors, resources_held, with_resources, body_of}
 use Rattle.pfc_semantics.specs.Layouts.{sub_with}
 use Rattle.pfc_semantics.specs.Calls.{formals_of, cells_above, new_number, new_values, activated, result_in, unless_full, left_by}
 use Rattle.pfc_semantics.specs.Processes.{declaration_of, process_block, created, creates, joined, ended_activity, without_all, ended_process}
 use Rattle.pfc_semantics.specs.Semaphores.{initials_at, signals_to}
 use Rattle.pfc_semantics.specs.Monitors.{enters_monitor}
-use Rattle.pfc_semantics.specs.Resources.{guarded_body, enters_resource, scan_of, tried, tried_at, scanned_all, scanned_to, passed_by, way_to, resource_marked, requeued_in, requeues}
+use Rattle.pfc_semantics.specs.Resources.{guarded_body, enters_resource, scan_of, tried, tried_at, scanned_all, scanned_to, passed_by, way_to, resource_marked}
+use Rattle.pfc_semantics.specs.Resources.{requeued_in, requeues}
 use Rattle.pfc_semantics.specs.Channels.{Side, side_of}
 use Rattle.pfc_semantics.specs.Rendezvous.{called_at, enters}
 use Rattle.pfc_semantics.specs.Selects.{latest, matched_places}
@@ -44,7 +51,9 @@ use Rattle.pfc_run_invariants.specs.Remainders.{FitsEnv, FitArguments, FitsBar, 
 use Rattle.pfc_run_invariants.specs.Configurations.{FitsGuard, FitsBlock, FitsProgram, FitsCaller, FitActivations, marks_of, FitsHand, FitsConfig, IsStable}
 use Rattle.pfc_run_invariants.proofs.Numbers.{FitsItem, fitting_fits, truth_fits, item_fits, drawn_fits}
 use Rattle.pfc_run_invariants.proofs.Stores.{variable_fits, without_fits, without_all_fits, new_values_fit}
-use Rattle.pfc_run_invariants.proofs.Steps.{FitsEffect, effect_either, tabled, with_counts, with_monitor_holders, with_resource_holders, body_fits, guarded_fits, block_fits, activity_fits, with_activity_fits, on_it_goes, it_holds, it_shows, found_value, it_writes, all_pass, full_fits, activated_fits, left_fits, marks_at, same_marks, apart_marks}
+use Rattle.pfc_run_invariants.proofs.Steps.{FitsEffect, effect_either, tabled, with_counts, with_monitor_holders, with_resource_holders, body_fits}
+use Rattle.pfc_run_invariants.proofs.Steps.{guarded_fits, block_fits, activity_fits, with_activity_fits, on_it_goes, it_holds, it_shows, found_value, it_writes}
+use Rattle.pfc_run_invariants.proofs.Steps.{all_pass, full_fits, activated_fits, left_fits, marks_at, same_marks, apart_marks}
 use Rattle.pfc_run_invariants.proofs.Communications.{FitsPartner, partner_fits, called_at_fits, meets_fits, decides_fits}
 use Rattle.pfc_run_invariants.specs.Inputs.{AreBytes}
 use Rattle.pfc_run_invariants.specs.Asked.{Asked, module_mark, IsClosed}

@@ -1,5 +1,6 @@
 -- What operators and functions give has 32 bits, and so have numbers that are read and drawn.
-use Rattle.std.proofs.Common.{◌≡◌, ℕ, zero, suc, ◌+◌, ◌%◌, ◌<◌, ◌≤◌, ℤ, pos, negsuc, ◌+ℤ◌, ◌-ℤ◌, Bool, true, false, if◌then◌else◌, List, [], ◌∷◌, Option, Some, None, Result, Ok, Err, refl, arith}
+use Rattle.std.proofs.Common.{◌≡◌, ℕ, zero, suc, ◌+◌, ◌%◌, ◌<◌, ◌≤◌, ℤ, pos, negsuc, ◌+ℤ◌, ◌-ℤ◌, Bool, true, false, if◌then◌else◌, List, [], ◌∷◌, Option, Some}
+use Rattle.std.proofs.Common.{None, Result, Ok, Err, refl, arith}
 use Rattle.std.proofs.lemmas.Bool.Decides.{nat_tests}
 use Rattle.std.proofs.lemmas.Int.{rem_below}
 use Rattle.std.proofs.Math.Nat.{mod-lt}
@@ -18,7 +19,8 @@ use Rattle.pfc_tree.specs.declared.tree.MulOp.TheVariants.{Mul, Div, Mod, And}
 use Rattle.pfc_values.specs.declared.simple.Simple.{Simple}
 use Rattle.pfc_values.specs.declared.simple.Simple.TheVariants.{Integer, Boolean, Char}
 use Rattle.pfc_values.specs.Numbers.{Outcome, is_of, greatest, least, fitting, truth, is_true, remainder_of, char_of, next_of, before_of}
-use Rattle.pfc_values.specs.Inputs.{Item, item, is_digit, is_blank, signed_item, unsigned_item, read_to, char_item, digits, behind_digits, behind_blanks, number_behind}
+use Rattle.pfc_values.specs.Inputs.{Item, item, is_digit, is_blank, signed_item, unsigned_item, read_to, char_item, digits, behind_digits, behind_blanks}
+use Rattle.pfc_values.specs.Inputs.{number_behind}
 use Rattle.pfc_sched.specs.Words.{word}
 use Rattle.pfc_sched.specs.Draws.{drawn}
 use Rattle.pfc_semantics.specs.Operators.{signed, added, multiplied, applied}

@@ -8,7 +8,14 @@ use Rattle.std.specs.Prelude.{not}
 use Rattle.pfc_semantics.specs.Values.{Value, ordinal, ordinal_of}
 use Rattle.pfc_semantics.specs.Displays.{TypedSpot}
 use Rattle.pfc_semantics.specs.Operators.{signed, added, multiplied, compared, holds}
-use Rattle.pfc_semantics.specs.Remainders.{Context, Tried, Scan, Remainder, AwaitsValue, AwaitsLocation, ends, perform, in_names, turn, until, behind_pass, next_pass, write_on, read_on, at_coend, part_from, write_again, go_through, try_guard, scan_on, try_other, begin_sum, add_to, begin_product, multiply_by, compare_with, compare_to, invert, apply, index_into, pass_value, store_at, choose, choose_arm, while_true, until_true, count_from, count_to, show, show_wide, pad, set_count, delay_with, sleep_for, send_on, open_if, offer_value, offer_wait, pass_own, pass_other, read_for, assign_to, input_to, pass_variable, ask_empty, activate_with, enter_with, initial_to, wait_at, signal_at, delay_at, resume_at, send_to, receive_from, receive_into, offer_to, offer_from, offer_into, by_value, by_reference, to_process, to_entry, to_send, to_receive, writes, turns, initials, bars, scans, passes}
+use Rattle.pfc_semantics.specs.Remainders.{Context, Tried, Scan, Remainder, AwaitsValue, AwaitsLocation, ends, perform, in_names, turn, until, behind_pass}
+use Rattle.pfc_semantics.specs.Remainders.{next_pass, write_on, read_on, at_coend, part_from, write_again, go_through, try_guard, scan_on, try_other, begin_sum}
+use Rattle.pfc_semantics.specs.Remainders.{add_to, begin_product, multiply_by, compare_with, compare_to, invert, apply, index_into, pass_value, store_at}
+use Rattle.pfc_semantics.specs.Remainders.{choose, choose_arm, while_true, until_true, count_from, count_to, show, show_wide, pad, set_count, delay_with}
+use Rattle.pfc_semantics.specs.Remainders.{sleep_for, send_on, open_if, offer_value, offer_wait, pass_own, pass_other, read_for, assign_to, input_to}
+use Rattle.pfc_semantics.specs.Remainders.{pass_variable, ask_empty, activate_with, enter_with, initial_to, wait_at, signal_at, delay_at, resume_at, send_to}
+use Rattle.pfc_semantics.specs.Remainders.{receive_from, receive_into, offer_to, offer_from, offer_into, by_value, by_reference, to_process, to_entry, to_send}
+use Rattle.pfc_semantics.specs.Remainders.{to_receive, writes, turns, initials, bars, scans, passes}
 use Rattle.pfc_semantics.specs.Expressions.{from_summands, from_multipliers, from_selectors, from_indices}
 use Rattle.pfc_semantics.specs.Alternatives.{context, with_open, from_alternatives}
 use Rattle.pfc_semantics.specs.Statements.{from_stmt, from_until, from_bounds, from_width, shown_as, counting, again}
@@ -17,9 +24,11 @@ use Rattle.pfc_run_invariants.specs.Fitting.{FitsValue}
 use Rattle.pfc_run_invariants.specs.Remainders.{FitsEnv, FitsArgument, FitsBar, FitsWay, FitsRemainder, FitsAwaiting, FitsGoal, FitsAction, FitsDoing}
 use Rattle.pfc_run_invariants.proofs.Lists.{all_push}
 use Rattle.pfc_run_invariants.proofs.Numbers.{truth_fits, signed_fits, added_fits, multiplied_fits}
-use Rattle.pfc_run_invariants.proofs.Expressions.{either, ordinal_fits, number_on, element_on, call_fits, expr_fits, simple_fits, summands_fit, multipliers_fit, args_fit, selectors_fit, indices_fit}
+use Rattle.pfc_run_invariants.proofs.Expressions.{either, ordinal_fits, number_on, element_on, call_fits, expr_fits, simple_fits, summands_fit, multipliers_fit}
+use Rattle.pfc_run_invariants.proofs.Expressions.{args_fit, selectors_fit, indices_fit}
 use Rattle.pfc_run_invariants.proofs.Alternatives.{open_fits, seconds_fit, message_fits, receiver_fits, opened_fits, guard_fits, alternatives_fit}
-use Rattle.pfc_run_invariants.proofs.Statements.{width_fits, writes_fit, reads_fit, delay_fits, sent_fits, received_fits, pass_begins, bounds_fit, pass_fits, until_fits, stmt_fits, stmts_fit, arms_fit}
+use Rattle.pfc_run_invariants.proofs.Statements.{width_fits, writes_fit, reads_fit, delay_fits, sent_fits, received_fits, pass_begins, bounds_fit, pass_fits}
+use Rattle.pfc_run_invariants.proofs.Statements.{until_fits, stmt_fits, stmts_fit, arms_fit}
 use Rattle.pfc_semantics.specs.Configurations.{Mark}
 use Rattle.pfc_run_invariants.specs.Asked.{Asked, IsClosed}
 

@@ -11,7 +11,8 @@ use Rattle.pfc_values.specs.Inputs.{without_returns}
 use Rattle.pfc_semantics.specs.Store.{Store}
 use Rattle.pfc_semantics.specs.Programs.{Block, Program}
 use Rattle.pfc_semantics.specs.Remainders.{Remainder, in_names}
-use Rattle.pfc_semantics.specs.Configurations.{plain, Activity, Config, Effect, activity_of, body_of, initialising, main_activity, idle_activity, start, done_at, after}
+use Rattle.pfc_semantics.specs.Configurations.{plain, Activity, Config, Effect, activity_of, body_of, initialising, main_activity, idle_activity, start}
+use Rattle.pfc_semantics.specs.Configurations.{done_at, after}
 use Rattle.pfc_semantics.specs.Processes.{ended_activity, without_all}
 use Rattle.pfc_semantics.specs.Steps.{next_of, effect, line_of}
 use Rattle.pfc_semantics.specs.Events.{step}

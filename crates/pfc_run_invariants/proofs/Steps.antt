@@ -1,5 +1,6 @@
 -- What changes of configurations leave: activities, with the marks of their activations, and the store.
-use Rattle.std.proofs.Common.{◌≡◌, ◌≢◌, ℕ, zero, suc, ◌+◌, ◌==◌, Bool, true, false, if◌then◌else◌, List, [], ◌∷◌, get_or, set, Option, Some, None, Ok, Err, refl, ap, subst, arith}
+use Rattle.std.proofs.Common.{◌≡◌, ◌≢◌, ℕ, zero, suc, ◌+◌, ◌==◌, Bool, true, false, if◌then◌else◌, List, [], ◌∷◌, get_or, set, Option, Some, None, Ok, Err}
+use Rattle.std.proofs.Common.{refl, ap, subst, arith}
 use Rattle.std.specs.Prelude.{nat_le}
 use Rattle.std.specs.List.{AllByRecursion}
 use Rattle.pfc_base.specs.declared.faults.RunFault.TheVariants.{Stack}
@@ -12,7 +13,9 @@ use Rattle.pfc_semantics.specs.Displays.{Spot}
 use Rattle.pfc_semantics.specs.Programs.{Guard, Block, Program, found_block, block_at}
 use Rattle.pfc_semantics.specs.Remainders.{Context, Argument, by_value, by_reference, Remainder, AwaitsValue, ends}
 use Rattle.pfc_semantics.specs.Rewriting.{Doing, going, holding}
-use Rattle.pfc_semantics.specs.Configurations.{Mark, Caller, Activation, Activity, Hand, Config, Effect, body_of, nobody, activity_of, with_activity, doing_next, goes_on, holds, showing, location_for, value_for, written_for, passed, all_passed, with_table, with_counted, with_monitors, with_resources}
+use Rattle.pfc_semantics.specs.Configurations.{Mark, Caller, Activation, Activity, Hand, Config, Effect, body_of, nobody, activity_of, with_activity}
+use Rattle.pfc_semantics.specs.Configurations.{doing_next, goes_on, holds, showing, location_for, value_for, written_for, passed, all_passed, with_table}
+use Rattle.pfc_semantics.specs.Configurations.{with_counted, with_monitors, with_resources}
 use Rattle.pfc_semantics.specs.Calls.{most_cells, unless_full, new_number, new_values, activated, left_by}
 use Rattle.pfc_semantics.specs.Resources.{guarded_body}
 use Rattle.pfc_run_invariants.specs.Asked.{Asked, IsClosed}
@@ -21,7 +24,8 @@ use Rattle.pfc_run_invariants.specs.Remainders.{FitsEnv, FitsArgument, FitArgume
 use Rattle.pfc_run_invariants.proofs.Lists.{all_mapped}
 use Rattle.pfc_run_invariants.proofs.Statements.{behind_fits}
 use Rattle.pfc_run_invariants.proofs.Stores.{value_at_fits, stored_fits, without_fits, new_values_fit}
-use Rattle.pfc_run_invariants.specs.Configurations.{FitsGuard, FitsBlock, FitsProgram, marks_of, FitsCaller, FitActivations, FitsHand, FitsActivity, FitFrom, FitsConfig}
+use Rattle.pfc_run_invariants.specs.Configurations.{FitsGuard, FitsBlock, FitsProgram, marks_of, FitsCaller, FitActivations, FitsHand, FitsActivity, FitFrom}
+use Rattle.pfc_run_invariants.specs.Configurations.{FitsConfig}
 
 module _ (law : Asked) where
   abbrev pub FitsEffect : Effect → Type 0

@@ -3,7 +3,8 @@ use Rattle.std.proofs.Common.{ℕ, zero, suc, ◌+◌, pos, List, [], ◌∷◌,
 use Rattle.std.specs.Prelude.{◌==◌}
 use Rattle.pfc_types.specs.declared.scope.Meaning.{Meaning}
 use Rattle.pfc_types.specs.declared.scope.Meaning.TheVariants.{Variable}
-use Rattle.pfc_semantics.specs.Values.{Location, Value, Values, ordinal, compound, points, no_values, more_values, part_at, with_part_at, part_of, with_part_of, part, with_part, path_of}
+use Rattle.pfc_semantics.specs.Values.{Location, Value, Values, ordinal, compound, points, no_values, more_values, part_at, with_part_at, part_of, with_part_of}
+use Rattle.pfc_semantics.specs.Values.{part, with_part, path_of}
 use Rattle.pfc_semantics.specs.Store.{Store, values_in, variable, value_at, with_values, stored, without}
 use Rattle.pfc_semantics.specs.Objects.{first_laid}
 use Rattle.pfc_semantics.specs.Programs.{Block, Program}

@@ -2,7 +2,8 @@
 use Rattle.std.specs.Prelude.{◌≡◌, ℕ, ◌+◌, false, List, [], ◌∷◌, map, Option, Some, None}
 use Rattle.std.specs.List.{AllByRecursion}
 use Rattle.pfc_semantics.specs.Programs.{Guard, Block}
-use Rattle.pfc_semantics.specs.Configurations.{Mark, Caller, of_nobody, of_remainder, of_value, Activation, Hand, empty_hand, offering, asking, barred_at, Activity, Config}
+use Rattle.pfc_semantics.specs.Configurations.{Mark, Caller, of_nobody, of_remainder, of_value, Activation, Hand, empty_hand, offering, asking, barred_at}
+use Rattle.pfc_semantics.specs.Configurations.{Activity, Config}
 use Rattle.pfc_state.specs.Stands.{is_unfinished}
 use Rattle.pfc_world.specs.Tables.{at}
 use Rattle.pfc_types.specs.rules.Expressions.{Env}

@@ -1,11 +1,22 @@
 -- What is left of a text, with the numbers that were computed so far: all have 32 bits.
 use Rattle.std.specs.Prelude.{◌≡◌, ℕ, ◌+◌, false, List, ◌∷◌, Option, Some, None}
 use Rattle.std.specs.List.{AllByRecursion}
-use Rattle.pfc_semantics.specs.Remainders.{Count, Replica, Offer, Open, Alternative, Otherwise, Selecting, Bar, Way, Argument, Remainder, AwaitsValue, AwaitsLocation, Call, Action, to_send, to_receive, to_accept, to_wait, to_end, leave, own, by_value, by_reference, ends, perform, in_names, turn, until, behind_pass, next_pass, write_on, read_on, at_coend, part_from, write_again, go_through, try_guard, scan_on, try_other, begin_sum, add_to, begin_product, multiply_by, compare_with, compare_to, invert, apply, index_into, pass_value, store_at, choose, choose_arm, while_true, until_true, count_from, count_to, show, show_wide, pad, set_count, delay_with, sleep_for, send_on, open_if, offer_value, offer_wait, pass_own, pass_other, read_for, assign_to, input_to, pass_variable, ask_empty, activate_with, enter_with, initial_to, wait_at, signal_at, delay_at, resume_at, send_to, receive_from, receive_into, offer_to, offer_from, offer_into, to_procedure, to_function, to_module, to_requeue, to_process, to_entry, reads, writes, turns, calls, finishes, prints, inputs, skips, asks_eof, asks_eoln, asks_clock, asks_empty, draws, joins, initials, waits, signals, delays, resumes, sleeps, meets, decides, parts, scans, bars, passes, faults}
+use Rattle.pfc_semantics.specs.Remainders.{Count, Replica, Offer, Open, Alternative, Otherwise, Selecting, Bar, Way, Argument, Remainder, AwaitsValue}
+use Rattle.pfc_semantics.specs.Remainders.{AwaitsLocation, Call, Action, to_send, to_receive, to_accept, to_wait, to_end, leave, own, by_value, by_reference}
+use Rattle.pfc_semantics.specs.Remainders.{ends, perform, in_names, turn, until, behind_pass, next_pass, write_on, read_on, at_coend, part_from, write_again}
+use Rattle.pfc_semantics.specs.Remainders.{go_through, try_guard, scan_on, try_other, begin_sum, add_to, begin_product, multiply_by, compare_with, compare_to}
+use Rattle.pfc_semantics.specs.Remainders.{invert, apply, index_into, pass_value, store_at, choose, choose_arm, while_true, until_true, count_from, count_to}
+use Rattle.pfc_semantics.specs.Remainders.{show, show_wide, pad, set_count, delay_with, sleep_for, send_on, open_if, offer_value, offer_wait, pass_own}
+use Rattle.pfc_semantics.specs.Remainders.{pass_other, read_for, assign_to, input_to, pass_variable, ask_empty, activate_with, enter_with, initial_to, wait_at}
+use Rattle.pfc_semantics.specs.Remainders.{signal_at, delay_at, resume_at, send_to, receive_from, receive_into, offer_to, offer_from, offer_into, to_procedure}
+use Rattle.pfc_semantics.specs.Remainders.{to_function, to_module, to_requeue, to_process, to_entry, reads, writes, turns, calls, finishes, prints, inputs}
+use Rattle.pfc_semantics.specs.Remainders.{skips, asks_eof, asks_eoln, asks_clock, asks_empty, draws, joins, initials, waits, signals, delays, resumes, sleeps}
+use Rattle.pfc_semantics.specs.Remainders.{meets, decides, parts, scans, bars, passes, faults}
 use Rattle.pfc_semantics.specs.Statements.{is_past}
 use Rattle.pfc_semantics.specs.Rewriting.{Doing, going, holding}
 use Rattle.pfc_run_invariants.specs.Fitting.{Fits, FitsValue}
-use Rattle.pfc_run_invariants.specs.Written.{FitsExpr, FitsSimple, FitSummands, FitMultipliers, FitSelectors, FitExprs, FitActuals, FitsPerhaps, FitsTarget, FitsStmt, FitStmts, FitArms, FitsComm}
+use Rattle.pfc_run_invariants.specs.Written.{FitsExpr, FitsSimple, FitSummands, FitMultipliers, FitSelectors, FitExprs, FitActuals, FitsPerhaps, FitsTarget}
+use Rattle.pfc_run_invariants.specs.Written.{FitsStmt, FitStmts, FitArms, FitsComm}
 use Rattle.pfc_types.specs.rules.Expressions.{Env}
 use Rattle.pfc_types.specs.rules.Statements.{scopes_in, comm_scopes}
 use Rattle.pfc_semantics.specs.Programs.{block_at}

@@ -1,5 +1,6 @@
 -- No action but that of a `write` prints.
-use Rattle.std.proofs.Common.{◌≡◌, ℕ, ℤ, pos, negsuc, zero, suc, Bool, true, false, nat_le, List, [], ◌∷◌, ◌++◌, Option, Some, None, Result, Ok, Err, refl, sym, ◌∙◌}
+use Rattle.std.proofs.Common.{◌≡◌, ℕ, ℤ, pos, negsuc, zero, suc, Bool, true, false, nat_le, List, [], ◌∷◌, ◌++◌, Option, Some, None, Result, Ok, Err, refl, sym}
+use Rattle.std.proofs.Common.{◌∙◌}
 use Rattle.std.specs.Prelude.{◌+◌, ◌*◌, ◌/◌, if◌then◌else◌}
 use Rattle.std.proofs.lemmas.List.{append-nil}
 use Rattle.rand_pcg.specs.Lcg.{Lcg}
@@ -25,8 +26,13 @@ use Rattle.pfc_semantics.specs.Objects.{module_number}
 use Rattle.pfc_semantics.specs.Operators.{simple_of}
 use Rattle.pfc_semantics.specs.Displays.{Spot}
 use Rattle.pfc_semantics.specs.Programs.{Block, Program, block_at}
-use Rattle.pfc_semantics.specs.Remainders.{Context, Argument, Call, Remainder, AwaitsValue, Scan, Tried, Way, leave, own, to_procedure, to_function, to_module, to_requeue, to_process, to_entry, Action, reads, writes, turns, calls, finishes, prints, inputs, skips, asks_eof, asks_eoln, asks_clock, asks_empty, draws, joins, initials, waits, signals, delays, resumes, sleeps, meets, decides, parts, scans, bars, passes, faults}
-use Rattle.pfc_semantics.specs.Configurations.{Mark, plain, of_monitor, of_resource, Caller, of_nobody, of_remainder, of_value, Activation, Config, Effect, asking, activity_of, goes_on, showing, number_for, all_passed, with_table, counted, with_counted, monitors_held, with_monitors, resources_held, with_resources, body_of}
+use Rattle.pfc_semantics.specs.Remainders.{Context, Argument, Call, Remainder, AwaitsValue, Scan, Tried, Way, leave, own, to_procedure, to_function, to_module}
+use Rattle.pfc_semantics.specs.Remainders.{to_requeue, to_process, to_entry, Action, reads, writes, turns, calls, finishes, prints, inputs, skips, asks_eof}
+use Rattle.pfc_semantics.specs.Remainders.{asks_eoln, asks_clock, asks_empty, draws, joins, initials, waits, signals, delays, resumes, sleeps, meets, decides}
+use Rattle.pfc_semantics.specs.Remainders.{parts, scans, bars, passes, faults}
+use Rattle.pfc_semantics.specs.Configurations.{Mark, plain, of_monitor, of_resource, Caller, of_nobody, of_remainder, of_value, Activation, Config, Effect}
+use Rattle.pfc_semantics.specs.Configurations.{asking, activity_of, goes_on, showing, number_for, all_passed, with_table, counted, with_counted, monitors_held}
+use Rattle.pfc_semantics.specs.Configurations.{with_monitors, resources_held, with_resources, body_of}
 use Rattle.pfc_semantics.specs.Calls.{cells_above, most_cells, unless_full, activated}
 use Rattle.pfc_semantics.specs.Processes.{process_block, created, creates, joined}
 use Rattle.pfc_semantics.specs.Semaphores.{initials_at, signals_to}

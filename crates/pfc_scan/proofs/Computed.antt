@@ -1,5 +1,6 @@
 -- The computed cutting is the cutting of the text.
-use Rattle.std.proofs.Common.{◌≡◌, ℕ, zero, suc, ◌+◌, ◌-◌, ◌<◌, ◌≤◌, Bool, true, false, ◌&&◌, ◌||◌, ◌==◌, cond, if◌then◌else◌, inl, inr, List, [], ◌∷◌, length, take, drop, slice_index, Option, Some, None, codes, refl, sym, ap, ◌∙◌, arith}
+use Rattle.std.proofs.Common.{◌≡◌, ℕ, zero, suc, ◌+◌, ◌-◌, ◌<◌, ◌≤◌, Bool, true, false, ◌&&◌, ◌||◌, ◌==◌, cond, if◌then◌else◌, inl, inr, List, [], ◌∷◌, length}
+use Rattle.std.proofs.Common.{take, drop, slice_index, Option, Some, None, codes, refl, sym, ap, ◌∙◌, arith}
 use Rattle.std.specs.List.{prefix_len, starts_with}
 use Rattle.std.specs.Char.{is_ascii_digit}
 use Rattle.std.proofs.lemmas.Bool.{or_cases, and_parts, eqb-true}
@@ -15,8 +16,10 @@ use Rattle.pfc_scan.specs.declared.piece.Reading.{Reading}
 use Rattle.pfc_scan.specs.declared.piece.Reading.TheVariants.{Gap, Token, Refused}
 use Rattle.pfc_scan.specs.Pieces.{is_white, sign_number}
 use Rattle.pfc_scan.specs.Cutting.{Cutting, opens_comment, after, text_start, IsCut, IsCutFrom, ended, skipped, taken, barred, stuck}
-use Rattle.pfc_scan.specs.Finding.{first_of, IsNext, IsNextPiece, brace_close, star_close, quote_close, unquoted, double_number, fraction_len, power_len, scale_len, real_len}
-use Rattle.pfc_scan.specs.Computed.{comment_piece, literal_piece, number_piece, single_sign, sign_piece, piece_by, next_piece, cut_behind, cut_at, cut_from, cut}
+use Rattle.pfc_scan.specs.Finding.{first_of, IsNext, IsNextPiece, brace_close, star_close, quote_close, unquoted, double_number, fraction_len, power_len}
+use Rattle.pfc_scan.specs.Finding.{scale_len, real_len}
+use Rattle.pfc_scan.specs.Computed.{comment_piece, literal_piece, number_piece, single_sign, sign_piece, piece_by, next_piece, cut_behind, cut_at, cut_from}
+use Rattle.pfc_scan.specs.Computed.{cut}
 use Rattle.pfc_scan.proofs.Fronts.{white_next, word_next}
 use Rattle.pfc_scan.proofs.Closers.{brace_next, brace_none, star_next, star_none}
 use Rattle.pfc_scan.proofs.Quotes.{literal_next, literal_none}

@@ -1,5 +1,6 @@
 -- The first byte of a piece tells of which kind the piece is.
-use Rattle.std.proofs.Common.{◌≡◌, ℕ, ◌<◌, Bool, true, false, ◌==◌, cond, ◌⊎◌, inl, inr, List, [], ◌∷◌, ◌++◌, length, get_or, zero, suc, ap, refl, ◌∙◌, sym, subst, arith, codes}
+use Rattle.std.proofs.Common.{◌≡◌, ℕ, ◌<◌, Bool, true, false, ◌==◌, cond, ◌⊎◌, inl, inr, List, [], ◌∷◌, ◌++◌, length, get_or, zero, suc, ap, refl, ◌∙◌, sym}
+use Rattle.std.proofs.Common.{subst, arith, codes}
 use Rattle.std.specs.List.{list_all}
 use Rattle.std.specs.Char.{is_ascii_digit}
 use Rattle.std.specs.Str.{bytes_eq}
@@ -10,7 +11,8 @@ use Rattle.pfc_base.specs.Names.{is_letter, is_name_part}
 use Rattle.pfc_base.specs.declared.tokens.Kind.TheVariants.{Sign, Literal}
 use Rattle.pfc_scan.specs.declared.piece.Reading.{Reading}
 use Rattle.pfc_scan.specs.declared.piece.Reading.TheVariants.{Gap, Token, Refused}
-use Rattle.pfc_scan.specs.Pieces.{IsWhite, IsClosed, IsWord, IsNumber, IsReal, fraction, scaled, both, IsLiteral, IsSign, signs, is_white, word_reading, number_reading, Reads, white, comment, word, number, real, literal, sign}
+use Rattle.pfc_scan.specs.Pieces.{IsWhite, IsClosed, IsWord, IsNumber, IsReal, fraction, scaled, both, IsLiteral, IsSign, signs, is_white, word_reading}
+use Rattle.pfc_scan.specs.Pieces.{number_reading, Reads, white, comment, word, number, real, literal, sign}
 use Rattle.pfc_scan.specs.declared.piece.First.{First}
 use Rattle.pfc_scan.specs.declared.piece.First.TheVariants.{Blank, Brace, Quote, Letter, Digit, Mark}
 use Rattle.pfc_scan.specs.Finding.{first_of}

@@ -1,5 +1,6 @@
 -- A piece found at the front of a text is the longest there, or nothing begins.
-use Rattle.std.proofs.Common.{◌≡◌, ℕ, ◌<◌, ◌≤◌, Bool, true, false, ◌==◌, ◌⊎◌, inl, inr, List, [], ◌∷◌, ◌++◌, length, take, suc, slice_index, ap, refl, ◌∙◌, sym, subst, arith, codes}
+use Rattle.std.proofs.Common.{◌≡◌, ℕ, ◌<◌, ◌≤◌, Bool, true, false, ◌==◌, ◌⊎◌, inl, inr, List, [], ◌∷◌, ◌++◌, length, take, suc, slice_index, ap, refl, ◌∙◌, sym}
+use Rattle.std.proofs.Common.{subst, arith, codes}
 use Rattle.std.specs.List.{list_all, prefix_len, starts_with}
 use Rattle.std.proofs.lemmas.Bool.{or_cases, and_parts, eqb-true, or_left}
 use Rattle.std.proofs.lemmas.List.{take-append-drop, length-take-le}

@@ -1,5 +1,6 @@
 -- A text has one cutting: a piece has one reading, and a text one longest piece.
-use Rattle.std.proofs.Common.{◌≡◌, ◌≢◌, ℕ, ◌≤◌, ◌+◌, Bool, true, false, ◌||◌, ◌==◌, cond, inl, inr, Some, List, [], ◌∷◌, ◌++◌, length, ap, refl, ◌∙◌, sym, subst, arith, codes}
+use Rattle.std.proofs.Common.{◌≡◌, ◌≢◌, ℕ, ◌≤◌, ◌+◌, Bool, true, false, ◌||◌, ◌==◌, cond, inl, inr, Some, List, [], ◌∷◌, ◌++◌, length, ap, refl, ◌∙◌, sym}
+use Rattle.std.proofs.Common.{subst, arith, codes}
 use Rattle.std.specs.List.{list_all, prefix_len}
 use Rattle.std.specs.Char.{is_ascii_digit}
 use Rattle.std.proofs.lemmas.Bool.Decides.{nat_tests, Decides-eqb}

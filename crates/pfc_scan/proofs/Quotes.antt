@@ -1,5 +1,6 @@
 -- Literals at the front of a text.
-use Rattle.std.proofs.Common.{◌≡◌, ◌≢◌, ℕ, ◌<◌, ◌≤◌, ◌+◌, ◌-◌, Bool, true, false, not, ◌==◌, cond, Option, Some, None, List, [], ◌∷◌, ◌++◌, length, take, drop, get_or, add-one, drop-cons, suc, slice_index, ap, refl, ◌∙◌, sym, subst, arith}
+use Rattle.std.proofs.Common.{◌≡◌, ◌≢◌, ℕ, ◌<◌, ◌≤◌, ◌+◌, ◌-◌, Bool, true, false, not, ◌==◌, cond, Option, Some, None, List, [], ◌∷◌, ◌++◌, length, take, drop}
+use Rattle.std.proofs.Common.{get_or, add-one, drop-cons, suc, slice_index, ap, refl, ◌∙◌, sym, subst, arith}
 use Rattle.std.specs.List.{list_all}
 use Rattle.std.specs.Prelude.{option_map, unwrap_or, IfSome}
 use Rattle.std.proofs.lemmas.Bool.{and_parts, and_from, eqb-true, cond-false}

@@ -5,7 +5,8 @@ use Rattle.pfc_base.specs.declared.places.Place.{Place}
 use Rattle.pfc_base.specs.declared.tokens.Kind.{Kind}
 use Rattle.pfc_base.specs.declared.tokens.Token.{Token}
 use Rattle.pfc_scan.specs.declared.piece.Reading.TheVariants as reading
-use Rattle.pfc_scan.specs.Cutting.{BeginsLongest, NothingBegins, Cutting, tokens, refusal, with_token, IsCutFrom, ended, skipped, taken, barred, stuck, IsCut, text_start, after, cause_of}
+use Rattle.pfc_scan.specs.Cutting.{BeginsLongest, NothingBegins, Cutting, tokens, refusal, with_token, IsCutFrom, ended, skipped, taken, barred, stuck, IsCut}
+use Rattle.pfc_scan.specs.Cutting.{text_start, after, cause_of}
 
 -- these tokens before those of a cutting
 abbrev pub with_tokens : List Token → Cutting → Cutting

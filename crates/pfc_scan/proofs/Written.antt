@@ -1,5 +1,6 @@
 -- What is between the tokens of a cutting.
-use Rattle.std.proofs.Common.{◌≡◌, ◌≢◌, ℕ, ◌⊎◌, inl, inr, Bool, true, false, cond, Option, Some, None, List, [], ◌∷◌, ◌++◌, length, nat_lt, pos, codes, ap, refl, ◌∙◌, sym, subst}
+use Rattle.std.proofs.Common.{◌≡◌, ◌≢◌, ℕ, ◌⊎◌, inl, inr, Bool, true, false, cond, Option, Some, None, List, [], ◌∷◌, ◌++◌, length, nat_lt, pos, codes, ap}
+use Rattle.std.proofs.Common.{refl, ◌∙◌, sym, subst}
 use Rattle.std.specs.Str.{bytes_eq, str_to_ascii_lowercase}
 use Rattle.std.specs.Str.Parse.{digits_value}
 use Rattle.std.proofs.lemmas.List.{append_assoc}
@@ -9,8 +10,10 @@ use Rattle.pfc_base.specs.declared.tokens.Kind.TheVariants.{Word, Name, Number}
 use Rattle.pfc_base.specs.declared.tokens.Token.{Token}
 use Rattle.pfc_scan.specs.declared.piece.Reading.{Reading}
 use Rattle.pfc_scan.specs.declared.piece.Reading.TheVariants as reading
-use Rattle.pfc_scan.specs.Pieces.{IsWhite, IsComment, Reads, white, comment, word, number, real, literal, sign, name_reading, numbered_reading, number_reading, word_number}
-use Rattle.pfc_scan.specs.Cutting.{after, after_byte, Cutting, tokens, refusal, with_token, IsCutFrom, ended, skipped, taken, barred, stuck, nothing, more, IsWritten}
+use Rattle.pfc_scan.specs.Pieces.{IsWhite, IsComment, Reads, white, comment, word, number, real, literal, sign, name_reading, numbered_reading, number_reading}
+use Rattle.pfc_scan.specs.Pieces.{word_number}
+use Rattle.pfc_scan.specs.Cutting.{after, after_byte, Cutting, tokens, refusal, with_token, IsCutFrom, ended, skipped, taken, barred, stuck, nothing, more}
+use Rattle.pfc_scan.specs.Cutting.{IsWritten}
 
 -- ---- what reads as a gap is white space or a comment
 

@@ -1,5 +1,6 @@
 -- The deciding action of a select. Its alternatives are those that its activation has made since its last select.
-use Rattle.std.specs.Prelude.{ℕ, zero, suc, ◌+◌, ◌==◌, is_some, if◌then◌else◌, ℤ, List, [], ◌∷◌, take, set, length, slice_get, Option, None, Some, Result, Ok, Err}
+use Rattle.std.specs.Prelude.{ℕ, zero, suc, ◌+◌, ◌==◌, is_some, if◌then◌else◌, ℤ, List, [], ◌∷◌, take, set, length, slice_get, Option, None, Some, Result, Ok}
+use Rattle.std.specs.Prelude.{Err}
 use Rattle.pfc_base.specs.declared.faults.RunFault.{RunFault}
 use Rattle.pfc_base.specs.declared.faults.RunFault.TheVariants.{Closed}
 use Rattle.pfc_state.specs.declared.waits.Arm.{Arm}

@@ -1,5 +1,6 @@
 -- Open alternatives that are led to their branches have the code that the definition gives.
-use Rattle.std.proofs.Common.{◌≡◌, ◌≤◌, ℕ, ◌+◌, ◌-◌, ◌++◌, ◌∙◌, ◌&&◌, Bool, true, if◌then◌else◌, max, List, [], ◌∷◌, length, drop, refl, sym, ap, ap₂, arith, append_assoc, length-append, Option, Some, None}
+use Rattle.std.proofs.Common.{◌≡◌, ◌≤◌, ℕ, ◌+◌, ◌-◌, ◌++◌, ◌∙◌, ◌&&◌, Bool, true, if◌then◌else◌, max, List, [], ◌∷◌, length, drop, refl, sym, ap, ap₂, arith}
+use Rattle.std.proofs.Common.{append_assoc, length-append, Option, Some, None}
 use Rattle.pfc_tree.specs.Symbols.{Text}
 use Rattle.pfc_tree.specs.trees.Exprs.{ExprTree, DesigTree}
 use Rattle.pfc_tree.specs.trees.Stmts.{AcceptTree, CommTree, comm_accept, comm_send, comm_receive, timeout, terminate}
@@ -11,7 +12,8 @@ use Rattle.pfc_emit.proofs.Patches.{length-patched}
 use Rattle.pfc_translation.specs.Sites.{Site, context_of}
 use Rattle.pfc_translation.specs.Codes.{Code, Lined, nothing, ◌⨾◌, one, over, with_arms}
 use Rattle.pfc_translation.specs.Expressions.{expr_code, object_code}
-use Rattle.pfc_translation.specs.Selects.{message_code, message_cells, receiver_code, receiver_cells, entry_of, accept_cell, accept_cells, replica_code, comm_code, guarded_code, alternatives_code}
+use Rattle.pfc_translation.specs.Selects.{message_code, message_cells, receiver_code, receiver_cells, entry_of, accept_cell, accept_cells, replica_code}
+use Rattle.pfc_translation.specs.Selects.{comm_code, guarded_code, alternatives_code}
 use Rattle.pfc_translation.specs.Statements.{sel_code}
 use Rattle.pfc_expression_code.specs.Putting.{Made, IsMade}
 use Rattle.pfc_expression_code.proofs.Putting.{expr_listed, desig_listed, object_listed}

@@ -1,5 +1,6 @@
 -- Instructions that are led one after the other.
-use Rattle.std.proofs.Common.{◌≡◌, ◌<◌, ◌≤◌, ℕ, zero, suc, ◌+◌, ◌&&◌, Bool, true, false, List, [], ◌∷◌, length, drop, get_or, min, refl, sym, ap, ap₂, ◌∙◌, arith, Option, Some, None}
+use Rattle.std.proofs.Common.{◌≡◌, ◌<◌, ◌≤◌, ℕ, zero, suc, ◌+◌, ◌&&◌, Bool, true, false, List, [], ◌∷◌, length, drop, get_or, min, refl, sym, ap, ap₂, ◌∙◌}
+use Rattle.std.proofs.Common.{arith, Option, Some, None}
 use Rattle.std.proofs.lemmas.List.{drop_more}
 use Rattle.pfc_emit.specs.Patches.{has_address_at, patched}
 use Rattle.pfc_emit.proofs.Patches.{has_address_at-patched}

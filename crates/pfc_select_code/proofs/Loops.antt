@@ -1,5 +1,6 @@
 -- Code that is made one part after the other, by what is still to come.
-use Rattle.std.proofs.Common.{◌≡◌, ◌<◌, ℕ, ◌+◌, ◌-◌, ◌*◌, ℤ, pos, ◌+ℤ◌, max, List, [], ◌∷◌, ◌++◌, length, map, drop, get_or, refl, sym, ap, ap₂, subst, ◌∙◌, arith, append_assoc, Option, Some, None}
+use Rattle.std.proofs.Common.{◌≡◌, ◌<◌, ℕ, ◌+◌, ◌-◌, ◌*◌, ℤ, pos, ◌+ℤ◌, max, List, [], ◌∷◌, ◌++◌, length, map, drop, get_or, refl, sym, ap, ap₂, subst, ◌∙◌}
+use Rattle.std.proofs.Common.{arith, append_assoc, Option, Some, None}
 use Rattle.std.proofs.lemmas.List.{drop_more}
 use Rattle.pfc_tree.specs.Symbols.{Text}
 use Rattle.pfc_tree.specs.declared.tree.Alt.{Alt}
@@ -16,7 +17,8 @@ use Rattle.pfc_translation.specs.Selects.{replica_code, guarded_code}
 use Rattle.pfc_translation.specs.Statements.{chosen_code}
 use Rattle.pfc_expression_code.specs.Putting.{Made, IsMade, IsTooLarge}
 use Rattle.pfc_expression_code.proofs.Joining.{made_both, large_first, large_second}
-use Rattle.pfc_select_code.specs.Alternatives.{open_comm, open_one, open_alternative, open_alternatives, open_each, open_alt, arm_place, arm_places, each_places, alt_places}
+use Rattle.pfc_select_code.specs.Alternatives.{open_comm, open_one, open_alternative, open_alternatives, open_each, open_alt, arm_place, arm_places}
+use Rattle.pfc_select_code.specs.Alternatives.{each_places, alt_places}
 use Rattle.pfc_select_code.specs.Values.{spread_spot, at_value, at_values}
 use Rattle.pfc_select_code.proofs.Same.{SameCode, same_refl, same_trans, same_both, same_assoc, same_behind_nothing, made_same, large_same}
 use Rattle.pfc_select_code.proofs.Values.{from_next, over_made, chosen_size}

@@ -9,7 +9,8 @@ use Rattle.pfc_tree.specs.declared.tree.Alt.{Alt, out-Alt, fold_out-Alt}
 use Rattle.pfc_tree.specs.trees.Types.{GroupTree}
 use Rattle.pfc_tree.specs.trees.Stmts.{CommTree, StmtTree, AcceptTree, AltTree, BodyTree, ArmTree, alt}
 use Rattle.pfc_tree.specs.views.Exprs.{expr_view}
-use Rattle.pfc_tree.specs.views.Stmts.{accept_of, accept_view, alt_view, comm_view, stmts_view, comm_step, stmt_step, accept_step, alt_step, body_step, arm_step}
+use Rattle.pfc_tree.specs.views.Stmts.{accept_of, accept_view, alt_view, comm_view, stmts_view, comm_step, stmt_step, accept_step, alt_step, body_step}
+use Rattle.pfc_tree.specs.views.Stmts.{arm_step}
 use Rattle.pfc_types.specs.Scopes.{meaning_of}
 use Rattle.pfc_types.specs.rules.Expressions.{find}
 use Rattle.pfc_semantics.specs.Alternatives.{entry_number}

@@ -1,5 +1,6 @@
 -- Cells and variables, counted name by name.
-use Rattle.std.proofs.Common.{◌≡◌, ◌<◌, ℕ, ◌+◌, ◌-◌, suc, Bool, true, false, if◌then◌else◌, List, length, get_or, take, drop, refl, sym, ap, ◌∙◌, arith, [], length-append}
+use Rattle.std.proofs.Common.{◌≡◌, ◌<◌, ℕ, ◌+◌, ◌-◌, suc, Bool, true, false, if◌then◌else◌, List, length, get_or, take, drop, refl, sym, ap, ◌∙◌, arith, []}
+use Rattle.std.proofs.Common.{length-append}
 use Rattle.std.proofs.lemmas.List.{drop_more}
 use Rattle.std.proofs.lemmas.List.Sums.{sum_by-cons}
 use Rattle.pfc_tree.specs.Symbols.{Text}

@@ -9,7 +9,8 @@ use Rattle.pfc_semantics.specs.Alternatives.{message_of, receiver_of}
 use Rattle.pfc_translation.specs.Sites.{Site, context_of}
 use Rattle.pfc_translation.specs.Codes.{Code, nothing, ◌⨾◌, one}
 use Rattle.pfc_translation.specs.Expressions.{expr_code, object_code}
-use Rattle.pfc_translation.specs.Selects.{message_code, message_cells, receiver_code, receiver_cells, entry_of, accept_cell, accept_cells, replica_code, guarded_code}
+use Rattle.pfc_translation.specs.Selects.{message_code, message_cells, receiver_code, receiver_cells, entry_of, accept_cell, accept_cells, replica_code}
+use Rattle.pfc_translation.specs.Selects.{guarded_code}
 use Rattle.pfc_translation.specs.Statements.{spread_replicas}
 
 -- what an alternative waits for, and its ARM

@@ -8,7 +8,8 @@ use Rattle.pfc_types.specs.rules.Statements.{comm_scopes}
 use Rattle.pfc_semantics.specs.Remainders as remainders
 use Rattle.pfc_semantics.specs.Remainders.{Context, Action, offer_to, offer_from, offer_wait}
 use Rattle.pfc_semantics.specs.Expressions.{from_expr, from_desig}
-use Rattle.pfc_semantics.specs.Alternatives.{replicas, alternative, with_open, from_alternatives, from_guard, from_comm, from_message, from_receiver, from_seconds, message_of, receiver_of}
+use Rattle.pfc_semantics.specs.Alternatives.{replicas, alternative, with_open, from_alternatives, from_guard, from_comm, from_message, from_receiver}
+use Rattle.pfc_semantics.specs.Alternatives.{from_seconds, message_of, receiver_of}
 use Rattle.pfc_pending.specs.Selects.{alternative_view, rest_view, select_view, guard_of, comm_of, behind_of}
 use Rattle.pfc_pending.specs.Waiting.{Waiting, remainder_of}
 use Rattle.pfc_pending.specs.declared.select.Alternative.{Alternative}

@@ -7,7 +7,8 @@ use Rattle.std.specs.Prelude.{ℕ, zero, suc, ◌+◌, ℤ, pos, ◌+ℤ◌, int
 use Rattle.pfc_base.specs.declared.faults.RunFault.TheVariants.{Below}
 use Rattle.pfc_tree.specs.declared.tree.Spread.{Spread}
 use Rattle.pfc_tree.specs.trees.Exprs.{ExprTree, DesigTree}
-use Rattle.pfc_tree.specs.trees.Stmts.{StmtTrees, AcceptTree, AltTrees, CommTree, empty, accept, accept_do, alt, no_alts, more_alts, comm_accept, comm_send, comm_receive, timeout, terminate}
+use Rattle.pfc_tree.specs.trees.Stmts.{StmtTrees, AcceptTree, AltTrees, CommTree, empty, accept, accept_do, alt, no_alts, more_alts, comm_accept, comm_send}
+use Rattle.pfc_tree.specs.trees.Stmts.{comm_receive, timeout, terminate}
 use Rattle.pfc_types.specs.Types.{extent}
 use Rattle.pfc_types.specs.Scopes.{meaning_of}
 use Rattle.pfc_types.specs.rules.Constants.{Ordinal, constant_value}
@@ -18,7 +19,9 @@ use Rattle.pfc_types.specs.declared.scope.Meaning.TheVariants.{Entry}
 use Rattle.pfc_values.specs.Numbers.{is_true}
 use Rattle.pfc_semantics.specs.Values.{Value, ordinal, ordinal_of}
 use Rattle.pfc_semantics.specs.Displays.{Spot}
-use Rattle.pfc_semantics.specs.Remainders.{Context, Replica, Accepting, Offer, Open, Alternative, Selecting, Remainder, Action, to_send, to_receive, to_accept, to_wait, to_end, go_through, open_if, offer_value, offer_wait, offer_to, offer_from, offer_into, writes, decides, faults}
+use Rattle.pfc_semantics.specs.Remainders.{Context, Replica, Accepting, Offer, Open, Alternative, Selecting, Remainder, Action, to_send, to_receive, to_accept}
+use Rattle.pfc_semantics.specs.Remainders.{to_wait, to_end, go_through, open_if, offer_value, offer_wait, offer_to, offer_from, offer_into, writes, decides}
+use Rattle.pfc_semantics.specs.Remainders.{faults}
 use Rattle.pfc_semantics.specs.Expressions.{spot_of, from_expr, from_desig}
 
 abbrev pub context : Env → ℕ → Context

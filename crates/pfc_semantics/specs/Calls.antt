@@ -9,7 +9,8 @@ use Rattle.pfc_semantics.specs.Displays.{Frame, Display, outward}
 use Rattle.pfc_semantics.specs.Programs.{Block, Program}
 use Rattle.pfc_semantics.specs.Remainders.{Argument, Remainder}
 use Rattle.pfc_semantics.specs.Rewriting.{Doing, going}
-use Rattle.pfc_semantics.specs.Configurations.{Mark, plain, Caller, Activation, Activity, Config, Effect, activity_of, with_activity, all_passed, at_work, body_of}
+use Rattle.pfc_semantics.specs.Configurations.{Mark, plain, Caller, Activation, Activity, Config, Effect, activity_of, with_activity, all_passed, at_work}
+use Rattle.pfc_semantics.specs.Configurations.{body_of}
 use Rattle.pfc_types.specs.declared.heads.SubHead.{SubHead}
 
 -- ## Cells

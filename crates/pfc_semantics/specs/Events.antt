@@ -10,8 +10,11 @@ use Rattle.pfc_semantics.specs.Values.{Location, Value, points}
 use Rattle.pfc_semantics.specs.Objects.{module_number}
 use Rattle.pfc_semantics.specs.Displays.{Frame, Spot, frame_of}
 use Rattle.pfc_semantics.specs.Programs.{Program}
-use Rattle.pfc_semantics.specs.Remainders.{Accepting, Offer, Open, Argument, Call, Action, to_send, to_receive, to_accept, to_wait, to_end, to_module, to_requeue, to_entry, reads, writes, calls, finishes, inputs, asks_empty, initials, waits, signals, delays, resumes, meets, decides, parts, scans, bars, passes}
-use Rattle.pfc_semantics.specs.Configurations.{Mark, plain, of_monitor, of_resource, Activation, Config, Effect, activity_of, location_for, number_for, all_passed, after}
+use Rattle.pfc_semantics.specs.Remainders.{Accepting, Offer, Open, Argument, Call, Action, to_send, to_receive, to_accept, to_wait, to_end, to_module}
+use Rattle.pfc_semantics.specs.Remainders.{to_requeue, to_entry, reads, writes, calls, finishes, inputs, asks_empty, initials, waits, signals, delays, resumes}
+use Rattle.pfc_semantics.specs.Remainders.{meets, decides, parts, scans, bars, passes}
+use Rattle.pfc_semantics.specs.Configurations.{Mark, plain, of_monitor, of_resource, Activation, Config, Effect, activity_of, location_for, number_for}
+use Rattle.pfc_semantics.specs.Configurations.{all_passed, after}
 use Rattle.pfc_semantics.specs.Channels.{Side, arm_of, side_of}
 use Rattle.pfc_semantics.specs.Rendezvous.{asked}
 use Rattle.pfc_semantics.specs.Selects.{partner_at, matched_places, open_at, place_taken}

@@ -6,7 +6,10 @@
 use Rattle.std.specs.Prelude.{ℕ, ℤ, pos, ◌-ℤ◌, nat_abs, int_le, ◌&&◌, if◌then◌else◌, List, [], ◌∷◌, ◌++◌, length, Option, Some, None, Ok, Err}
 use Rattle.pfc_base.specs.declared.faults.RunFault.TheVariants.{Index}
 use Rattle.pfc_tree.specs.Symbols.{Text}
-use Rattle.pfc_tree.specs.trees.Exprs.{ExprTree, SimpleTree, SummandTrees, TermTree, MultiplierTrees, FactorTree, DesigTree, SelectorTrees, ExprTrees, ActualTree, ActualTrees, plain, related, sum, no_summands, more_summands, product, no_multipliers, more_multipliers, number, literal, negation, paren, applied as used, desig, index, field, no_selectors, more_selectors, no_exprs, more_exprs, actual, actual_width, no_actuals, more_actuals}
+use Rattle.pfc_tree.specs.trees.Exprs.{ExprTree, SimpleTree, SummandTrees, TermTree, MultiplierTrees, FactorTree, DesigTree, SelectorTrees, ExprTrees}
+use Rattle.pfc_tree.specs.trees.Exprs.{ActualTree, ActualTrees, plain, related, sum, no_summands, more_summands, product, no_multipliers, more_multipliers}
+use Rattle.pfc_tree.specs.trees.Exprs.{number, literal, negation, paren, applied as used, desig, index, field, no_selectors, more_selectors, no_exprs}
+use Rattle.pfc_tree.specs.trees.Exprs.{more_exprs, actual, actual_width, no_actuals, more_actuals}
 use Rattle.pfc_types.specs.Types.{Forms, form_of}
 use Rattle.pfc_types.specs.Fields.{position_of}
 use Rattle.pfc_types.specs.Scopes.{meaning_of}
@@ -27,7 +30,9 @@ use Rattle.pfc_semantics.specs.Layouts.{variable_place}
 use Rattle.pfc_semantics.specs.Displays.{Spot, TypedSpot, within}
 use Rattle.pfc_semantics.specs.Operators.{signed, added, multiplied, compared, applied, simple_of}
 use Rattle.pfc_semantics.specs.Predeclared.{Function, eof, eoln, empty, clock, random, function_of}
-use Rattle.pfc_semantics.specs.Remainders.{Context, Argument, by_value, by_reference, AwaitsValue, AwaitsLocation, Call, Action, begin_sum, add_to, begin_product, multiply_by, compare_with, compare_to, invert, apply, index_into, pass_value, read_for, pass_variable, ask_empty, to_function, reads, calls, asks_eof, asks_eoln, asks_clock, asks_empty, draws, faults}
+use Rattle.pfc_semantics.specs.Remainders.{Context, Argument, by_value, by_reference, AwaitsValue, AwaitsLocation, Call, Action, begin_sum, add_to}
+use Rattle.pfc_semantics.specs.Remainders.{begin_product, multiply_by, compare_with, compare_to, invert, apply, index_into, pass_value, read_for, pass_variable}
+use Rattle.pfc_semantics.specs.Remainders.{ask_empty, to_function, reads, calls, asks_eof, asks_eoln, asks_clock, asks_empty, draws, faults}
 
 -- on with the number that an operator gives, or the fault in which its evaluation ended: a fault is an action of its own
 abbrev pub with_number : Context → Outcome → (Value → Action) → Action

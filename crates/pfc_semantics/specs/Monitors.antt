@@ -11,7 +11,8 @@ use Rattle.pfc_semantics.specs.Values.{ordinal}
 use Rattle.pfc_semantics.specs.Displays.{Spot}
 use Rattle.pfc_semantics.specs.Programs.{Block, Program}
 use Rattle.pfc_semantics.specs.Remainders.{Context, Argument, Remainder, AwaitsValue}
-use Rattle.pfc_semantics.specs.Configurations.{Mark, Caller, Config, Effect, plain, of_monitor, of_resource, activity_of, goes_on, holds, number_for, monitors_held, with_monitors, body_of}
+use Rattle.pfc_semantics.specs.Configurations.{Mark, Caller, Config, Effect, plain, of_monitor, of_resource, activity_of, goes_on, holds, number_for}
+use Rattle.pfc_semantics.specs.Configurations.{monitors_held, with_monitors, body_of}
 use Rattle.pfc_semantics.specs.Calls.{cells_above, unless_full, activated}
 
 -- A call from outside makes the activation and asks to enter, in one action: a free monitor is the caller's, else it waits.

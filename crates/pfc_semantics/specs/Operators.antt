@@ -11,7 +11,8 @@ use Rattle.pfc_tree.specs.declared.tree.AddOp.TheVariants.{Add, Sub, Or}
 use Rattle.pfc_tree.specs.declared.tree.MulOp.{MulOp}
 use Rattle.pfc_tree.specs.declared.tree.MulOp.TheVariants.{Mul, Div, Mod, And}
 use Rattle.pfc_types.specs.declared.types.TypeId.{TypeId}
-use Rattle.pfc_values.specs.Numbers.{Outcome, negative_of, sum_of, difference_of, product_of, quotient_of, remainder_of, magnitude_of, square_of, truth, both_of, either_of, is_odd, char_of, next_of, before_of}
+use Rattle.pfc_values.specs.Numbers.{Outcome, negative_of, sum_of, difference_of, product_of, quotient_of, remainder_of, magnitude_of, square_of, truth}
+use Rattle.pfc_values.specs.Numbers.{both_of, either_of, is_odd, char_of, next_of, before_of}
 use Rattle.pfc_values.specs.declared.simple.Simple.{Simple}
 use Rattle.pfc_values.specs.declared.simple.Simple.TheVariants.{Integer, Boolean, Char}
 use Rattle.pfc_semantics.specs.Predeclared.{Function, abs, sqr, odd, ord, chr, succ, pred, eof, eoln, empty, clock, random, no_function}

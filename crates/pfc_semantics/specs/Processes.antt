@@ -13,7 +13,8 @@ use Rattle.pfc_semantics.specs.Displays.{Spot, Display, accept_frames}
 use Rattle.pfc_semantics.specs.Programs.{Block, Program}
 use Rattle.pfc_semantics.specs.Remainders.{Context, Argument, Remainder}
 use Rattle.pfc_semantics.specs.Rewriting.{going}
-use Rattle.pfc_semantics.specs.Configurations.{Activation, Activity, Config, Effect, plain, of_nobody, activity_of, with_activity, with_table, at_work, goes_on, number_for, all_passed, body_of, declared_block, empty_hand}
+use Rattle.pfc_semantics.specs.Configurations.{Activation, Activity, Config, Effect, plain, of_nobody, activity_of, with_activity, with_table, at_work, goes_on}
+use Rattle.pfc_semantics.specs.Configurations.{number_for, all_passed, body_of, declared_block, empty_hand}
 use Rattle.pfc_semantics.specs.Calls.{new_number, new_values, own_frame, new_activation, cells_above, unless_full}
 
 -- ## Activation

@@ -2,14 +2,16 @@
 use Rattle.std.specs.Prelude.{ℕ, ◌+◌, ◌==◌, false, true, Bool, if◌then◌else◌, List, [], ◌∷◌, ◌++◌, take, drop, sum_by, position, Option, Some, None, unwrap_or}
 use Rattle.pfc_tree.specs.trees.Exprs.{ExprTree}
 use Rattle.pfc_tree.specs.trees.Stmts.{StmtTrees, BodyTree, body}
-use Rattle.pfc_tree.specs.trees.Parts.{KindTree, PartTree, PartTrees, SubTree, ModuleTree, ProcessTree, ProgramTree, procedure, function, guarded, consts, types, vars, sub_part, monitor, resource, process_part, no_parts, more_parts, sub, the_module, process}
+use Rattle.pfc_tree.specs.trees.Parts.{KindTree, PartTree, PartTrees, SubTree, ModuleTree, ProcessTree, ProgramTree, procedure, function, guarded, consts}
+use Rattle.pfc_tree.specs.trees.Parts.{types, vars, sub_part, monitor, resource, process_part, no_parts, more_parts, sub, the_module, process}
 use Rattle.pfc_types.specs.Types.{Forms}
 use Rattle.pfc_types.specs.Scopes.{Level, scope_at, here}
 use Rattle.pfc_types.specs.Blocks.{State}
 use Rattle.pfc_types.specs.rules.Expressions.{Env}
 use Rattle.pfc_types.specs.rules.Statements.{body_scopes}
 use Rattle.pfc_types.specs.rules.Declarations.{name_cells}
-use Rattle.pfc_types.specs.rules.Bodies.{env_at, around_main, around_nothing, around_process, around_sub, around_guard, passed, passed_part, passed_groups, passed_entries, part_scopes, parts_scopes, level}
+use Rattle.pfc_types.specs.rules.Bodies.{env_at, around_main, around_nothing, around_process, around_sub, around_guard, passed, passed_part, passed_groups}
+use Rattle.pfc_types.specs.rules.Bodies.{passed_entries, part_scopes, parts_scopes, level}
 use Rattle.pfc_types.specs.rules.Whole.{finished}
 use Rattle.pfc_semantics.specs.Values.{Value}
 use Rattle.pfc_semantics.specs.Layouts.{Layout, main_layout, sub_layout_at, process_layout}

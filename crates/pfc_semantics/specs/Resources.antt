@@ -8,7 +8,8 @@ use Rattle.pfc_semantics.specs.Store.{with_room, without}
 use Rattle.pfc_semantics.specs.Programs.{Guard, Block, Program, block_number}
 use Rattle.pfc_semantics.specs.Remainders.{Context, Bar, Way, Scan, Tried, Argument, Remainder, leave, own, in_names, try_guard, scan_on, try_other}
 use Rattle.pfc_semantics.specs.Rewriting.{going}
-use Rattle.pfc_semantics.specs.Configurations.{Mark, Caller, Hand, Activation, Config, Effect, of_resource, barred_at, activity_of, with_activity, at_work, goes_on, showing, all_passed, resources_held, with_resources, body_of}
+use Rattle.pfc_semantics.specs.Configurations.{Mark, Caller, Hand, Activation, Config, Effect, of_resource, barred_at, activity_of, with_activity, at_work}
+use Rattle.pfc_semantics.specs.Configurations.{goes_on, showing, all_passed, resources_held, with_resources, body_of}
 use Rattle.pfc_semantics.specs.Calls.{cells_above, unless_full, new_number, new_values, new_display, activated}
 
 -- ## Guards

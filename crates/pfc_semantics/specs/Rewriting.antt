@@ -10,10 +10,20 @@ use Rattle.pfc_values.specs.Numbers.{inverse_of, is_true}
 use Rattle.pfc_semantics.specs.Values.{Value, ordinal, ordinal_of}
 use Rattle.pfc_semantics.specs.Displays.{TypedSpot}
 use Rattle.pfc_semantics.specs.Operators.{signed, added, multiplied, compared}
-use Rattle.pfc_semantics.specs.Remainders.{Context, Tried, Scan, Remainder, AwaitsValue, AwaitsLocation, Action, ends, perform, in_names, turn, until, behind_pass, next_pass, write_on, read_on, at_coend, part_from, write_again, go_through, try_guard, scan_on, try_other, begin_sum, add_to, begin_product, multiply_by, compare_with, compare_to, invert, apply, index_into, pass_value, store_at, choose, choose_arm, while_true, until_true, count_from, count_to, show, show_wide, pad, set_count, delay_with, sleep_for, send_on, open_if, offer_value, offer_wait, pass_own, pass_other, read_for, assign_to, input_to, pass_variable, ask_empty, activate_with, enter_with, initial_to, wait_at, signal_at, delay_at, resume_at, send_to, receive_from, receive_into, offer_to, offer_from, offer_into, by_value, by_reference, to_process, to_entry, to_send, to_receive, reads, writes, turns, finishes, prints, inputs, asks_empty, joins, initials, waits, signals, delays, resumes, sleeps, meets, parts, scans, bars, passes}
-use Rattle.pfc_semantics.specs.Expressions.{with_number, with_element, element_spot, finish_call, from_expr, from_simple, from_summands, from_multipliers, from_selectors, from_indices, from_args}
+use Rattle.pfc_semantics.specs.Remainders.{Context, Tried, Scan, Remainder, AwaitsValue, AwaitsLocation, Action, ends, perform, in_names, turn, until}
+use Rattle.pfc_semantics.specs.Remainders.{behind_pass, next_pass, write_on, read_on, at_coend, part_from, write_again, go_through, try_guard, scan_on}
+use Rattle.pfc_semantics.specs.Remainders.{try_other, begin_sum, add_to, begin_product, multiply_by, compare_with, compare_to, invert, apply, index_into}
+use Rattle.pfc_semantics.specs.Remainders.{pass_value, store_at, choose, choose_arm, while_true, until_true, count_from, count_to, show, show_wide, pad}
+use Rattle.pfc_semantics.specs.Remainders.{set_count, delay_with, sleep_for, send_on, open_if, offer_value, offer_wait, pass_own, pass_other, read_for}
+use Rattle.pfc_semantics.specs.Remainders.{assign_to, input_to, pass_variable, ask_empty, activate_with, enter_with, initial_to, wait_at, signal_at, delay_at}
+use Rattle.pfc_semantics.specs.Remainders.{resume_at, send_to, receive_from, receive_into, offer_to, offer_from, offer_into, by_value, by_reference, to_process}
+use Rattle.pfc_semantics.specs.Remainders.{to_entry, to_send, to_receive, reads, writes, turns, finishes, prints, inputs, asks_empty, joins, initials, waits}
+use Rattle.pfc_semantics.specs.Remainders.{signals, delays, resumes, sleeps, meets, parts, scans, bars, passes}
+use Rattle.pfc_semantics.specs.Expressions.{with_number, with_element, element_spot, finish_call, from_expr, from_simple, from_summands, from_multipliers}
+use Rattle.pfc_semantics.specs.Expressions.{from_selectors, from_indices, from_args}
 use Rattle.pfc_semantics.specs.Alternatives.{context, with_open, from_seconds, from_message, from_receiver, from_opened, from_guard, from_alternatives}
-use Rattle.pfc_semantics.specs.Statements.{from_stmt, from_stmts, from_arms, from_until, from_bounds, begin_pass, from_pass, from_writes, from_reads, from_width, shown_as, from_delay, from_sent, from_received, plain_open, counting, again}
+use Rattle.pfc_semantics.specs.Statements.{from_stmt, from_stmts, from_arms, from_until, from_bounds, begin_pass, from_pass, from_writes, from_reads}
+use Rattle.pfc_semantics.specs.Statements.{from_width, shown_as, from_delay, from_sent, from_received, plain_open, counting, again}
 
 -- the line of a loop
 abbrev pub loop_line : StmtTree → ℕ

@@ -1,5 +1,6 @@
 -- Selects, and plain communication.
-use Rattle.std.specs.Prelude.{ℕ, ◌+◌, ◌*◌, unsigned_abs, ◌==◌, Bool, true, false, nat_le, if◌then◌else◌, List, [], ◌∷◌, length, Option, Some, None, slice_get, Ok, Err}
+use Rattle.std.specs.Prelude.{ℕ, ◌+◌, ◌*◌, unsigned_abs, ◌==◌, Bool, true, false, nat_le, if◌then◌else◌, List, [], ◌∷◌, length, Option, Some, None, slice_get}
+use Rattle.std.specs.Prelude.{Ok, Err}
 use Rattle.std.specs.List.{list_any}
 use Rattle.pfc_base.specs.declared.faults.RunFault.TheVariants.{Late, Closed}
 use Rattle.pfc_state.specs.declared.waits.Arm.{Arm}
@@ -10,7 +11,8 @@ use Rattle.pfc_world.specs.Channels.{sent, received}
 use Rattle.pfc_world.specs.Rendezvous.{accepted}
 use Rattle.pfc_world.specs.Selects.{matched, committed, select_waited}
 use Rattle.pfc_semantics.specs.Programs.{Program}
-use Rattle.pfc_semantics.specs.Remainders.{Context, Offer, Open, Otherwise, Selecting, Remainder, Action, to_send, to_receive, to_accept, to_wait, to_end, decides}
+use Rattle.pfc_semantics.specs.Remainders.{Context, Offer, Open, Otherwise, Selecting, Remainder, Action, to_send, to_receive, to_accept, to_wait, to_end}
+use Rattle.pfc_semantics.specs.Remainders.{decides}
 use Rattle.pfc_semantics.specs.Statements.{behind}
 use Rattle.pfc_semantics.specs.Configurations.{Config, Effect, offering, goes_on, showing, with_table}
 use Rattle.pfc_semantics.specs.Channels.{arm_of, communications, arms_of_all, behind_open, side_of, sent_to, received_from}

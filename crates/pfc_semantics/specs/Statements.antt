@@ -9,8 +9,11 @@ use Rattle.pfc_base.specs.declared.faults.RunFault.{RunFault}
 use Rattle.pfc_base.specs.declared.faults.RunFault.TheVariants.{Case}
 use Rattle.pfc_tree.specs.Symbols.{Text}
 use Rattle.pfc_tree.specs.declared.tree.Constant.{Constant}
-use Rattle.pfc_tree.specs.trees.Exprs.{ExprTree, FactorTree, DesigTree, SelectorTrees, ActualTree, ActualTrees, plain, sum, no_summands, product, no_multipliers, paren, applied as used, desig, no_selectors, actual, actual_width, no_actuals, more_actuals}
-use Rattle.pfc_tree.specs.trees.Stmts.{StmtTree, StmtTrees, ArmTrees, empty, null, block, if_then, if_then_else, case_of, while_do, repeat_until, repeat_forever, for_do, cobegin, accepting, requeue, select, select_else, assign, send, receive, call, no_stmts, more_stmts, body, arm, no_arms, more_arms}
+use Rattle.pfc_tree.specs.trees.Exprs.{ExprTree, FactorTree, DesigTree, SelectorTrees, ActualTree, ActualTrees, plain, sum, no_summands, product}
+use Rattle.pfc_tree.specs.trees.Exprs.{no_multipliers, paren, applied as used, desig, no_selectors, actual, actual_width, no_actuals, more_actuals}
+use Rattle.pfc_tree.specs.trees.Stmts.{StmtTree, StmtTrees, ArmTrees, empty, null, block, if_then, if_then_else, case_of, while_do, repeat_until}
+use Rattle.pfc_tree.specs.trees.Stmts.{repeat_forever, for_do, cobegin, accepting, requeue, select, select_else, assign, send, receive, call, no_stmts}
+use Rattle.pfc_tree.specs.trees.Stmts.{more_stmts, body, arm, no_arms, more_arms}
 use Rattle.pfc_types.specs.Types.{is_simple, process_form, form_of}
 use Rattle.pfc_types.specs.Scopes.{meaning_of, meaning_in, scope_at}
 use Rattle.pfc_types.specs.Blocks.{Blocks, sub_at, module_at, process_at, entry_at}
@@ -28,7 +31,12 @@ use Rattle.pfc_semantics.specs.Values.{Value, ordinal, ordinal_of}
 use Rattle.pfc_semantics.specs.Displays.{Spot, TypedSpot}
 use Rattle.pfc_semantics.specs.Operators.{simple_of}
 use Rattle.pfc_semantics.specs.Predeclared.{Procedure, reader, writer, initial, wait, signal, delay, resume, sleep, no_procedure, procedure_of}
-use Rattle.pfc_semantics.specs.Remainders.{Context, Count, Offer, Open, Otherwise, Remainder, Action, to_send, to_receive, to_accept, perform, turn, until, behind_pass, next_pass, write_on, read_on, at_coend, store_at, choose, choose_arm, while_true, until_true, count_from, count_to, show, show_wide, pad, set_count, delay_with, sleep_for, send_on, assign_to, input_to, activate_with, enter_with, initial_to, wait_at, signal_at, delay_at, resume_at, send_to, receive_from, receive_into, to_procedure, to_module, to_requeue, to_process, to_entry, writes, turns, prints, inputs, skips, joins, initials, waits, signals, delays, resumes, sleeps, meets, faults}
+use Rattle.pfc_semantics.specs.Remainders.{Context, Count, Offer, Open, Otherwise, Remainder, Action, to_send, to_receive, to_accept, perform, turn, until}
+use Rattle.pfc_semantics.specs.Remainders.{behind_pass, next_pass, write_on, read_on, at_coend, store_at, choose, choose_arm, while_true, until_true}
+use Rattle.pfc_semantics.specs.Remainders.{count_from, count_to, show, show_wide, pad, set_count, delay_with, sleep_for, send_on, assign_to, input_to}
+use Rattle.pfc_semantics.specs.Remainders.{activate_with, enter_with, initial_to, wait_at, signal_at, delay_at, resume_at, send_to, receive_from, receive_into}
+use Rattle.pfc_semantics.specs.Remainders.{to_procedure, to_module, to_requeue, to_process, to_entry, writes, turns, prints, inputs, skips, joins, initials}
+use Rattle.pfc_semantics.specs.Remainders.{waits, signals, delays, resumes, sleeps, meets, faults}
 use Rattle.pfc_semantics.specs.Expressions.{spot_of, from_expr, from_desig, from_args, from_reference, from_argument, from_selectors}
 use Rattle.pfc_semantics.specs.Alternatives.{context, alternatives, from_alternatives, select_begun, accepting_of, message_of, receiver_of, a_signal}
 

@@ -12,9 +12,13 @@ use Rattle.pfc_semantics.specs.Objects.{module_number}
 use Rattle.pfc_semantics.specs.Displays.{Spot}
 use Rattle.pfc_semantics.specs.Operators.{simple_of}
 use Rattle.pfc_semantics.specs.Programs.{Block, Program, block_at}
-use Rattle.pfc_semantics.specs.Remainders.{Context, Argument, Call, Remainder, AwaitsValue, Action, leave, in_names, scan_on, to_procedure, to_function, to_module, to_requeue, to_process, to_entry, reads, writes, turns, calls, finishes, prints, inputs, skips, asks_eof, asks_eoln, asks_clock, asks_empty, draws, joins, initials, waits, signals, delays, resumes, sleeps, meets, decides, parts, scans, bars, passes, faults}
+use Rattle.pfc_semantics.specs.Remainders.{Context, Argument, Call, Remainder, AwaitsValue, Action, leave, in_names, scan_on, to_procedure, to_function}
+use Rattle.pfc_semantics.specs.Remainders.{to_module, to_requeue, to_process, to_entry, reads, writes, turns, calls, finishes, prints, inputs, skips, asks_eof}
+use Rattle.pfc_semantics.specs.Remainders.{asks_eoln, asks_clock, asks_empty, draws, joins, initials, waits, signals, delays, resumes, sleeps, meets, decides}
+use Rattle.pfc_semantics.specs.Remainders.{parts, scans, bars, passes, faults}
 use Rattle.pfc_semantics.specs.Rewriting.{going, holding, next}
-use Rattle.pfc_semantics.specs.Configurations.{Mark, plain, of_monitor, of_resource, Caller, of_nobody, of_remainder, of_value, Activation, Config, Effect, activity_of, goes_on, holds, value_for, written_for}
+use Rattle.pfc_semantics.specs.Configurations.{Mark, plain, of_monitor, of_resource, Caller, of_nobody, of_remainder, of_value, Activation, Config, Effect}
+use Rattle.pfc_semantics.specs.Configurations.{activity_of, goes_on, holds, value_for, written_for}
 use Rattle.pfc_semantics.specs.Calls.{called, left_by, result_in}
 use Rattle.pfc_semantics.specs.Processes.{creates, joined, ended_process}
 use Rattle.pfc_semantics.specs.Semaphores.{initials_at, waits_for, signals_to}

@@ -13,7 +13,8 @@ use Rattle.pfc_state.specs.declared.endings.Ending.TheVariants.{Finished, Fault,
 use Rattle.pfc_machines.specs.declared.machine.Machine.{Machine}
 use Rattle.pfc_machines.specs.Actions.{at_rest}
 use Rattle.pfc_machine_acts.specs.Settling.{machine_settled}
-use Rattle.pfc_sessions.specs.Courses.{Completes, IsCut, on_the_way, at_the_end, IsWanting, refused, worn_out, IsCourse, Continues, Ends, IsHalted, untried, uncounted, IsTurn, Gathers, IsSent, IsHandedOver, whole, dropped, failed}
+use Rattle.pfc_sessions.specs.Courses.{Completes, IsCut, on_the_way, at_the_end, IsWanting, refused, worn_out, IsCourse, Continues, Ends, IsHalted, untried}
+use Rattle.pfc_sessions.specs.Courses.{uncounted, IsTurn, Gathers, IsSent, IsHandedOver, whole, dropped, failed}
 use Rattle.pfc_sessions.specs.Runs.{Run, run_from, step_of, IsPicked, MayRun}
 use Rattle.pfc_sessions.specs.Stages.{Stage, behind_action, by_process, next_stage, stage_after, GoesOn, IsOnTheWay, Passes}
 use Rattle.pfc_sessions.specs.Steps.{Step, before_action}

@@ -1,5 +1,6 @@
 -- One action of a process is its step.
-use Rattle.std.proofs.Common.{◌≡◌, ℕ, zero, suc, true, ◌≤◌, length, List, Option, Some, None, Result, Ok, Err, IfOk, OnErr, refl, sym, ap, ◌∙◌, subst, arith, append-nil}
+use Rattle.std.proofs.Common.{◌≡◌, ℕ, zero, suc, true, ◌≤◌, length, List, Option, Some, None, Result, Ok, Err, IfOk, OnErr, refl, sym, ap, ◌∙◌, subst, arith}
+use Rattle.std.proofs.Common.{append-nil}
 use Rattle.pfc_base.specs.declared.memory_error.Memory.{Memory}
 use Rattle.pfc_code.specs.declared.instructions.Instr.{Instr}
 use Rattle.pfc_code.specs.Images.{PlainImage}

@@ -14,7 +14,8 @@ use Rattle.pfc_machine_acts.specs.Acting.{MayAct}
 use Rattle.pfc_machine_acts.specs.Settling.{machine_settled}
 use Rattle.pfc_machine_acts.specs.declared.acts.ActionEnd.TheVariants.{Faulted}
 use Rattle.pfc_sessions.specs.Courses.{IsPick, Ends}
-use Rattle.pfc_sessions.specs.Runs.{Run, ending_at, ended_with, behind_bytes, by_pick, unless_ended, unless_fault, unless_worn_out, is_worn_out, behind_step, run_from, step_of, IsPicked, MayRun}
+use Rattle.pfc_sessions.specs.Runs.{Run, ending_at, ended_with, behind_bytes, by_pick, unless_ended, unless_fault, unless_worn_out, is_worn_out, behind_step}
+use Rattle.pfc_sessions.specs.Runs.{run_from, step_of, IsPicked, MayRun}
 use Rattle.pfc_sessions.specs.Steps.{FaultAt, begins, Step, step, IsStep}
 
 -- ## The first turn

@@ -1,5 +1,6 @@
 -- The end of those that wait in a select with an open `terminate`, one after the other.
-use Rattle.std.proofs.Common.{◌≡◌, ℕ, zero, suc, ◌+◌, ◌<◌, ◌≤◌, Bool, true, false, List, [], ◌∷◌, ◌++◌, length, map, set, get_or, take, reverse, if◌then◌else◌, refl, sym, ap, ◌∙◌, subst, arith, add-one}
+use Rattle.std.proofs.Common.{◌≡◌, ℕ, zero, suc, ◌+◌, ◌<◌, ◌≤◌, Bool, true, false, List, [], ◌∷◌, ◌++◌, length, map, set, get_or, take, reverse, if◌then◌else◌}
+use Rattle.std.proofs.Common.{refl, sym, ap, ◌∙◌, subst, arith, add-one}
 use Rattle.std.proofs.lemmas.List.{map-append, map-set, set-get_or, get_or-map, reverse-append, take_more, length-map}
 use Rattle.pfc_program.specs.declared.tables.Tables.{Tables}
 use Rattle.pfc_state.specs.Stands.{Stand, may_end}

@@ -24,8 +24,13 @@ use Rattle.pfc_semantics.specs.Objects.{module_number}
 use Rattle.pfc_semantics.specs.Operators.{simple_of}
 use Rattle.pfc_semantics.specs.Displays.{Spot}
 use Rattle.pfc_semantics.specs.Programs.{Block, Program, block_at}
-use Rattle.pfc_semantics.specs.Remainders.{Context, Argument, Call, Remainder, AwaitsValue, Scan, Tried, Way, leave, own, to_procedure, to_function, to_module, to_requeue, to_process, to_entry, Action, reads, writes, turns, calls, finishes, prints, inputs, skips, asks_eof, asks_eoln, asks_clock, asks_empty, draws, joins, initials, waits, signals, delays, resumes, sleeps, meets, decides, parts, scans, bars, passes, faults}
-use Rattle.pfc_semantics.specs.Configurations.{Mark, plain, of_monitor, of_resource, Caller, of_nobody, of_remainder, of_value, Activation, Config, Effect, FaultAt, asking, activity_of, goes_on, showing, number_for, all_passed, with_table, counted, with_counted, monitors_held, with_monitors, resources_held, with_resources, body_of}
+use Rattle.pfc_semantics.specs.Remainders.{Context, Argument, Call, Remainder, AwaitsValue, Scan, Tried, Way, leave, own, to_procedure, to_function, to_module}
+use Rattle.pfc_semantics.specs.Remainders.{to_requeue, to_process, to_entry, Action, reads, writes, turns, calls, finishes, prints, inputs, skips, asks_eof}
+use Rattle.pfc_semantics.specs.Remainders.{asks_eoln, asks_clock, asks_empty, draws, joins, initials, waits, signals, delays, resumes, sleeps, meets, decides}
+use Rattle.pfc_semantics.specs.Remainders.{parts, scans, bars, passes, faults}
+use Rattle.pfc_semantics.specs.Configurations.{Mark, plain, of_monitor, of_resource, Caller, of_nobody, of_remainder, of_value, Activation, Config, Effect}
+use Rattle.pfc_semantics.specs.Configurations.{FaultAt, asking, activity_of, goes_on, showing, number_for, all_passed, with_table, counted, with_counted}
+use Rattle.pfc_semantics.specs.Configurations.{monitors_held, with_monitors, resources_held, with_resources, body_of}
 use Rattle.pfc_semantics.specs.Calls.{cells_above, most_cells, unless_full, activated}
 use Rattle.pfc_semantics.specs.Processes.{process_block, created, creates, joined}
 use Rattle.pfc_semantics.specs.Semaphores.{initials_at, signals_to}

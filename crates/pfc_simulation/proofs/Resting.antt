@@ -16,7 +16,8 @@ use Rattle.pfc_values.specs.Inputs.{Item, item, skipped}
 use Rattle.pfc_values.specs.Numbers.{Outcome, fitting}
 use Rattle.pfc_world.specs.Tables.{Table, at, some_created}
 use Rattle.pfc_world.specs.Transitions.{placed, rested, blocked, is_released, finished, all_started}
-use Rattle.pfc_world.specs.Partners.{is_accepting, caller, receiver, sender, partner, next_barred, next_holder, next_entrant, condition_waiter, semaphore_waiter}
+use Rattle.pfc_world.specs.Partners.{is_accepting, caller, receiver, sender, partner, next_barred, next_holder, next_entrant, condition_waiter}
+use Rattle.pfc_world.specs.Partners.{semaphore_waiter}
 use Rattle.pfc_world.specs.Channels.{passed_with}
 use Rattle.pfc_world.specs.Rendezvous.{is_uncalled, called as called_in, accepted_with}
 use Rattle.pfc_world.specs.Semaphores.{Counted, count_of, counting, waited, is_overfull, signalled_to, signalled}
@@ -29,8 +30,14 @@ use Rattle.pfc_semantics.specs.Objects.{module_number}
 use Rattle.pfc_semantics.specs.Operators.{simple_of}
 use Rattle.pfc_semantics.specs.Displays.{Spot}
 use Rattle.pfc_semantics.specs.Programs.{Block, Program, block_at}
-use Rattle.pfc_semantics.specs.Remainders.{Context, Argument, Call as Calling, Offer, Open, Otherwise, Selecting, Remainder, AwaitsValue, Scan, Tried, Way, leave, own, to_send, to_receive, to_accept, to_wait, to_end, to_procedure, to_function, to_module, to_requeue, to_process, to_entry, Action, reads, writes, turns, calls, finishes, prints, inputs, skips, asks_eof, asks_eoln, asks_clock, asks_empty, draws, joins, initials, waits, signals, delays, resumes, sleeps, meets, decides, parts, scans, bars, passes, faults}
-use Rattle.pfc_semantics.specs.Configurations.{Mark, plain, of_monitor, of_resource, Caller, of_nobody, of_remainder, of_value, Activation, Config, Effect, asking, activity_of, goes_on, showing, number_for, all_passed, with_table, counted, with_counted, monitors_held, with_monitors, resources_held, with_resources, body_of}
+use Rattle.pfc_semantics.specs.Remainders.{Context, Argument, Call as Calling, Offer, Open, Otherwise, Selecting, Remainder, AwaitsValue, Scan, Tried, Way}
+use Rattle.pfc_semantics.specs.Remainders.{leave, own, to_send, to_receive, to_accept, to_wait, to_end, to_procedure, to_function, to_module, to_requeue}
+use Rattle.pfc_semantics.specs.Remainders.{to_process, to_entry, Action, reads, writes, turns, calls, finishes, prints, inputs, skips, asks_eof, asks_eoln}
+use Rattle.pfc_semantics.specs.Remainders.{asks_clock, asks_empty, draws, joins, initials, waits, signals, delays, resumes, sleeps, meets, decides, parts}
+use Rattle.pfc_semantics.specs.Remainders.{scans, bars, passes, faults}
+use Rattle.pfc_semantics.specs.Configurations.{Mark, plain, of_monitor, of_resource, Caller, of_nobody, of_remainder, of_value, Activation, Config, Effect}
+use Rattle.pfc_semantics.specs.Configurations.{asking, activity_of, goes_on, showing, number_for, all_passed, with_table, counted, with_counted, monitors_held}
+use Rattle.pfc_semantics.specs.Configurations.{with_monitors, resources_held, with_resources, body_of}
 use Rattle.pfc_semantics.specs.Calls.{cells_above, most_cells, unless_full, activated}
 use Rattle.pfc_semantics.specs.Channels.{Side, arm_of, arms_of_all, behind_open, side_of}
 use Rattle.pfc_semantics.specs.Processes.{process_block, created, creates, joined}
@@ -38,7 +45,8 @@ use Rattle.pfc_semantics.specs.Semaphores.{initials_at, signals_to}
 use Rattle.pfc_semantics.specs.Monitors.{monitor_of, is_inside, enters_monitor}
 use Rattle.pfc_semantics.specs.Resources.{guarded_body, enters_resource, scanned_all, scanned_to, tried_at, passed_by, requeued_in, requeues}
 use Rattle.pfc_semantics.specs.Rendezvous.{called_into, called_at, enters}
-use Rattle.pfc_semantics.specs.Selects.{plainly, matched_places, place_taken, Timeout, open_timeout, latest, waits_until, waits_or_closed, times_out, goes_otherwise, decides_by}
+use Rattle.pfc_semantics.specs.Selects.{plainly, matched_places, place_taken, Timeout, open_timeout, latest, waits_until, waits_or_closed, times_out}
+use Rattle.pfc_semantics.specs.Selects.{goes_otherwise, decides_by}
 use Rattle.pfc_semantics.specs.Time.{slept, sleeps_for, clocked}
 use Rattle.pfc_semantics.specs.Steps.{enters_module, calls_by, returns_to, ends_for, ends_body, read_in, skipped_in, drawn_in, effect}
 

@@ -2,7 +2,8 @@
 use Rattle.std.proofs.Common.{◌≡◌, ◌≤◌, List, [], ◌∷◌, length, get_or, Option, Some, None, refl, sym, ap, ◌∙◌, arith}
 use Rattle.pfc_tree.specs.declared.tree.Actual.{Actual}
 use Rattle.pfc_tree.specs.views.Exprs.{actual_view, actuals_view}
-use Rattle.pfc_tree.specs.trees.Exprs.{ActualTree, ActualTrees, DesigTree, ExprTree, plain, related, sum, no_summands, more_summands, product, no_multipliers, more_multipliers, number, literal, negation, paren, applied, desig, actual, actual_width, no_actuals, more_actuals}
+use Rattle.pfc_tree.specs.trees.Exprs.{ActualTree, ActualTrees, DesigTree, ExprTree, plain, related, sum, no_summands, more_summands, product, no_multipliers}
+use Rattle.pfc_tree.specs.trees.Exprs.{more_multipliers, number, literal, negation, paren, applied, desig, actual, actual_width, no_actuals, more_actuals}
 use Rattle.pfc_types.specs.rules.Expressions.{as_desig}
 use Rattle.pfc_semantics.specs.Displays.{TypedSpot}
 use Rattle.pfc_semantics.specs.Remainders.{Context, AwaitsValue, AwaitsLocation, Action}

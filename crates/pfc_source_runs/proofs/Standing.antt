@@ -16,7 +16,8 @@ use Rattle.pfc_representation.specs.Levels.{Facts, program_in}
 use Rattle.pfc_representation.specs.Rooms.{process_count}
 use Rattle.pfc_representation.specs.Machines.{Represents, Agrees}
 use Rattle.pfc_sessions.specs.Courses as session
-use Rattle.pfc_sessions.specs.Courses.{IsCourse, on_the_way as broken_on_the_way, at_the_end as broken_at_the_end, refused as was_refused, worn_out as was_worn_out}
+use Rattle.pfc_sessions.specs.Courses.{IsCourse, on_the_way as broken_on_the_way, at_the_end as broken_at_the_end, refused as was_refused}
+use Rattle.pfc_sessions.specs.Courses.{worn_out as was_worn_out}
 use Rattle.pfc_sessions.specs.Runs.{Run, run_from}
 use Rattle.pfc_sessions.specs.Stages as stages
 use Rattle.pfc_sessions.specs.Stages.{Stage, first_stage, stage_after}
@@ -25,7 +26,8 @@ use Rattle.pfc_run_agreement.proofs.Agreeing.{same_runs}
 use Rattle.pfc_simulation.specs.Reached.{RunKeepsToRules, IsRunKept}
 use Rattle.pfc_simulation.proofs.Simulating.{goes_on_agreeing}
 use Rattle.pfc_source_runs.specs.Points.{Point, first_point, point_after}
-use Rattle.pfc_source_runs.specs.Standing.{IsUntried, StandsFor, behind_action, settled, before_action, IsBrokenOff, IsCut, on_the_way, at_the_end, uncounted, IsWanting, refused, worn_out, NamesOneOf, IsAtEnd, IsStanding, StandsIn, passing, ended}
+use Rattle.pfc_source_runs.specs.Standing.{IsUntried, StandsFor, behind_action, settled, before_action, IsBrokenOff, IsCut, on_the_way, at_the_end, uncounted}
+use Rattle.pfc_source_runs.specs.Standing.{IsWanting, refused, worn_out, NamesOneOf, IsAtEnd, IsStanding, StandsIn, passing, ended}
 use Rattle.pfc_source_runs.proofs.Coming.{IsAt, starts_at, comes_to, passes_to}
 use Rattle.pfc_source_runs.proofs.Ending.{Ends, agreeing, uncounted as not_counted}
 use Rattle.pfc_source_runs.proofs.Turns.{ends_so}

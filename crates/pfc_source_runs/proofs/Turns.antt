@@ -1,5 +1,6 @@
 -- Runs, turn by turn, to their ends.
-use Rattle.std.proofs.Common.{◌≡◌, ℕ, zero, suc, ◌+◌, ◌<◌, ◌==◌, Bool, true, false, List, ◌++◌, Option, Some, None, refl, sym, ap, ◌∙◌, subst, arith, append_assoc, append-nil}
+use Rattle.std.proofs.Common.{◌≡◌, ℕ, zero, suc, ◌+◌, ◌<◌, ◌==◌, Bool, true, false, List, ◌++◌, Option, Some, None, refl, sym, ap, ◌∙◌, subst, arith}
+use Rattle.std.proofs.Common.{append_assoc, append-nil}
 use Rattle.std.proofs.lemmas.Bool.Decides.{nat_tests}
 use Rattle.pfc_code.specs.Images.{PlainImage}
 use Rattle.pfc_sched.specs.Picks.{Picking, picked, after_pick, item_of}
@@ -22,7 +23,8 @@ use Rattle.pfc_representation.specs.Rooms.{process_count}
 use Rattle.pfc_representation.specs.Machines.{Agrees, Represents}
 use Rattle.pfc_settling_laws.proofs.Settled.{agrees_settled}
 use Rattle.pfc_arrivals.specs.Arrivals.{IsAboutToAct}
-use Rattle.pfc_sessions.specs.Runs.{Run, ending_at, is_worn_out, ended_with, behind_bytes, by_pick, unless_ended, unless_worn_out, unless_fault, behind_step, run_from, IsPicked, step_of}
+use Rattle.pfc_sessions.specs.Runs.{Run, ending_at, is_worn_out, ended_with, behind_bytes, by_pick, unless_ended, unless_worn_out, unless_fault, behind_step}
+use Rattle.pfc_sessions.specs.Runs.{run_from, IsPicked, step_of}
 use Rattle.pfc_sessions.specs.Stages.{Stage, behind_action}
 use Rattle.pfc_sessions.specs.Steps.{FaultAt, Step}
 use Rattle.pfc_run_agreement.specs.Agreement.{fault_of, picking_behind, choices_of, ActsAlike}
@@ -32,7 +34,8 @@ use Rattle.pfc_simulation.specs.Reached.{RunKeepsToRules, IsRunKept}
 use Rattle.pfc_simulation.proofs.Simulating.{Relates, agrees_then, agrees_here, acts_alike_so, agrees_behind, represents, about}
 use Rattle.pfc_source_runs.specs.Points.{Point, by_process, point_behind, next_point, point_after, Passes}
 use Rattle.pfc_source_runs.proofs.Coming.{IsAt, picks_so, passes_so, comes_so}
-use Rattle.pfc_source_runs.proofs.Ending.{Ends, agreeing, uncounted, along, plain_ending, plain_deadlock, plain_limit, plain_script, plain_fault, fault_process, faulty_run}
+use Rattle.pfc_source_runs.proofs.Ending.{Ends, agreeing, uncounted, along, plain_ending, plain_deadlock, plain_limit, plain_script, plain_fault, fault_process}
+use Rattle.pfc_source_runs.proofs.Ending.{faulty_run}
 use Rattle.pfc_arrivals.specs.Arrivals.{AreNumbered}
 
 module _ (facts : Facts) (numbered : AreNumbered facts) (limit : ℕ) (first : Point) (kept : IsRunKept facts first.config)

@@ -1,5 +1,6 @@
 -- What the stacks hold where no cell changes, and behind a write.
-use Rattle.std.proofs.Common.{◌≡◌, ◌≢◌, ℕ, ◌+◌, ◌-◌, ◌^◌, ◌<◌, ◌≤◌, ℤ, true, false, List, ◌++◌, length, take, drop, slice_get, Option, Some, sym, ap, ap₂, ◌∙◌, subst, arith, length-append, ◌⊎◌, inl, inr}
+use Rattle.std.proofs.Common.{◌≡◌, ◌≢◌, ℕ, ◌+◌, ◌-◌, ◌^◌, ◌<◌, ◌≤◌, ℤ, true, false, List, ◌++◌, length, take, drop, slice_get, Option, Some, sym, ap, ap₂, ◌∙◌}
+use Rattle.std.proofs.Common.{subst, arith, length-append, ◌⊎◌, inl, inr}
 use Rattle.std.proofs.lemmas.List.{get_or-set_same, get_or-set_other, get_or_past, length-set, length-take-le, length-drop}
 use Rattle.pfc_types.specs.declared.types.TypeId.{TypeId}
 use Rattle.pfc_semantics.specs.Values.{Value, Location, path_of}

@@ -1,5 +1,6 @@
 -- Values that hold no object.
-use Rattle.std.proofs.Common.{◌≡◌, ◌≢◌, ℕ, zero, suc, ◌<◌, ℤ, Bool, true, false, ◌||◌, if◌then◌else◌, List, ◌∷◌, ◌++◌, slice_get, Option, Some, None, refl, sym, ap, ◌∙◌, subst, arith}
+use Rattle.std.proofs.Common.{◌≡◌, ◌≢◌, ℕ, zero, suc, ◌<◌, ℤ, Bool, true, false, ◌||◌, if◌then◌else◌, List, ◌∷◌, ◌++◌, slice_get, Option, Some, None, refl, sym}
+use Rattle.std.proofs.Common.{ap, ◌∙◌, subst, arith}
 use Rattle.pfc_tree.specs.Symbols.{Text}
 use Rattle.pfc_types.specs.Types.{Forms, form_of, semaphore, condition, is_same, is_simple, extent, cells_in}
 use Rattle.pfc_types.specs.Fields.{FieldList}

@@ -1,5 +1,6 @@
 -- Reads and writes of variables.
-use Rattle.std.proofs.Common.{◌≡◌, ◌≢◌, ℕ, suc, ◌+◌, ◌-◌, ◌<◌, ◌≤◌, ℤ, pos, true, List, [], ◌∷◌, ◌++◌, length, take, drop, get_or, reverse, Some, refl, sym, ap, ap₂, ◌∙◌, subst, arith, length-append, append-nil, append_assoc, inl, inr}
+use Rattle.std.proofs.Common.{◌≡◌, ◌≢◌, ℕ, suc, ◌+◌, ◌-◌, ◌<◌, ◌≤◌, ℤ, pos, true, List, [], ◌∷◌, ◌++◌, length, take, drop, get_or, reverse, Some, refl, sym, ap}
+use Rattle.std.proofs.Common.{ap₂, ◌∙◌, subst, arith, length-append, append-nil, append_assoc, inl, inr}
 use Rattle.std.proofs.lemmas.List.{get_or-append_right, get_or-set_same, get_or-set_other, length-reverse, take_at, drop_at, length-set}
 use Rattle.std.proofs.lemmas.Grind.{reverse_onto}
 use Rattle.pfc_code.specs.declared.images.Block.{Block as ImageBlock}

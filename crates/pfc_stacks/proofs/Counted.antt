@@ -1,5 +1,6 @@
 -- That an instruction changes operands as the table of instructions has it.
-use Rattle.std.proofs.Common.{◌≡◌, ℕ, ◌+◌, ◌-◌, ◌<◌, ℤ, pos, ◌+ℤ◌, Bool, true, false, List, [], ◌∷◌, ◌++◌, length, drop, take, set, refl, sym, ◌∙◌, ap, subst, arith, Ok, Err, Option, Some, None, if◌then◌else◌}
+use Rattle.std.proofs.Common.{◌≡◌, ℕ, ◌+◌, ◌-◌, ◌<◌, ℤ, pos, ◌+ℤ◌, Bool, true, false, List, [], ◌∷◌, ◌++◌, length, drop, take, set, refl, sym, ◌∙◌, ap, subst}
+use Rattle.std.proofs.Common.{arith, Ok, Err, Option, Some, None, if◌then◌else◌}
 use Rattle.std.specs.Prelude.{reverse, not, int_lt, int_le}
 use Rattle.std.specs.List.{slice_get}
 use Rattle.std.specs.Ordering.{int_eq}
@@ -7,16 +8,20 @@ use Rattle.std.proofs.lemmas.List.{length-append, length-drop, length-reverse, l
 use Rattle.pfc_base.specs.declared.faults.RunFault.TheVariants.{Stack as Full}
 use Rattle.pfc_code.specs.declared.images.Block.{Block}
 use Rattle.pfc_code.specs.declared.instructions.Instr.{Instr}
-use Rattle.pfc_code.specs.declared.instructions.Instr.TheVariants.{LIT, ADDR, REF, IDX, FLD, LOAD, STORE, OBJ, NEG, ADD, SUB, MUL, DIV, MOD, ABS, SQR, ODD, CHR, SUCC, PRED, NOT, AND, OR, EQ, NE, LT, LE, GT, GE, JMP, JF, TURN, FORB, FORW, FORT, CEQ, CALL, RET, RETF}
+use Rattle.pfc_code.specs.declared.instructions.Instr.TheVariants.{LIT, ADDR, REF, IDX, FLD, LOAD, STORE, OBJ, NEG, ADD, SUB, MUL, DIV, MOD, ABS, SQR, ODD, CHR}
+use Rattle.pfc_code.specs.declared.instructions.Instr.TheVariants.{SUCC, PRED, NOT, AND, OR, EQ, NE, LT, LE, GT, GE, JMP, JF, TURN, FORB, FORW, FORT, CEQ, CALL}
+use Rattle.pfc_code.specs.declared.instructions.Instr.TheVariants.{RET, RETF}
 use Rattle.pfc_code.specs.Operands as table
-use Rattle.pfc_values.specs.Numbers.{Outcome, negative_of, sum_of, difference_of, product_of, quotient_of, remainder_of, magnitude_of, square_of, is_true, char_of, next_of, before_of, is_odd, inverse_of, both_of, either_of, truth}
+use Rattle.pfc_values.specs.Numbers.{Outcome, negative_of, sum_of, difference_of, product_of, quotient_of, remainder_of, magnitude_of, square_of, is_true}
+use Rattle.pfc_values.specs.Numbers.{char_of, next_of, before_of, is_odd, inverse_of, both_of, either_of, truth}
 use Rattle.pfc_stacks.specs.declared.refs.Ref.{Ref}
 use Rattle.pfc_stacks.specs.declared.marks.Mark.{Mark}
 use Rattle.pfc_stacks.specs.declared.marks.Mark.TheVariants.{Plain}
 use Rattle.pfc_stacks.specs.Activations.{has_place, called, returned, returned_with, result_in, mark_in, params_of}
 use Rattle.pfc_stacks.specs.Conditions.{CanPerform}
 use Rattle.pfc_stacks.specs.Counts.{Leaves, AreChanged, HasTaken, IsCounted, onward, elsewhere}
-use Rattle.pfc_stacks.specs.Effects.{quiet, action, with_outcome, element_at, type_numbered, is_past, is_before, value_behind, own_effect, acts, ends_in, moved, within, passed, calls, returns_by, last_block, effect}
+use Rattle.pfc_stacks.specs.Effects.{quiet, action, with_outcome, element_at, type_numbered, is_past, is_before, value_behind, own_effect, acts, ends_in, moved}
+use Rattle.pfc_stacks.specs.Effects.{within, passed, calls, returns_by, last_block, effect}
 use Rattle.pfc_stacks.specs.Refs.{ref_of}
 use Rattle.pfc_stacks.specs.Stacks.{Stack, Stacks, no_stack, stack_of, operand, operands_of, cell_at, cell_word, cells_at, written, in_view, with_words}
 use Rattle.pfc_stacks.proofs.Loads.{length-cells_at}

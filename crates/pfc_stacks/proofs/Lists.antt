@@ -1,7 +1,8 @@
 -- Lists from their end.
 use Rattle.std.proofs.Common.{◌≡◌, ℕ, ◌-◌, ◌≤◌, ◌<◌, List, ◌++◌, ◌≢◌, length, take, drop, get_or, set, sym, ◌∙◌, ap, arith, ◌⊎◌, inl, inr}
 use Rattle.std.specs.Prelude.{reverse}
-use Rattle.std.proofs.lemmas.List.{reverse-append, reverse-reverse, take_all, length-reverse, length-drop, take-append-drop, drop_at, take_at, drop_all, length-set, get_or-reverse, get_or-set_same, get_or-set_other, same_lists}
+use Rattle.std.proofs.lemmas.List.{reverse-append, reverse-reverse, take_all, length-reverse, length-drop, take-append-drop, drop_at, take_at, drop_all}
+use Rattle.std.proofs.lemmas.List.{length-set, get_or-reverse, get_or-set_same, get_or-set_other, same_lists}
 
 reverse-split : {X : Type 0} (m : ℕ) (xs : List X) → reverse xs ≡ reverse (drop m xs) ++ reverse (take m xs)
 reverse-split m xs = sym (ap reverse (take-append-drop m xs)) ∙ reverse-append (take m xs) (drop m xs)

@@ -1,5 +1,6 @@
 -- How activations begin and end.
-use Rattle.std.specs.Prelude.{ℕ, zero, suc, ◌+◌, ◌-◌, ◌==◌, max, nat_le, nat_lt, Bool, false, ◌||◌, if◌then◌else◌, ℤ, pos, List, [], ◌∷◌, ◌++◌, length, take, drop, get_or, set, reverse, replicate, Option, None, Some}
+use Rattle.std.specs.Prelude.{ℕ, zero, suc, ◌+◌, ◌-◌, ◌==◌, max, nat_le, nat_lt, Bool, false, ◌||◌, if◌then◌else◌, ℤ, pos, List, [], ◌∷◌, ◌++◌, length, take}
+use Rattle.std.specs.Prelude.{drop, get_or, set, reverse, replicate, Option, None, Some}
 use Rattle.std.specs.Ordering.{int_eq}
 use Rattle.pfc_code.specs.declared.images.Block.{Block}
 use Rattle.pfc_stacks.specs.declared.cells.Own.{Own}

@@ -4,7 +4,8 @@ use Rattle.std.specs.List.{list_any}
 use Rattle.pfc_types.specs.Blocks.{Blocks}
 use Rattle.pfc_types.specs.rules.Expressions.{Env}
 use Rattle.pfc_semantics.specs.Programs.{Block}
-use Rattle.pfc_semantics.specs.Remainders.{Remainder, ends, perform, in_names, turn, until, behind_pass, next_pass, write_on, read_on, at_coend, part_from, write_again, go_through, try_guard, scan_on, try_other}
+use Rattle.pfc_semantics.specs.Remainders.{Remainder, ends, perform, in_names, turn, until, behind_pass, next_pass, write_on, read_on, at_coend, part_from}
+use Rattle.pfc_semantics.specs.Remainders.{write_again, go_through, try_guard, scan_on, try_other}
 use Rattle.pfc_translation.specs.Sites.{is_mains, linked}
 use Rattle.pfc_standing_code.specs.Settings.{Setting, IsBeside, same_block, both_mains, with_accept}
 use Rattle.pfc_standing_code.specs.Words.{is_known, IsChecked}

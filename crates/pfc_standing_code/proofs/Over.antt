@@ -2,7 +2,8 @@
 use Rattle.std.proofs.Common.{◌≡◌, ℕ, ℤ, List, [], ◌∷◌, ap, ◌∙◌}
 use Rattle.pfc_types.specs.rules.Expressions.{Env}
 use Rattle.pfc_semantics.specs.Programs.{Block}
-use Rattle.pfc_semantics.specs.Remainders.{Way, Remainder, leave, own, ends, perform, in_names, turn, until, behind_pass, next_pass, write_on, read_on, at_coend, part_from, write_again, go_through, try_guard, scan_on, try_other}
+use Rattle.pfc_semantics.specs.Remainders.{Way, Remainder, leave, own, ends, perform, in_names, turn, until, behind_pass, next_pass, write_on, read_on}
+use Rattle.pfc_semantics.specs.Remainders.{at_coend, part_from, write_again, go_through, try_guard, scan_on, try_other}
 use Rattle.pfc_standing_code.specs.Settings.{Setting, AreOver, parted}
 use Rattle.pfc_standing_code.specs.Effects.{Arm}
 use Rattle.pfc_standing_code.specs.Performs.{WayAt, own_again, own_block, Performs}

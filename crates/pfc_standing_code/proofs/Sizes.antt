@@ -2,12 +2,17 @@
 use Rattle.std.proofs.Common.{ℕ, ◌+◌, ◌-◌, Bool, true, false, if◌then◌else◌, List, [], ◌∷◌, length, drop, Option, Some, None, refl, ap, ap₂, ◌∙◌, length-append}
 use Rattle.pfc_base.specs.declared.places.Place.{Place}
 use Rattle.pfc_code.specs.declared.instructions.Instr.{Instr}
-use Rattle.pfc_code.specs.declared.instructions.Instr.TheVariants.{STORE, OBJ, NOT, JMP, JF, TURN, FORB, FORW, FORT, CEQ, CERR, NEW, SEND, RECV, ECALL, EACC, ARMS, ARMR, ARMT, COEND, SINI, SWAIT, SSIG, DELAY, RESUME, SLEEP, WRNL, RDNL, REQ}
+use Rattle.pfc_code.specs.declared.instructions.Instr.TheVariants.{STORE, OBJ, NOT, JMP, JF, TURN, FORB, FORW, FORT, CEQ, CERR, NEW, SEND, RECV, ECALL, EACC}
+use Rattle.pfc_code.specs.declared.instructions.Instr.TheVariants.{ARMS, ARMR, ARMT, COEND, SINI, SWAIT, SSIG, DELAY, RESUME, SLEEP, WRNL, RDNL, REQ}
 use Rattle.pfc_tree.specs.Symbols.{Text}
 use Rattle.pfc_tree.specs.declared.tree.Constant.{Constant}
 use Rattle.pfc_tree.specs.declared.tree.Spread.{Spread}
-use Rattle.pfc_tree.specs.trees.Exprs.{ExprTree, DesigTree, SelectorTrees, ActualTree, ActualTrees, desig, no_selectors, actual, actual_width, no_actuals, more_actuals}
-use Rattle.pfc_tree.specs.trees.Stmts.{StmtTree, StmtTrees, ArmTrees, AcceptTree, AltTree, AltTrees, CommTree, empty, null, block, if_then, if_then_else, case_of, while_do, repeat_until, repeat_forever, for_do, cobegin, accepting, requeue, select, select_else, assign, send, receive, call, no_stmts, more_stmts, body, arm, no_arms, more_arms, accept, accept_do, alt, no_alts, more_alts, comm_accept, comm_send, comm_receive, timeout, terminate}
+use Rattle.pfc_tree.specs.trees.Exprs.{ExprTree, DesigTree, SelectorTrees, ActualTree, ActualTrees, desig, no_selectors, actual, actual_width, no_actuals}
+use Rattle.pfc_tree.specs.trees.Exprs.{more_actuals}
+use Rattle.pfc_tree.specs.trees.Stmts.{StmtTree, StmtTrees, ArmTrees, AcceptTree, AltTree, AltTrees, CommTree, empty, null, block, if_then, if_then_else}
+use Rattle.pfc_tree.specs.trees.Stmts.{case_of, while_do, repeat_until, repeat_forever, for_do, cobegin, accepting, requeue, select, select_else, assign, send}
+use Rattle.pfc_tree.specs.trees.Stmts.{receive, call, no_stmts, more_stmts, body, arm, no_arms, more_arms, accept, accept_do, alt, no_alts, more_alts}
+use Rattle.pfc_tree.specs.trees.Stmts.{comm_accept, comm_send, comm_receive, timeout, terminate}
 use Rattle.pfc_types.specs.Blocks.{sub_at, module_at, process_at, entry_at}
 use Rattle.pfc_types.specs.Scopes.{meaning_of, meaning_in, scope_at}
 use Rattle.pfc_types.specs.rules.Constants.{constant_value}
@@ -31,10 +36,16 @@ use Rattle.pfc_semantics.specs.Statements.{as_string, item_of, expr_of, behind_f
 use Rattle.pfc_translation.specs.Sites.{Site, at_line, in_accept, context_of, forms_of, blocks_of, type_cells}
 use Rattle.pfc_translation.specs.Codes.{Code, nothing, ◌⨾◌, instruction, one, over, back as to_back, string}
 use Rattle.pfc_translation.specs.Addresses.{base_code}
-use Rattle.pfc_translation.specs.Expressions.{expr_code, args_code, address_code, desig_code, object_code, selectors_code, first_value, first_address, call_instr}
-use Rattle.pfc_translation.specs.Calls.{write_instr, plain_item, wide_item, item_code, writes_code, read_instr, input_code, reads_code, given_code, rank_code, first_object, procedure_code, enter_instr, exported_code, module_code, resource_of, requeue_code, activation_code, formals_cells, entry_code, process_code, field_code, called_variable, called_process, called_code, found_code, call_code}
-use Rattle.pfc_translation.specs.Selects.{message_code, message_cells, receiver_code, receiver_cells, accept_code, replica_code, comm_code, guarded_code, alternative_code, first_of, alternatives_code}
-use Rattle.pfc_translation.specs.Statements.{assign_code, label_of, labels_code, label_count, spread_replicas, chosen_code, sel_code, select_code, stmt_code, stmts_code, tests_code, arms_code, accepted_code, met_code, branch_code, branches_code, distances}
+use Rattle.pfc_translation.specs.Expressions.{expr_code, args_code, address_code, desig_code, object_code, selectors_code, first_value, first_address}
+use Rattle.pfc_translation.specs.Expressions.{call_instr}
+use Rattle.pfc_translation.specs.Calls.{write_instr, plain_item, wide_item, item_code, writes_code, read_instr, input_code, reads_code, given_code, rank_code}
+use Rattle.pfc_translation.specs.Calls.{first_object, procedure_code, enter_instr, exported_code, module_code, resource_of, requeue_code, activation_code}
+use Rattle.pfc_translation.specs.Calls.{formals_cells, entry_code, process_code, field_code, called_variable, called_process, called_code, found_code}
+use Rattle.pfc_translation.specs.Calls.{call_code}
+use Rattle.pfc_translation.specs.Selects.{message_code, message_cells, receiver_code, receiver_cells, accept_code, replica_code, comm_code, guarded_code}
+use Rattle.pfc_translation.specs.Selects.{alternative_code, first_of, alternatives_code}
+use Rattle.pfc_translation.specs.Statements.{assign_code, label_of, labels_code, label_count, spread_replicas, chosen_code, sel_code, select_code, stmt_code}
+use Rattle.pfc_translation.specs.Statements.{stmts_code, tests_code, arms_code, accepted_code, met_code, branch_code, branches_code, distances}
 use Rattle.pfc_code_laws.specs.Plain.{IsPlain}
 use Rattle.pfc_code_laws.proofs.Expressions.{plain_expr, plain_args, plain_selectors, plain_first, plain_first_address}
 use Rattle.pfc_standing_code.specs.Sizes.{IsSized}

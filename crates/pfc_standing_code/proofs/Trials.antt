@@ -12,7 +12,9 @@ use Rattle.pfc_types.specs.rules.Expressions.{Env, guard_names, guard_allows}
 use Rattle.pfc_types.proofs.Clean.{and-right}
 use Rattle.pfc_semantics.specs.Predeclared.{function_of}
 use Rattle.pfc_semantics.specs.Programs.{Block}
-use Rattle.pfc_semantics.specs.Remainders.{Context, Call, Action, to_procedure, to_function, to_module, to_requeue, to_process, to_entry, reads, writes, turns, calls, finishes, prints, inputs, skips, asks_eof, asks_eoln, asks_clock, asks_empty, draws, joins, initials, waits, signals, delays, resumes, sleeps, meets, decides, parts, scans, bars, passes, faults}
+use Rattle.pfc_semantics.specs.Remainders.{Context, Call, Action, to_procedure, to_function, to_module, to_requeue, to_process, to_entry, reads, writes, turns}
+use Rattle.pfc_semantics.specs.Remainders.{calls, finishes, prints, inputs, skips, asks_eof, asks_eoln, asks_clock, asks_empty, draws, joins, initials, waits}
+use Rattle.pfc_semantics.specs.Remainders.{signals, delays, resumes, sleeps, meets, decides, parts, scans, bars, passes, faults}
 use Rattle.pfc_standing_code.specs.Settings.{Trial, Setting, of_own, of_turn, of_another, IsInTrial}
 use Rattle.pfc_standing_code.specs.Effects.{Arm}
 use Rattle.pfc_standing_code.specs.Awaits.{is_asked, CallsAt}

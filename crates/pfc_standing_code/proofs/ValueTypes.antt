@@ -8,8 +8,11 @@ use Rattle.pfc_types.specs.declared.types.TypeForm.TheVariants.{Array}
 use Rattle.pfc_types.proofs.Clean.{and-right}
 use Rattle.pfc_semantics.specs.Values.{Value, Values}
 use Rattle.pfc_semantics.specs.Programs.{Block}
-use Rattle.pfc_semantics.specs.Remainders.{Context, AwaitsValue, begin_sum, add_to, begin_product, multiply_by, compare_with, compare_to, invert, apply, index_into, pass_value, store_at, choose, choose_arm, while_true, until_true, count_from, count_to, show, show_wide, pad, set_count, delay_with, sleep_for, send_on, open_if, offer_value, offer_wait, pass_own, pass_other}
-use Rattle.pfc_standing_code.specs.Shapes.{a_number, a_whole, shape_of, IsSound, IsOf, is_number, is_array, is_record, AreOf, none_of, one_of, AreFieldsOf, no_field, one_field}
+use Rattle.pfc_semantics.specs.Remainders.{Context, AwaitsValue, begin_sum, add_to, begin_product, multiply_by, compare_with, compare_to, invert, apply}
+use Rattle.pfc_semantics.specs.Remainders.{index_into, pass_value, store_at, choose, choose_arm, while_true, until_true, count_from, count_to, show, show_wide}
+use Rattle.pfc_semantics.specs.Remainders.{pad, set_count, delay_with, sleep_for, send_on, open_if, offer_value, offer_wait, pass_own, pass_other}
+use Rattle.pfc_standing_code.specs.Shapes.{a_number, a_whole, shape_of, IsSound, IsOf, is_number, is_array, is_record, AreOf, none_of, one_of, AreFieldsOf}
+use Rattle.pfc_standing_code.specs.Shapes.{no_field, one_field}
 use Rattle.pfc_standing_code.specs.ValueTypes.{IsValueType, value_simple, value_array, value_record, AreValueFields, no_value_field, one_value_field}
 use Rattle.pfc_standing_code.specs.Settings.{Setting}
 use Rattle.pfc_standing_code.specs.Effects.{Arm}

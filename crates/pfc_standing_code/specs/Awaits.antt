@@ -5,7 +5,8 @@
 use Rattle.std.specs.Prelude.{ℕ, suc, ◌+◌, ◌<◌, ◌≤◌, ◌≡◌, ℤ, Bool, true, false, List, [], ◌∷◌, ◌++◌, length, Option, Some, None}
 use Rattle.std.specs.List.{slice_get}
 use Rattle.pfc_code.specs.declared.instructions.Instr.{Instr}
-use Rattle.pfc_code.specs.declared.instructions.Instr.TheVariants.{LOAD, STORE, OBJ, NOT, JF, FORB, FORW, FORT, CALL, GRD, REQ, NEW, SCAN, SINI, SWAIT, SSIG, SEND, RECV, ECALL, ARMS, ARMR, ARMT, DELAY, RESUME, EMPTY, SLEEP, WRS}
+use Rattle.pfc_code.specs.declared.instructions.Instr.TheVariants.{LOAD, STORE, OBJ, NOT, JF, FORB, FORW, FORT, CALL, GRD, REQ, NEW, SCAN, SINI, SWAIT, SSIG}
+use Rattle.pfc_code.specs.declared.instructions.Instr.TheVariants.{SEND, RECV, ECALL, ARMS, ARMR, ARMT, DELAY, RESUME, EMPTY, SLEEP, WRS}
 use Rattle.pfc_tree.specs.trees.Stmts.{StmtTree, CommTree, while_do, repeat_until, comm_send, comm_receive}
 use Rattle.pfc_types.specs.Types.{semaphore, condition, is_simple}
 use Rattle.pfc_types.specs.Blocks.{module_at, process_at, entry_at}
@@ -19,13 +20,20 @@ use Rattle.pfc_semantics.specs.Objects.{module_number}
 use Rattle.pfc_semantics.specs.Operators.{simple_of}
 use Rattle.pfc_semantics.specs.Predeclared.{Function, eof, eoln, empty, clock, random, no_function}
 use Rattle.pfc_semantics.specs.Programs.{Block, block_at, block_number}
-use Rattle.pfc_semantics.specs.Remainders.{Context, Alternative, Selecting, Scan, Remainder, AwaitsValue, AwaitsLocation, Call, begin_sum, add_to, begin_product, multiply_by, compare_with, compare_to, invert, apply, index_into, pass_value, store_at, choose, choose_arm, while_true, until_true, count_from, count_to, show, show_wide, pad, set_count, delay_with, sleep_for, send_on, open_if, offer_value, offer_wait, pass_own, pass_other, read_for, assign_to, input_to, pass_variable, ask_empty, activate_with, enter_with, initial_to, wait_at, signal_at, delay_at, resume_at, send_to, receive_from, receive_into, offer_to, offer_from, offer_into, to_procedure, to_function, to_module, to_requeue, to_process, to_entry}
+use Rattle.pfc_semantics.specs.Remainders.{Context, Alternative, Selecting, Scan, Remainder, AwaitsValue, AwaitsLocation, Call, begin_sum, add_to}
+use Rattle.pfc_semantics.specs.Remainders.{begin_product, multiply_by, compare_with, compare_to, invert, apply, index_into, pass_value, store_at, choose}
+use Rattle.pfc_semantics.specs.Remainders.{choose_arm, while_true, until_true, count_from, count_to, show, show_wide, pad, set_count, delay_with, sleep_for}
+use Rattle.pfc_semantics.specs.Remainders.{send_on, open_if, offer_value, offer_wait, pass_own, pass_other, read_for, assign_to, input_to, pass_variable}
+use Rattle.pfc_semantics.specs.Remainders.{ask_empty, activate_with, enter_with, initial_to, wait_at, signal_at, delay_at, resume_at, send_to, receive_from}
+use Rattle.pfc_semantics.specs.Remainders.{receive_into, offer_to, offer_from, offer_into, to_procedure, to_function, to_module, to_requeue, to_process}
+use Rattle.pfc_semantics.specs.Remainders.{to_entry}
 use Rattle.pfc_semantics.specs.Alternatives.{context}
 use Rattle.pfc_semantics.specs.Expressions.{form_in}
 use Rattle.pfc_translation.specs.Sites.{Site, forms_of, blocks_of, links_to, type_cells}
 use Rattle.pfc_translation.specs.Codes.{Code, ◌⨾◌, one, over, back}
 use Rattle.pfc_translation.specs.Addresses.{element_in, type_behind, index_instr}
-use Rattle.pfc_translation.specs.Expressions.{relation_instr, add_instr, multiply_instr, sign_code, function_code, simple_code, summands_code, multipliers_code, expr_code, args_code, selectors_code, indices_code}
+use Rattle.pfc_translation.specs.Expressions.{relation_instr, add_instr, multiply_instr, sign_code, function_code, simple_code, summands_code, multipliers_code}
+use Rattle.pfc_translation.specs.Expressions.{expr_code, args_code, selectors_code, indices_code}
 use Rattle.pfc_translation.specs.Calls.{write_instr, read_instr, rank_code, enter_instr, resource_of, formals_cells}
 use Rattle.pfc_translation.specs.Selects.{message_code, message_cells, receiver_code, receiver_cells, comm_code}
 use Rattle.pfc_translation.specs.Statements.{stmt_code, stmts_code, arms_code, label_count}
@@ -34,10 +42,12 @@ use Rattle.pfc_standing_code.specs.Shapes.{Shape, a_number, shape_of, shape_cell
 use Rattle.pfc_standing_code.specs.ValueTypes.{IsValueType}
 use Rattle.pfc_standing_code.specs.Settings.{Setting, of_own, InNoScan, AreOver, site_of, IsAt, Stands}
 use Rattle.pfc_standing_code.specs.Effects.{Arm}
-use Rattle.pfc_standing_code.specs.Typed.{IsArray, ByName, InExpressions, FromOutside, ByRequeue, IsOfSub, TakesCells, LeavesCells, HasShape, AreSummands, AreMultipliers, HasShapeSimple, AreArguments, AreSelectors, AreIndices}
+use Rattle.pfc_standing_code.specs.Typed.{IsArray, ByName, InExpressions, FromOutside, ByRequeue, IsOfSub, TakesCells, LeavesCells, HasShape, AreSummands}
+use Rattle.pfc_standing_code.specs.Typed.{AreMultipliers, HasShapeSimple, AreArguments, AreSelectors, AreIndices}
 use Rattle.pfc_standing_code.specs.TypedStatements.{IsTyped, IsChannel, IsCarried, IsMessage, IsReceiver, IsRank, HasProcessForm, IsProcessType}
 use Rattle.pfc_standing_code.specs.Words.{IsWord, IsPart, IsSimpleWord, IsObject, AreHeld}
-use Rattle.pfc_standing_code.specs.Performs.{ArmsAt, StmtThen, direction, BranchAt, SelectAt, CommAt, WayAt, own_block, behind_scan, own_again, IsOwnBar, Tries, IsCheckedFor, Clear, Alone, Performs}
+use Rattle.pfc_standing_code.specs.Performs.{ArmsAt, StmtThen, direction, BranchAt, SelectAt, CommAt, WayAt, own_block, behind_scan, own_again, IsOwnBar, Tries}
+use Rattle.pfc_standing_code.specs.Performs.{IsCheckedFor, Clear, Alone, Performs}
 
 -- `eof`, `eoln` and `clock` have no argument, and that of `empty` is no value
 abbrev pub has_argument : Function → Bool

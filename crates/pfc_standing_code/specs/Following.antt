@@ -3,7 +3,8 @@ use Rattle.std.specs.Prelude.{ℕ, suc, ◌+◌, ◌<◌, ◌≤◌, ◌≡◌, 
 use Rattle.std.specs.List.{slice_get}
 use Rattle.pfc_base.specs.declared.faults.RunFault.{RunFault}
 use Rattle.pfc_code.specs.declared.instructions.Instr.{Instr}
-use Rattle.pfc_code.specs.declared.instructions.Instr.TheVariants.{LOAD, STORE, TURN, FORW, FORT, GRD, COEND, SINI, SWAIT, SSIG, SEND, RECV, ACC, EACC, DELAY, RESUME, EMPTY, SLEEP, CLOCK, RAND, WRS, WRNL, RDNL, EOF, EOLN}
+use Rattle.pfc_code.specs.declared.instructions.Instr.TheVariants.{LOAD, STORE, TURN, FORW, FORT, GRD, COEND, SINI, SWAIT, SSIG, SEND, RECV, ACC, EACC, DELAY}
+use Rattle.pfc_code.specs.declared.instructions.Instr.TheVariants.{RESUME, EMPTY, SLEEP, CLOCK, RAND, WRS, WRNL, RDNL, EOF, EOLN}
 use Rattle.pfc_tree.specs.trees.Stmts.{no_stmts}
 use Rattle.pfc_types.specs.Types.{semaphore, condition}
 use Rattle.pfc_types.specs.rules.Expressions.{Env}
@@ -17,7 +18,9 @@ use Rattle.pfc_semantics.specs.Values.{Value, ordinal}
 use Rattle.pfc_semantics.specs.Displays.{Spot}
 use Rattle.pfc_semantics.specs.Operators.{simple_of}
 use Rattle.pfc_semantics.specs.Programs.{Block}
-use Rattle.pfc_semantics.specs.Remainders.{Context, Offer, Open, Scan, Remainder, Action, to_send, to_receive, to_accept, to_wait, to_end, reads, writes, turns, calls, finishes, prints, inputs, skips, asks_eof, asks_eoln, asks_clock, asks_empty, draws, joins, initials, waits, signals, delays, resumes, sleeps, meets, decides, parts, scans, bars, passes, faults}
+use Rattle.pfc_semantics.specs.Remainders.{Context, Offer, Open, Scan, Remainder, Action, to_send, to_receive, to_accept, to_wait, to_end, reads, writes, turns}
+use Rattle.pfc_semantics.specs.Remainders.{calls, finishes, prints, inputs, skips, asks_eof, asks_eoln, asks_clock, asks_empty, draws, joins, initials, waits}
+use Rattle.pfc_semantics.specs.Remainders.{signals, delays, resumes, sleeps, meets, decides, parts, scans, bars, passes, faults}
 use Rattle.pfc_semantics.specs.Rewriting.{Doing, going, holding}
 use Rattle.pfc_translation.specs.Sites.{forms_of}
 use Rattle.pfc_translation.specs.Calls.{write_instr, read_instr}

@@ -13,7 +13,9 @@ use Rattle.pfc_types.specs.declared.types.TypeId.{TypeId}
 use Rattle.pfc_semantics.specs.Values.{Value}
 use Rattle.pfc_semantics.specs.Displays.{Spot}
 use Rattle.pfc_semantics.specs.Programs.{Block, Guard}
-use Rattle.pfc_semantics.specs.Remainders.{Context, Count, Replica, Accepting, Offer, Open, Alternative, Otherwise, Selecting, Bar, Way, Scan, Tried, Remainder, to_send, to_receive, to_accept, to_wait, to_end, leave, own, ends, perform, in_names, turn, until, behind_pass, next_pass, write_on, read_on, at_coend, part_from, write_again, go_through, try_guard, scan_on, try_other}
+use Rattle.pfc_semantics.specs.Remainders.{Context, Count, Replica, Accepting, Offer, Open, Alternative, Otherwise, Selecting, Bar, Way, Scan, Tried, Remainder}
+use Rattle.pfc_semantics.specs.Remainders.{to_send, to_receive, to_accept, to_wait, to_end, leave, own, ends, perform, in_names, turn, until, behind_pass}
+use Rattle.pfc_semantics.specs.Remainders.{next_pass, write_on, read_on, at_coend, part_from, write_again, go_through, try_guard, scan_on, try_other}
 use Rattle.pfc_semantics.specs.Alternatives.{context, accepting_of, a_signal}
 use Rattle.pfc_semantics.specs.Statements.{is_past}
 use Rattle.pfc_semantics.specs.Rewriting.{loop_line}
@@ -26,10 +28,12 @@ use Rattle.pfc_translation.specs.Statements.{stmt_code, stmts_code, tests_code, 
 use Rattle.pfc_translation.specs.Selects.{accept_cell, accept_cells, replica_code, comm_code, guarded_code, alternatives_code, first_of}
 use Rattle.pfc_cells.specs.Shapes.{words_of}
 use Rattle.pfc_standing_code.specs.Shapes.{a_number, shape_of, shape_cells, IsOf}
-use Rattle.pfc_standing_code.specs.Settings.{View, Trial, Attempt, Setting, of_own, of_turn, of_another, InNoScan, site_of, IsBeside, parted, IsAt, Stands, Jumped}
+use Rattle.pfc_standing_code.specs.Settings.{View, Trial, Attempt, Setting, of_own, of_turn, of_another, InNoScan, site_of, IsBeside, parted, IsAt, Stands}
+use Rattle.pfc_standing_code.specs.Settings.{Jumped}
 use Rattle.pfc_standing_code.specs.Effects.{Arm}
 use Rattle.pfc_standing_code.specs.Typed.{HasShape}
-use Rattle.pfc_standing_code.specs.TypedStatements.{IsChannel, IsCarried, AcceptsEntry, IsTyped, AreTyped, AreArmsTyped, AreWritten, AreRead, IsReplica, IsGuard, IsComm, AreAlternatives}
+use Rattle.pfc_standing_code.specs.TypedStatements.{IsChannel, IsCarried, AcceptsEntry, IsTyped, AreTyped, AreArmsTyped, AreWritten, AreRead, IsReplica}
+use Rattle.pfc_standing_code.specs.TypedStatements.{IsGuard, IsComm, AreAlternatives}
 use Rattle.pfc_standing_code.specs.Words.{IsWord, IsSimpleWord, IsObject, AreOwnNames, IsChecked}
 
 -- ## Statements at a place

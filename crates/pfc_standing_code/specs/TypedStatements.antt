@@ -4,8 +4,12 @@ use Rattle.pfc_base.specs.declared.places.Place.{Place}
 use Rattle.pfc_tree.specs.Symbols.{Text}
 use Rattle.pfc_tree.specs.declared.tree.Constant.{Constant}
 use Rattle.pfc_tree.specs.declared.tree.Spread.{Spread}
-use Rattle.pfc_tree.specs.trees.Exprs.{ExprTree, DesigTree, SelectorTrees, ActualTree, ActualTrees, desig, no_selectors, actual, actual_width, no_actuals, more_actuals}
-use Rattle.pfc_tree.specs.trees.Stmts.{StmtTree, StmtTrees, ArmTrees, AcceptTree, AltTree, AltTrees, CommTree, empty, null, block, if_then, if_then_else, case_of, while_do, repeat_until, repeat_forever, for_do, cobegin, accepting, requeue, select, select_else, assign, send, receive, call, no_stmts, more_stmts, body, arm, no_arms, more_arms, accept, accept_do, alt, no_alts, more_alts, comm_accept, comm_send, comm_receive, timeout, terminate}
+use Rattle.pfc_tree.specs.trees.Exprs.{ExprTree, DesigTree, SelectorTrees, ActualTree, ActualTrees, desig, no_selectors, actual, actual_width, no_actuals}
+use Rattle.pfc_tree.specs.trees.Exprs.{more_actuals}
+use Rattle.pfc_tree.specs.trees.Stmts.{StmtTree, StmtTrees, ArmTrees, AcceptTree, AltTree, AltTrees, CommTree, empty, null, block, if_then, if_then_else}
+use Rattle.pfc_tree.specs.trees.Stmts.{case_of, while_do, repeat_until, repeat_forever, for_do, cobegin, accepting, requeue, select, select_else, assign, send}
+use Rattle.pfc_tree.specs.trees.Stmts.{receive, call, no_stmts, more_stmts, body, arm, no_arms, more_arms, accept, accept_do, alt, no_alts, more_alts}
+use Rattle.pfc_tree.specs.trees.Stmts.{comm_accept, comm_send, comm_receive, timeout, terminate}
 use Rattle.pfc_types.specs.Types.{Forms, semaphore, condition, synchronous, is_simple, form_of, process_form}
 use Rattle.pfc_types.specs.Scopes.{meaning_of, meaning_in, scope_at}
 use Rattle.pfc_types.specs.Blocks.{Blocks, sub_at, module_at, process_at, entry_at}
@@ -30,7 +34,8 @@ use Rattle.pfc_translation.specs.Sites.{Site, at_line, in_accept, context_of, fo
 use Rattle.pfc_translation.specs.Selects.{message_cells, receiver_cells}
 use Rattle.pfc_standing_code.specs.Shapes.{a_number, shape_of, shape_cells}
 use Rattle.pfc_standing_code.specs.ValueTypes.{IsValueType}
-use Rattle.pfc_standing_code.specs.Typed.{StandsAt, IsDeclared, TakesCells, ByName, FromOutside, ByRequeue, IsSub, HasShape, IsGivenFirst, IsLentFirst, AreArguments, IsPartOf, IsDesig}
+use Rattle.pfc_standing_code.specs.Typed.{StandsAt, IsDeclared, TakesCells, ByName, FromOutside, ByRequeue, IsSub, HasShape, IsGivenFirst, IsLentFirst}
+use Rattle.pfc_standing_code.specs.Typed.{AreArguments, IsPartOf, IsDesig}
 
 -- a variable of a simple type that is named alone
 abbrev pub IsSimpleVariable : Site → Spot → Type 0

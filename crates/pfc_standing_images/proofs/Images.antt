@@ -9,7 +9,8 @@ use Rattle.pfc_translation.specs.Codes.{Lined, ◌⨾◌, one}
 use Rattle.pfc_translation.specs.Operands.{most_operands}
 use Rattle.pfc_translation.specs.Expressions.{expr_code}
 use Rattle.pfc_translation.specs.Calls.{resource_of}
-use Rattle.pfc_translation.specs.Images.{site_in, guard_code, end_of, statements_code, body_code, Piece, a_body, an_initial, a_resource, Coded, coded, strings_in, most_arms, before_main, of_main, size_of, put_from, instructions, block_from, blocks_from, scans_from}
+use Rattle.pfc_translation.specs.Images.{site_in, guard_code, end_of, statements_code, body_code, Piece, a_body, an_initial, a_resource, Coded, coded}
+use Rattle.pfc_translation.specs.Images.{strings_in, most_arms, before_main, of_main, size_of, put_from, instructions, block_from, blocks_from, scans_from}
 use Rattle.pfc_standing_code.specs.Sizes.{IsSized}
 use Rattle.pfc_standing_code.specs.Settings.{Setting, IsAt, HasCode, HasTexts}
 use Rattle.pfc_standing_code.proofs.Sizes.{sized_nothing, sized_then, sized_both, sized_expr, sized_stmts}

@@ -1,5 +1,6 @@
 -- The turn of a resource's scan stands behind the guards of its procedures: no more resources end before a body than before its module.
-use Rattle.std.proofs.Common.{◌≡◌, ℕ, zero, suc, ◌+◌, ◌<◌, ◌≤◌, ◌⊎◌, inl, inr, ◌==◌, Bool, true, false, if◌then◌else◌, List, [], ◌∷◌, ◌++◌, length, map, take, drop, Option, Some, None, refl, ap, ◌∙◌, sym, subst, arith}
+use Rattle.std.proofs.Common.{◌≡◌, ℕ, zero, suc, ◌+◌, ◌<◌, ◌≤◌, ◌⊎◌, inl, inr, ◌==◌, Bool, true, false, if◌then◌else◌, List, [], ◌∷◌, ◌++◌, length, map, take}
+use Rattle.std.proofs.Common.{drop, Option, Some, None, refl, ap, ◌∙◌, sym, subst, arith}
 use Rattle.std.specs.Prelude.{slice_get}
 use Rattle.std.proofs.lemmas.Option.{none-some, same_Some, slice_get-get_or}
 use Rattle.std.proofs.lemmas.Bool.Decides.{nat_tests}
@@ -7,7 +8,8 @@ use Rattle.std.proofs.lemmas.List.{append_assoc}
 use Rattle.std.proofs.lemmas.List.Quantifiers.{position-Some}
 use Rattle.pfc_code.specs.declared.images.Block.{Block as CodeBlock}
 use Rattle.pfc_tree.specs.trees.Stmts.{BodyTree, body}
-use Rattle.pfc_tree.specs.trees.Parts.{PartTree, PartTrees, SubTree, ModuleTree, ProcessTree, ProgramTree, consts, types, vars, sub_part, monitor, resource, process_part, no_parts, more_parts, sub, the_module, process}
+use Rattle.pfc_tree.specs.trees.Parts.{PartTree, PartTrees, SubTree, ModuleTree, ProcessTree, ProgramTree, consts, types, vars, sub_part, monitor, resource}
+use Rattle.pfc_tree.specs.trees.Parts.{process_part, no_parts, more_parts, sub, the_module, process}
 use Rattle.pfc_tree.specs.forget.Parts.{forget_program}
 use Rattle.pfc_tree.specs.lawful.Parts.{IsLawful}
 use Rattle.pfc_types.specs.Scopes.{Level, scope_at, here}
@@ -15,13 +17,16 @@ use Rattle.pfc_types.specs.Blocks.{State, module_at, no_module}
 use Rattle.pfc_types.specs.declared.heads.ModuleHead.{ModuleHead}
 use Rattle.pfc_types.specs.rules.Expressions.{Env}
 use Rattle.pfc_types.specs.rules.Statements.{body_scopes}
-use Rattle.pfc_types.specs.rules.Bodies.{env_at, around_process, around_sub, around_guard, passed, passed_part, passed_groups, passed_entries, part_scopes, parts_scopes, module_scopes, level}
+use Rattle.pfc_types.specs.rules.Bodies.{env_at, around_process, around_sub, around_guard, passed, passed_part, passed_groups, passed_entries, part_scopes}
+use Rattle.pfc_types.specs.rules.Bodies.{parts_scopes, module_scopes, level}
 use Rattle.pfc_semantics.specs.Layouts.{Layout, sub_layout_at, process_layout}
 use Rattle.pfc_semantics.specs.Objects.{of_kind, module_number}
-use Rattle.pfc_semantics.specs.Programs.{Block, Guard, Program, block_of, guard_of, part_blocks, parts_blocks, sub_blocks, module_blocks, process_blocks, part_inits, program_of}
+use Rattle.pfc_semantics.specs.Programs.{Block, Guard, Program, block_of, guard_of, part_blocks, parts_blocks, sub_blocks, module_blocks, process_blocks}
+use Rattle.pfc_semantics.specs.Programs.{part_inits, program_of}
 use Rattle.pfc_translation.specs.Sites.{module_of}
 use Rattle.pfc_translation.specs.Calls.{number_or_none, resource_of}
-use Rattle.pfc_translation.specs.Images.{site_in, guard_code, statements_code, body_code, Piece, a_body, an_initial, a_resource, resource_end, pieces, coded, before_main, blocks_from, scans_from, image_of}
+use Rattle.pfc_translation.specs.Images.{site_in, guard_code, statements_code, body_code, Piece, a_body, an_initial, a_resource, resource_end, pieces, coded}
+use Rattle.pfc_translation.specs.Images.{before_main, blocks_from, scans_from, image_of}
 use Rattle.pfc_standing_code.specs.Settings.{Setting}
 use Rattle.pfc_image_laws.specs.Modules.{modules_from}
 use Rattle.pfc_image_laws.proofs.Modules.{program_modules}

@@ -1,5 +1,6 @@
 -- The whole image: its code with the lines, and the blocks, the turns of scans and main in it.
-use Rattle.std.proofs.Common.{◌≡◌, ℕ, zero, suc, ◌+◌, ◌≤◌, max, false, List, [], ◌∷◌, ◌++◌, length, map, Option, Some, None, refl, ap, ap₂, ◌∙◌, sym, subst, arith}
+use Rattle.std.proofs.Common.{◌≡◌, ℕ, zero, suc, ◌+◌, ◌≤◌, max, false, List, [], ◌∷◌, ◌++◌, length, map, Option, Some, None, refl, ap, ap₂, ◌∙◌, sym, subst}
+use Rattle.std.proofs.Common.{arith}
 use Rattle.std.specs.Prelude.{slice_get, get_or}
 use Rattle.std.proofs.lemmas.Option.{none-some, same_Some}
 use Rattle.pfc_code.specs.declared.instructions.Instr.{Instr}
@@ -15,7 +16,9 @@ use Rattle.pfc_semantics.specs.Layouts.{Layout, main_layout}
 use Rattle.pfc_semantics.specs.Programs.{Block, Guard, Program, block_of, env_of_main, parts_blocks, parts_inits, ends_of_resources, program_of}
 use Rattle.pfc_translation.specs.Codes.{Lined}
 use Rattle.pfc_translation.specs.Operands.{most_operands}
-use Rattle.pfc_translation.specs.Images.{guard_code, statements_code, body_code, Piece, a_body, an_initial, a_resource, pieces, Coded, coded, strings_in, most_arms, before_main, of_main, size_of, put_from, instructions, blocks_from, main_block, scans_from, image_over, image_of}
+use Rattle.pfc_translation.specs.Images.{guard_code, statements_code, body_code, Piece, a_body, an_initial, a_resource, pieces, Coded, coded, strings_in}
+use Rattle.pfc_translation.specs.Images.{most_arms, before_main, of_main, size_of, put_from, instructions, blocks_from, main_block, scans_from, image_over}
+use Rattle.pfc_translation.specs.Images.{image_of}
 use Rattle.pfc_standing_code.specs.Settings.{Setting, IsAt, HasCode, HasTexts}
 use Rattle.pfc_standing_code.specs.Performs.{own_again}
 use Rattle.pfc_standing_images.specs.Images.{IsOfImage, HasPhrase, HasBody, BlockStands, StatementsThen, MainStands}

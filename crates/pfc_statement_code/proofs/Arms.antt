@@ -1,5 +1,6 @@
 -- The arms of a `case`: when all are put and led, their code is that of the definition.
-use Rattle.std.proofs.Common.{◌≡◌, ◌≤◌, ◌+◌, ◌++◌, ◌&&◌, ℕ, suc, true, List, [], ◌∷◌, length, refl, sym, ap, ap₂, subst, ◌∙◌, arith, append_assoc, length-append}
+use Rattle.std.proofs.Common.{◌≡◌, ◌≤◌, ◌+◌, ◌++◌, ◌&&◌, ℕ, suc, true, List, [], ◌∷◌, length, refl, sym, ap, ap₂, subst, ◌∙◌, arith, append_assoc}
+use Rattle.std.proofs.Common.{length-append}
 use Rattle.pfc_code.specs.declared.instructions.Instr.{Instr}
 use Rattle.pfc_code.specs.declared.instructions.Instr.TheVariants.{CEQ, CERR, JMP}
 use Rattle.pfc_tree.specs.declared.tree.Constant.{Constant}
@@ -16,7 +17,8 @@ use Rattle.pfc_expression_code.proofs.Joining.{made_nothing, made_both}
 use Rattle.pfc_statement_code.specs.Arms.{open_labels, open_tests, starts_of, ends_of, ArmsMade, have_labels, have_tests, labels_led, tests_led}
 use Rattle.pfc_statement_code.specs.Leading.{have_all, all_led}
 use Rattle.pfc_statement_code.proofs.Making.{made_left, made_left3, made_over}
-use Rattle.pfc_statement_code.proofs.Leading.{IsPatching, patching_none, patching_one, patching_both, through, made_through, led, last_led, last_has, have_all-patched, IsBehind, behind_none, behind_made, behind_has}
+use Rattle.pfc_statement_code.proofs.Leading.{IsPatching, patching_none, patching_one, patching_both, through, made_through, led, last_led, last_has}
+use Rattle.pfc_statement_code.proofs.Leading.{have_all-patched, IsBehind, behind_none, behind_made, behind_has}
 
 -- ## Tests as lists
 

@@ -1,15 +1,18 @@
 -- The branches of a select: when all are put and led, their code is that of the definition.
-use Rattle.std.proofs.Common.{◌≡◌, ◌≤◌, ◌+◌, ◌++◌, ◌&&◌, ℕ, suc, true, false, List, [], ◌∷◌, length, map, Option, Some, None, refl, sym, ap, ap₂, subst, ◌∙◌, arith, length-append}
+use Rattle.std.proofs.Common.{◌≡◌, ◌≤◌, ◌+◌, ◌++◌, ◌&&◌, ℕ, suc, true, false, List, [], ◌∷◌, length, map, Option, Some, None, refl, sym, ap, ap₂, subst, ◌∙◌}
+use Rattle.std.proofs.Common.{arith, length-append}
 use Rattle.pfc_code.specs.declared.instructions.Instr.TheVariants.{JMP}
 use Rattle.pfc_tree.specs.declared.tree.Spread.{Spread}
 use Rattle.pfc_tree.specs.trees.Exprs.{ExprTree}
-use Rattle.pfc_tree.specs.trees.Stmts.{StmtTrees, AltTree, AltTrees, CommTree, alt, no_alts, more_alts, comm_accept, comm_send, comm_receive, timeout, terminate}
+use Rattle.pfc_tree.specs.trees.Stmts.{StmtTrees, AltTree, AltTrees, CommTree, alt, no_alts, more_alts, comm_accept, comm_send, comm_receive, timeout}
+use Rattle.pfc_tree.specs.trees.Stmts.{terminate}
 use Rattle.pfc_types.specs.rules.Statements.{comm_scopes, alt_scopes, stmts_scopes}
 use Rattle.pfc_semantics.specs.Remainders.{Replica, Alternative}
 use Rattle.pfc_semantics.specs.Alternatives.{alternative, alternatives, spread_out, replicas}
 use Rattle.pfc_translation.specs.Sites.{Site, context_of}
 use Rattle.pfc_translation.specs.Codes.{Lined, nothing, ◌⨾◌, one, over, unseen}
-use Rattle.pfc_translation.specs.Statements.{chosen_code, spread_replicas, met_code, stmts_code, branch_code, branches_code, branches_from, replica_branches, spread_of, distances}
+use Rattle.pfc_translation.specs.Statements.{chosen_code, spread_replicas, met_code, stmts_code, branch_code, branches_code, branches_from, replica_branches}
+use Rattle.pfc_translation.specs.Statements.{spread_of, distances}
 use Rattle.pfc_emit.specs.Patches.{patched}
 use Rattle.pfc_emit.proofs.Patches.{length-patched}
 use Rattle.pfc_expression_code.specs.Putting.{Made, IsMade}
@@ -18,7 +21,8 @@ use Rattle.pfc_select_code.specs.Leading.{branch_addresses}
 use Rattle.pfc_statement_code.specs.Branches.{is_terminate, branch_body, open_branch, branch_starts, end_of, branch_ends, BranchesMade}
 use Rattle.pfc_statement_code.specs.Leading.{have_all, all_led}
 use Rattle.pfc_statement_code.proofs.Making.{made_left3, made_over}
-use Rattle.pfc_statement_code.proofs.Leading.{IsPatching, through, made_through, led, last_led, last_has, all_led-both, have_all-both, all_patching, and-left, and-right, IsBehind, behind_none, behind_made, behind_has}
+use Rattle.pfc_statement_code.proofs.Leading.{IsPatching, through, made_through, led, last_led, last_has, all_led-both, have_all-both, all_patching, and-left}
+use Rattle.pfc_statement_code.proofs.Leading.{and-right, IsBehind, behind_none, behind_made, behind_has}
 
 -- ## Sizes
 

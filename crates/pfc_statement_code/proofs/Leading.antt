@@ -1,11 +1,13 @@
 -- Instructions that get an address when more code is put: what was made before and behind them stays made.
-use Rattle.std.proofs.Common.{◌≡◌, ◌<◌, ◌≤◌, ◌+◌, ◌++◌, ◌&&◌, ℕ, Bool, true, false, List, [], ◌∷◌, length, refl, sym, ap, ap₂, ◌∙◌, arith, append_assoc, append-nil, length-append}
+use Rattle.std.proofs.Common.{◌≡◌, ◌<◌, ◌≤◌, ◌+◌, ◌++◌, ◌&&◌, ℕ, Bool, true, false, List, [], ◌∷◌, length, refl, sym, ap, ap₂, ◌∙◌, arith, append_assoc}
+use Rattle.std.proofs.Common.{append-nil, length-append}
 use Rattle.pfc_code.specs.declared.instructions.Instr.{Instr}
 use Rattle.pfc_translation.specs.Sites.{Site}
 use Rattle.pfc_translation.specs.Codes.{Code, Lined, ◌⨾◌, one, over}
 use Rattle.pfc_emit.specs.Addresses.{has_address, retargeted}
 use Rattle.pfc_emit.specs.Patches.{has_address_at, patched}
-use Rattle.pfc_emit.proofs.Patches.{within_code, has_address_at-append_left, has_address_at-between, has_address_at-patched, length-patched, patched-append_left, patched-between}
+use Rattle.pfc_emit.proofs.Patches.{within_code, has_address_at-append_left, has_address_at-between, has_address_at-patched, length-patched}
+use Rattle.pfc_emit.proofs.Patches.{patched-append_left, patched-between}
 use Rattle.pfc_expression_code.specs.Putting.{Made, IsMade}
 use Rattle.pfc_expression_code.proofs.Joining.{made_both}
 use Rattle.pfc_statement_code.specs.Leading.{have_all, all_led}

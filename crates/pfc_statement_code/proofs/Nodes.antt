@@ -15,9 +15,11 @@ use Rattle.pfc_tree.specs.Symbols.{Text}
 use Rattle.pfc_tree.specs.declared.tree.Accept.{Accept}
 use Rattle.pfc_tree.specs.declared.tree.CaseArm.{CaseArm, fold_out-CaseArm}
 use Rattle.pfc_tree.specs.declared.tree.Alt.{Alt, out-Alt, fold_out-Alt}
-use Rattle.pfc_tree.specs.trees.Stmts.{CommTree, StmtTree, AcceptTree, AltTree, BodyTree, ArmTree, arm, alt, if_then_else, for_do, accepting, select_else, no_stmts, more_stmts, no_arms, more_arms, no_alts, more_alts}
+use Rattle.pfc_tree.specs.trees.Stmts.{CommTree, StmtTree, AcceptTree, AltTree, BodyTree, ArmTree, arm, alt, if_then_else, for_do, accepting, select_else}
+use Rattle.pfc_tree.specs.trees.Stmts.{no_stmts, more_stmts, no_arms, more_arms, no_alts, more_alts}
 use Rattle.pfc_tree.specs.views.Exprs.{expr_view}
-use Rattle.pfc_tree.specs.views.Stmts.{stmt_view, stmts_view, accept_view, arm_view, arms_view, alt_view, alts_view, comm_view, comm_step, stmt_step, accept_step, alt_step, body_step, arm_step}
+use Rattle.pfc_tree.specs.views.Stmts.{stmt_view, stmts_view, accept_view, arm_view, arms_view, alt_view, alts_view, comm_view, comm_step, stmt_step}
+use Rattle.pfc_tree.specs.views.Stmts.{accept_step, alt_step, body_step, arm_step}
 
 pub arm_view-out : (a : CaseArm) → arm_view a ≡ arm a.labels.items (stmt_view a.stmt.value)
 arm_view-out a = fold_out-CaseArm CommTree StmtTree AcceptTree AltTree BodyTree ArmTree comm_step stmt_step accept_step alt_step body_step arm_step a

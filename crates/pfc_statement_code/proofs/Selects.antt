@@ -17,7 +17,8 @@ use Rattle.pfc_select_code.specs.Alternatives.{open_comm, open_alternatives}
 use Rattle.pfc_statement_code.specs.Branches.{branch_ends, BranchesMade}
 use Rattle.pfc_statement_code.specs.Leading.{have_all, all_led}
 use Rattle.pfc_statement_code.proofs.Making.{made_alone}
-use Rattle.pfc_statement_code.proofs.Leading.{IsPatching, patching_one, all_patching, through, made_through, led, last_has, behind_none, behind_made, behind_has}
+use Rattle.pfc_statement_code.proofs.Leading.{IsPatching, patching_one, all_patching, through, made_through, led, last_has, behind_none, behind_made}
+use Rattle.pfc_statement_code.proofs.Leading.{behind_has}
 use Rattle.pfc_statement_code.proofs.Branches.{branches_behind, branches_length, branches_through, branches_have, branches_led, have_later}
 use Rattle.pfc_statement_code.proofs.Forms.{alone_led}
 

@@ -13,11 +13,15 @@ use Rattle.pfc_types.specs.declared.heads.Formal.{Formal}
 use Rattle.pfc_types.specs.rules.Expressions.{Env, find, as_desig, expr_type, desig_type}
 use Rattle.pfc_semantics.specs.Values.{Value, ordinal_of}
 use Rattle.pfc_semantics.specs.Displays.{Spot, TypedSpot}
-use Rattle.pfc_semantics.specs.Remainders.{Context, Bar, Remainder, Action, in_names, try_guard, pass_own, by_reference, assign_to, input_to, read_on, show, show_wide, pad, prints, initial_to, wait_at, signal_at, delay_at, resume_at, sleep_for, send_to, receive_from, activate_with, enter_with, turn}
+use Rattle.pfc_semantics.specs.Remainders.{Context, Bar, Remainder, Action, in_names, try_guard, pass_own, by_reference, assign_to, input_to, read_on, show}
+use Rattle.pfc_semantics.specs.Remainders.{show_wide, pad, prints, initial_to, wait_at, signal_at, delay_at, resume_at, sleep_for, send_to, receive_from}
+use Rattle.pfc_semantics.specs.Remainders.{activate_with, enter_with, turn}
 use Rattle.pfc_semantics.specs.Predeclared.{wait, signal, delay, resume, sleep}
 use Rattle.pfc_semantics.specs.Alternatives.{context, message_of, receiver_of}
 use Rattle.pfc_semantics.specs.Expressions.{spot_of, from_expr, from_desig, from_selectors, from_reference, from_argument}
-use Rattle.pfc_semantics.specs.Statements.{from_stmt, from_stmts, from_assign, from_item, from_string, from_wide_string, as_string, from_input, from_reads, item_of, expr_of, behind_first, from_initial, from_procedure, from_activation, from_entry_call, from_send, from_receive}
+use Rattle.pfc_semantics.specs.Statements.{from_stmt, from_stmts, from_assign, from_item, from_string, from_wide_string, as_string, from_input, from_reads}
+use Rattle.pfc_semantics.specs.Statements.{item_of, expr_of, behind_first, from_initial, from_procedure, from_activation, from_entry_call, from_send}
+use Rattle.pfc_semantics.specs.Statements.{from_receive}
 use Rattle.pfc_semantics.specs.Rewriting.{from_remainder, from_value, from_location}
 use Rattle.pfc_sites.proofs.References.{first_given}
 use Rattle.pfc_pending.specs.Waiting.{choose_of, choose_arm_of, while_true_of, until_of, count_from_of, count_to_of}

@@ -1,5 +1,6 @@
 -- Objects are numbered one behind the other.
-use Rattle.std.proofs.Common.{◌≡◌, ℕ, zero, suc, ◌+◌, ◌<◌, ◌≤◌, pos, Bool, true, false, nat_lt, List, [], ◌∷◌, ◌++◌, length, take, drop, get_or, slice_get, Some, None, refl, sym, ap, ap₂, ◌∙◌, arith}
+use Rattle.std.proofs.Common.{◌≡◌, ℕ, zero, suc, ◌+◌, ◌<◌, ◌≤◌, pos, Bool, true, false, nat_lt, List, [], ◌∷◌, ◌++◌, length, take, drop, get_or, slice_get}
+use Rattle.std.proofs.Common.{Some, None, refl, sym, ap, ap₂, ◌∙◌, arith}
 use Rattle.std.specs.Prelude.{if◌then◌else◌}
 use Rattle.std.proofs.lemmas.Bool.Decides.{nat_tests}
 use Rattle.std.proofs.lemmas.List.{append_assoc, append-nil, drop_more, take_more, get_or_past, length-take-le}
@@ -16,7 +17,9 @@ use Rattle.pfc_types.specs.declared.scope.Meaning.{Meaning}
 use Rattle.pfc_types.specs.declared.scope.Meaning.TheVariants.{Variable, Constant, Named, Sub, Module, Process, Entry, Predeclared, Faulty}
 use Rattle.pfc_state.specs.Waits.{same_truth}
 use Rattle.pfc_semantics.specs.Values.{Value, Values, ordinal, no_values, more_values, values_from}
-use Rattle.pfc_semantics.specs.Objects.{Objects, Numbered, Numbering, unnumbered, a_semaphore, a_condition, numbering_of, one_more, numbered_copies, numbered_fields, numbering_form, predeclared_numberings, numbering_next, all_numberings, numbered_names, of_main, numbered_main, of_kind}
+use Rattle.pfc_semantics.specs.Objects.{Objects, Numbered, Numbering, unnumbered, a_semaphore, a_condition, numbering_of, one_more, numbered_copies}
+use Rattle.pfc_semantics.specs.Objects.{numbered_fields, numbering_form, predeclared_numberings, numbering_next, all_numberings, numbered_names, of_main}
+use Rattle.pfc_semantics.specs.Objects.{numbered_main, of_kind}
 use Rattle.pfc_store.specs.Numbered.{behind}
 use Rattle.pfc_store.proofs.Living.{unlike}
 use Rattle.pfc_semantics.proofs.Tables.{built_length, built_at, built_below, built_form}

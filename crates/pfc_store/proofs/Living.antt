@@ -1,5 +1,6 @@
 -- The store of the definitions, where the code finds an activation's room among those that it keeps, the latest last.
-use Rattle.std.proofs.Common.{◌≡◌, ℕ, ◌+◌, ◌<◌, true, false, List, [], ◌∷◌, ◌++◌, length, map, reverse, take, drop, set, get_or, Option, Some, None, ◌≢◌, Vec, Global, add-one, refl, sym, ap, ap₂, ◌∙◌, subst, arith}
+use Rattle.std.proofs.Common.{◌≡◌, ℕ, ◌+◌, ◌<◌, true, false, List, [], ◌∷◌, ◌++◌, length, map, reverse, take, drop, set, get_or, Option, Some, None, ◌≢◌, Vec}
+use Rattle.std.proofs.Common.{Global, add-one, refl, sym, ap, ap₂, ◌∙◌, subst, arith}
 use Rattle.std.specs.Prelude.{◌==◌, if◌then◌else◌}
 use Rattle.std.specs.List.{remove}
 use Rattle.std.proofs.lemmas.List.{append_assoc, map-append, reverse-append, take-append-drop, drop_more, take-set, drop-set-lt, get_or-set_same, length-set}

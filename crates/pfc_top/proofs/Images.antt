@@ -16,7 +16,8 @@ use Rattle.pfc_meaning.specs.Unbuilt.{unbuilt}
 use Rattle.pfc_translation.specs.Images.{image_of}
 use Rattle.pfc_relation.specs.code.Images as main
 use Rattle.pfc_main_code.proofs.Images.{images_same}
-use Rattle.pfc_outcome.specs.Outcomes.{Outcome, IsLevel, IsOutcomeOfTokens, IsOutcomeOfTree, IsUnlisted, not_built_yet, no_fault, refused, static_fault, syntax_fault, syntax_refusal}
+use Rattle.pfc_outcome.specs.Outcomes.{Outcome, IsLevel, IsOutcomeOfTokens, IsOutcomeOfTree, IsUnlisted, not_built_yet, no_fault, refused, static_fault}
+use Rattle.pfc_outcome.specs.Outcomes.{syntax_fault, syntax_refusal}
 use Rattle.pfc_outcome.specs.Requests.{Request}
 use Rattle.pfc_top.specs.Compiling.{IsImage, AreCompiled, IsCompiled, RefusedFor, IsUncompiled, AreUncompiled, IsWithout}
 use Rattle.pfc_top.specs.Meanings.{source_meaning}

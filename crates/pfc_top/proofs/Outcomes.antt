@@ -1,5 +1,6 @@
 -- What replies say of the outcomes of a text.
-use Rattle.std.proofs.Common.{◌≡◌, ◌≢◌, ◌⊎◌, inl, inr, ℕ, List, [], ◌++◌, Option, Some, None, Result, Ok, Err, IfOk, IfErr, refl, sym, ap, ap₂, ◌∙◌, subst, arith, append_assoc}
+use Rattle.std.proofs.Common.{◌≡◌, ◌≢◌, ◌⊎◌, inl, inr, ℕ, List, [], ◌++◌, Option, Some, None, Result, Ok, Err, IfOk, IfErr, refl, sym, ap, ap₂, ◌∙◌, subst}
+use Rattle.std.proofs.Common.{arith, append_assoc}
 use Rattle.std.specs.Io.KnownBytes.{Appends}
 use Rattle.std.proofs.KnownBytes.{Appends-nil, Appends-trans}
 use Rattle.std.specs.Prelude.{IsErrOf}
@@ -14,7 +15,8 @@ use Rattle.pfc_sched.specs.declared.picking.Policy.{Policy}
 use Rattle.std.specs.Prelude.{if◌then◌else◌}
 use Rattle.pfc_scan.specs.Cutting.{tokens}
 use Rattle.pfc_tree.specs.trees.Parts.{ProgramTree}
-use Rattle.pfc_outcome.specs.Outcomes.{Outcome, IsOutcomeOf, IsOutcomeOfFiles, IsOutcomeOfText, IsUnlisted, behind, code_written, listing_written, names_by, no_fault, request_by, run, run_under, text_by, without_run}
+use Rattle.pfc_outcome.specs.Outcomes.{Outcome, IsOutcomeOf, IsOutcomeOfFiles, IsOutcomeOfText, IsUnlisted, behind, code_written, listing_written, names_by}
+use Rattle.pfc_outcome.specs.Outcomes.{no_fault, request_by, run, run_under, text_by, without_run}
 use Rattle.pfc_outcome.specs.Loaded.{AreLoaded}
 use Rattle.pfc_outcome.specs.Loading.{Lack, Lacks, first_lack, long}
 use Rattle.pfc_outcome.specs.Options.{Asked}

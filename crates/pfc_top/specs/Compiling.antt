@@ -11,7 +11,8 @@ use Rattle.pfc_grammar.specs.Outcomes.{IsTreeOf}
 use Rattle.pfc_types.specs.rules.Whole.{first_fault}
 use Rattle.pfc_meaning.specs.Unbuilt.{unbuilt}
 use Rattle.pfc_translation.specs.Images.{image_of}
-use Rattle.pfc_outcome.specs.Outcomes.{Outcome, IsLevel, IsOutcomeOfTokens, IsOutcomeOfTree, IsUnlisted, instruction_count, most_instructions, not_built_yet, refused}
+use Rattle.pfc_outcome.specs.Outcomes.{Outcome, IsLevel, IsOutcomeOfTokens, IsOutcomeOfTree, IsUnlisted, instruction_count, most_instructions, not_built_yet}
+use Rattle.pfc_outcome.specs.Outcomes.{refused}
 use Rattle.pfc_outcome.specs.Requests.{Request}
 use Rattle.pfc_top.specs.Meanings.{source_meaning}
 use Rattle.pfc_top.specs.declared.compiling.Uncompiled.{Uncompiled}

@@ -1,5 +1,6 @@
 -- No action makes a process or loses one.
-use Rattle.std.proofs.Common.{◌≡◌, ℕ, ℤ, pos, negsuc, zero, suc, Bool, true, false, nat_le, List, [], ◌∷◌, length, Option, Some, None, Result, Ok, Err, refl, ap, ◌∙◌}
+use Rattle.std.proofs.Common.{◌≡◌, ℕ, ℤ, pos, negsuc, zero, suc, Bool, true, false, nat_le, List, [], ◌∷◌, length, Option, Some, None, Result, Ok, Err, refl}
+use Rattle.std.proofs.Common.{ap, ◌∙◌}
 use Rattle.std.specs.Prelude.{◌==◌, ◌+◌, ◌*◌, ◌/◌, if◌then◌else◌}
 use Rattle.rand_pcg.specs.Lcg.{Lcg}
 use Rattle.pfc_base.specs.declared.faults.RunFault.{RunFault}
@@ -25,8 +26,14 @@ use Rattle.pfc_semantics.specs.Objects.{module_number}
 use Rattle.pfc_semantics.specs.Operators.{simple_of}
 use Rattle.pfc_semantics.specs.Displays.{Spot}
 use Rattle.pfc_semantics.specs.Programs.{Block, Program, block_at}
-use Rattle.pfc_semantics.specs.Remainders.{Context, Argument, Call, Open, Offer, Otherwise, Selecting, Remainder, AwaitsValue, Scan, Tried, Way, leave, own, to_send, to_receive, to_accept, to_wait, to_end, to_procedure, to_function, to_module, to_requeue, to_process, to_entry, Action, reads, writes, turns, calls, finishes, prints, inputs, skips, asks_eof, asks_eoln, asks_clock, asks_empty, draws, joins, initials, waits, signals, delays, resumes, sleeps, meets, decides, parts, scans, bars, passes, faults}
-use Rattle.pfc_semantics.specs.Configurations.{Mark, plain, of_monitor, of_resource, Caller, of_nobody, of_remainder, of_value, Activation, Config, Effect, asking, activity_of, goes_on, showing, number_for, all_passed, with_table, counted, with_counted, monitors_held, with_monitors, resources_held, with_resources, body_of}
+use Rattle.pfc_semantics.specs.Remainders.{Context, Argument, Call, Open, Offer, Otherwise, Selecting, Remainder, AwaitsValue, Scan, Tried, Way, leave, own}
+use Rattle.pfc_semantics.specs.Remainders.{to_send, to_receive, to_accept, to_wait, to_end, to_procedure, to_function, to_module, to_requeue, to_process}
+use Rattle.pfc_semantics.specs.Remainders.{to_entry, Action, reads, writes, turns, calls, finishes, prints, inputs, skips, asks_eof, asks_eoln, asks_clock}
+use Rattle.pfc_semantics.specs.Remainders.{asks_empty, draws, joins, initials, waits, signals, delays, resumes, sleeps, meets, decides, parts, scans, bars}
+use Rattle.pfc_semantics.specs.Remainders.{passes, faults}
+use Rattle.pfc_semantics.specs.Configurations.{Mark, plain, of_monitor, of_resource, Caller, of_nobody, of_remainder, of_value, Activation, Config, Effect}
+use Rattle.pfc_semantics.specs.Configurations.{asking, activity_of, goes_on, showing, number_for, all_passed, with_table, counted, with_counted, monitors_held}
+use Rattle.pfc_semantics.specs.Configurations.{with_monitors, resources_held, with_resources, body_of}
 use Rattle.pfc_semantics.specs.Calls.{cells_above, most_cells, unless_full, activated, left_by}
 use Rattle.pfc_semantics.specs.Rewriting.{going}
 use Rattle.pfc_semantics.specs.Processes.{process_block, created, creates, joined}
@@ -35,10 +42,13 @@ use Rattle.pfc_semantics.specs.Monitors.{enters_monitor, is_inside, monitor_of}
 use Rattle.pfc_semantics.specs.Resources.{guarded_body, enters_resource, scanned_all, scanned_to, tried_at, passed_by, requeued_in, requeues}
 use Rattle.pfc_semantics.specs.Channels.{Side, arm_of, arms_of_all, behind_open, side_of}
 use Rattle.pfc_semantics.specs.Rendezvous.{called_into, called_at, enters}
-use Rattle.pfc_semantics.specs.Selects.{Timeout, latest, matched_places, place_taken, open_timeout, waits_until, waits_or_closed, times_out, goes_otherwise, decides_by}
+use Rattle.pfc_semantics.specs.Selects.{Timeout, latest, matched_places, place_taken, open_timeout, waits_until, waits_or_closed, times_out, goes_otherwise}
+use Rattle.pfc_semantics.specs.Selects.{decides_by}
 use Rattle.pfc_semantics.specs.Time.{slept, sleeps_for, clocked}
 use Rattle.pfc_semantics.specs.Steps.{enters_module, calls_by, returns_to, ends_for, ends_body, read_in, skipped_in, drawn_in, effect}
-use Rattle.pfc_traces.proofs.Rows.{SameRows, placed_rows, blocked_rows, started_rows, finished_rows, waited_rows, signalled_rows, entered_rows, handed_rows, delayed_rows, resumed_rows, resource_entered_rows, given_up_rows, barred_rows, requeued_rows, plainly_rows, called_rows, committed_rows}
+use Rattle.pfc_traces.proofs.Rows.{SameRows, placed_rows, blocked_rows, started_rows, finished_rows, waited_rows, signalled_rows, entered_rows, handed_rows}
+use Rattle.pfc_traces.proofs.Rows.{delayed_rows, resumed_rows, resource_entered_rows, given_up_rows, barred_rows, requeued_rows, plainly_rows, called_rows}
+use Rattle.pfc_traces.proofs.Rows.{committed_rows}
 
 -- what the action comes to has as many processes as this table
 abbrev pub KeepsRows : Table → Effect → Type 0

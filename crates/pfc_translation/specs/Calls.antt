@@ -3,8 +3,10 @@ use Rattle.std.specs.Prelude.{ℕ, pos, Bool, if◌then◌else◌, List, sum_by,
 use Rattle.pfc_base.specs.declared.places.Place.{Place}
 use Rattle.pfc_tree.specs.Symbols.{Text}
 use Rattle.pfc_code.specs.declared.instructions.Instr.{Instr}
-use Rattle.pfc_code.specs.declared.instructions.Instr.TheVariants.{LIT, OBJ, MCALL, RCALL, REQ, NEW, SINI, SWAIT, SSIG, ECALL, DELAY, RESUME, SLEEP, WRI, WRB, WRC, WRNL, RDI, RDC, RDNL}
-use Rattle.pfc_tree.specs.trees.Exprs.{ExprTree, DesigTree, SelectorTrees, ActualTree, ActualTrees, desig, no_selectors, actual, actual_width, no_actuals, more_actuals}
+use Rattle.pfc_code.specs.declared.instructions.Instr.TheVariants.{LIT, OBJ, MCALL, RCALL, REQ, NEW, SINI, SWAIT, SSIG, ECALL, DELAY, RESUME, SLEEP, WRI, WRB}
+use Rattle.pfc_code.specs.declared.instructions.Instr.TheVariants.{WRC, WRNL, RDI, RDC, RDNL}
+use Rattle.pfc_tree.specs.trees.Exprs.{ExprTree, DesigTree, SelectorTrees, ActualTree, ActualTrees, desig, no_selectors, actual, actual_width, no_actuals}
+use Rattle.pfc_tree.specs.trees.Exprs.{more_actuals}
 use Rattle.pfc_types.specs.Types.{Forms}
 use Rattle.pfc_types.specs.Scopes.{meaning_in, scope_at}
 use Rattle.pfc_types.specs.Blocks.{Blocks, sub_at, module_at, process_at, entry_at}

@@ -1,5 +1,6 @@
 -- Objects by their cells, and processes with their labels.
-use Rattle.std.specs.Prelude.{ℕ, ◌+◌, zero, suc, ℤ, pos, nat_abs, ◌+ℤ◌, Bool, true, false, if◌then◌else◌, List, [], ◌∷◌, ◌++◌, length, map, get_or, fold, Option, Some, None}
+use Rattle.std.specs.Prelude.{ℕ, ◌+◌, zero, suc, ℤ, pos, nat_abs, ◌+ℤ◌, Bool, true, false, if◌then◌else◌, List, [], ◌∷◌, ◌++◌, length, map, get_or, fold}
+use Rattle.std.specs.Prelude.{Option, Some, None}
 use Rattle.std.specs.Fmt.{signed_decimal}
 use Rattle.pfc_tree.specs.Symbols.{Text}
 use Rattle.pfc_code.specs.declared.images.Object.{Object}

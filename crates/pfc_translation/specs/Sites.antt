@@ -1,5 +1,6 @@
 -- Where a phrase stands, and where its variables lie from there: so many static links up, and in which cell.
-use Rattle.std.specs.Prelude.{ℕ, ◌+◌, ◌-◌, ◌==◌, nat_lt, nat_le, Bool, false, ◌&&◌, ◌||◌, if◌then◌else◌, List, [], ◌∷◌, length, take, drop, get_or, position, Option, Some, None, is_some, unwrap_or}
+use Rattle.std.specs.Prelude.{ℕ, ◌+◌, ◌-◌, ◌==◌, nat_lt, nat_le, Bool, false, ◌&&◌, ◌||◌, if◌then◌else◌, List, [], ◌∷◌, length, take, drop, get_or, position}
+use Rattle.std.specs.Prelude.{Option, Some, None, is_some, unwrap_or}
 use Rattle.pfc_types.specs.Types.{Forms, cells_in}
 use Rattle.pfc_types.specs.Scopes.{Level, scope_at}
 use Rattle.pfc_types.specs.Blocks.{Blocks}

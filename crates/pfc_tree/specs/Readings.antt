@@ -31,15 +31,18 @@ use Rattle.pfc_tree.specs.declared.tree.Sub.{Sub}
 use Rattle.pfc_tree.specs.declared.tree.Module.{Module}
 use Rattle.pfc_tree.specs.declared.tree.Process.{Process}
 use Rattle.pfc_tree.specs.declared.tree.Tree.{Tree}
-use Rattle.pfc_tree.specs.shapes.Exprs.{ExprShape, ExprShapes, SimpleShape, SummandShapes, TermShape, MultiplierShapes, FactorShape, DesigShape, SelectorShape, SelectorShapes, ActualShape, ActualShapes}
+use Rattle.pfc_tree.specs.shapes.Exprs.{ExprShape, ExprShapes, SimpleShape, SummandShapes, TermShape, MultiplierShapes, FactorShape, DesigShape, SelectorShape}
+use Rattle.pfc_tree.specs.shapes.Exprs.{SelectorShapes, ActualShape, ActualShapes}
 use Rattle.pfc_tree.specs.shapes.Types.{TypeShape, VarShape, VarShapes, TypeItemShape, GroupShape}
 use Rattle.pfc_tree.specs.shapes.Stmts.{StmtShape, StmtShapes, BodyShape, ArmShape, ArmShapes, AcceptShape, AltShape, AltShapes, CommShape}
 use Rattle.pfc_tree.specs.shapes.Parts.{KindShape, EntryShape, PartShape, PartShapes, SubShape, ModuleShape, ProcessShape, ProgramShape}
-use Rattle.pfc_tree.specs.forget.Exprs.{forget_expr, forget_exprs, forget_simple, forget_summands, forget_term, forget_multipliers, forget_factor, forget_desig, forget_selector, forget_selectors, forget_actual, forget_actuals}
+use Rattle.pfc_tree.specs.forget.Exprs.{forget_expr, forget_exprs, forget_simple, forget_summands, forget_term, forget_multipliers, forget_factor, forget_desig}
+use Rattle.pfc_tree.specs.forget.Exprs.{forget_selector, forget_selectors, forget_actual, forget_actuals}
 use Rattle.pfc_tree.specs.forget.Types.{bare, forget_type, forget_var, forget_vars, forget_type_item, forget_group}
 use Rattle.pfc_tree.specs.forget.Stmts.{forget_stmt, forget_stmts, forget_body, forget_arm, forget_arms, forget_accept, forget_alt, forget_alts, forget_comm}
 use Rattle.pfc_tree.specs.forget.Parts.{forget_kind, forget_entry, forget_part, forget_parts, forget_sub, forget_module, forget_process, forget_program}
-use Rattle.pfc_tree.specs.views.Exprs.{expr_view, exprs_view, simple_view, summands_view, term_view, multipliers_view, factor_view, desig_view, selector_view, selectors_view, actual_view, actuals_view}
+use Rattle.pfc_tree.specs.views.Exprs.{expr_view, exprs_view, simple_view, summands_view, term_view, multipliers_view, factor_view, desig_view, selector_view}
+use Rattle.pfc_tree.specs.views.Exprs.{selectors_view, actual_view, actuals_view}
 use Rattle.pfc_tree.specs.views.Types.{type_view, var_view, vars_view, type_item_view, group_view}
 use Rattle.pfc_tree.specs.views.Stmts.{stmt_view, stmts_view, body_view, arm_view, arms_view, accept_view, alt_view, alts_view, comm_view}
 use Rattle.pfc_tree.specs.views.Parts.{kind_view, entry_view, part_view, parts_view, sub_view, module_view, process_view, tree_view}

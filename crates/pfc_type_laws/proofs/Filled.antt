@@ -1,5 +1,6 @@
 -- Each type of a lawful tree takes a cell, since no record is without fields: by induction over the parts.
-use Rattle.std.proofs.Common.{◌≡◌, ℕ, ◌+◌, ◌*◌, ◌<◌, ◌≤◌, zero, suc, ℤ, int_le, Bool, true, false, not, ◌&&◌, nat_lt, if◌then◌else◌, is_some, List, [], ◌∷◌, ◌++◌, length, take, map, Option, Some, None, refl, ap, sym, ◌∙◌, subst, arith}
+use Rattle.std.proofs.Common.{◌≡◌, ℕ, ◌+◌, ◌*◌, ◌<◌, ◌≤◌, zero, suc, ℤ, int_le, Bool, true, false, not, ◌&&◌, nat_lt, if◌then◌else◌, is_some, List, [], ◌∷◌}
+use Rattle.std.proofs.Common.{◌++◌, length, take, map, Option, Some, None, refl, ap, sym, ◌∙◌, subst, arith}
 use Rattle.std.specs.List.{All, list_any}
 use Rattle.std.proofs.lemmas.Bool.Decides.{nat_tests}
 use Rattle.std.proofs.lemmas.List.Elements.{All-nil, All-cons, All-append}
@@ -11,17 +12,22 @@ use Rattle.pfc_tree.specs.Symbols.{Text}
 use Rattle.pfc_tree.specs.declared.tree.Constant.{Constant}
 use Rattle.pfc_tree.specs.declared.tree.ConstItem.{ConstItem}
 use Rattle.pfc_tree.specs.trees.Types.{TypeTree, VarTree, VarTrees, TypeItemTree, GroupTree, named, channel, array, fields, var_item, no_vars, more_vars}
-use Rattle.pfc_tree.specs.trees.Stmts.{StmtTree, StmtTrees, BodyTree, ArmTree, ArmTrees, AcceptTree, AltTree, AltTrees, CommTree, block, if_then, if_then_else, case_of, while_do, repeat_until, repeat_forever, for_do, cobegin, accepting, select, select_else, no_stmts, more_stmts, body, arm, no_arms, more_arms, accept, accept_do, alt, no_alts, more_alts, comm_accept}
-use Rattle.pfc_tree.specs.trees.Parts.{KindTree, EntryTree, PartTree, PartTrees, SubTree, ModuleTree, ProcessTree, ProgramTree, consts, types, vars, sub_part, monitor, resource, process_part, no_parts, more_parts, sub, the_module, process}
+use Rattle.pfc_tree.specs.trees.Stmts.{StmtTree, StmtTrees, BodyTree, ArmTree, ArmTrees, AcceptTree, AltTree, AltTrees, CommTree, block, if_then, if_then_else}
+use Rattle.pfc_tree.specs.trees.Stmts.{case_of, while_do, repeat_until, repeat_forever, for_do, cobegin, accepting, select, select_else, no_stmts, more_stmts}
+use Rattle.pfc_tree.specs.trees.Stmts.{body, arm, no_arms, more_arms, accept, accept_do, alt, no_alts, more_alts, comm_accept}
+use Rattle.pfc_tree.specs.trees.Parts.{KindTree, EntryTree, PartTree, PartTrees, SubTree, ModuleTree, ProcessTree, ProgramTree, consts, types, vars, sub_part}
+use Rattle.pfc_tree.specs.trees.Parts.{monitor, resource, process_part, no_parts, more_parts, sub, the_module, process}
 use Rattle.pfc_tree.specs.forget.Types.{bare, forget_type, forget_var, forget_vars, forget_type_item}
 use Rattle.pfc_tree.specs.forget.Parts.{forget_part, forget_parts, forget_sub, forget_module, forget_process, forget_program}
 use Rattle.pfc_tree.specs.lawful.Types.{IsFilled, IsLawfulType, IsLawfulVar, AreLawfulFields, AreLawfulVars, AreLawfulTypeItems}
-use Rattle.pfc_tree.specs.lawful.Parts.{Home, of_program, of_resource, of_other, IsLawfulPart, AreLawfulParts, IsLawfulSub, IsLawfulModule, IsLawfulProcess, IsLawful}
+use Rattle.pfc_tree.specs.lawful.Parts.{Home, of_program, of_resource, of_other, IsLawfulPart, AreLawfulParts, IsLawfulSub, IsLawfulModule, IsLawfulProcess}
+use Rattle.pfc_tree.specs.lawful.Parts.{IsLawful}
 use Rattle.pfc_types.specs.Faults.{Faults, unless}
 use Rattle.pfc_types.specs.Types.{Forms, integer, form_of, cells_in, extent, is_object, refusal_of, most_processes, is_simple}
 use Rattle.pfc_types.specs.Fields.{FieldList, type_named}
 use Rattle.pfc_types.specs.Scopes.{Level, scope_at, here, meaning_in, look}
-use Rattle.pfc_types.specs.Blocks.{State, declare, note, open_scope, add_name, add_sub, add_module, add_process, add_entry, add_form, export_sub, set_population, sub_at}
+use Rattle.pfc_types.specs.Blocks.{State, declare, note, open_scope, add_name, add_sub, add_module, add_process, add_entry, add_form, export_sub}
+use Rattle.pfc_types.specs.Blocks.{set_population, sub_at}
 use Rattle.pfc_types.specs.declared.types.TypeId.{TypeId}
 use Rattle.pfc_types.specs.declared.types.TypeForm.{TypeForm}
 use Rattle.pfc_types.specs.declared.types.TypeForm.TheVariants.{Channel, Array, Record, Process as AProcess}
@@ -32,8 +38,18 @@ use Rattle.pfc_types.specs.declared.scope.Meaning.TheVariants.{Named, Sub, Modul
 use Rattle.pfc_types.specs.declared.heads.SubHead.{SubHead}
 use Rattle.pfc_types.specs.declared.heads.ProcessHead.{ProcessHead}
 use Rattle.pfc_types.specs.rules.Kinds.{type_name_rules, has_object, type_meaning, variable_meaning}
-use Rattle.pfc_types.specs.rules.Constants.{Ordinal, Extent, same_ordinal, constant_place, constant_value, broken_constant, broken_ranges, range_extents, type_place, Made, added_unless, added, channel_form, array_of, made_arrays, MadeFields, made_field, made_names, made_group, record_form, fields_begun, made, made_items, made_item}
-use Rattle.pfc_types.specs.rules.Declarations.{constant_meaning, const_state, consts_state, type_state, types_state, Owner, in_program, elsewhere, owner_rules, owned_type, passes_most, populated, brought, var_name_state, var_names_state, var_state, vars_state, group_type, broken_group, Heading, formal_heading, formals_heading, group_viewed, group_heading, groups_heading, heading, EntryHeading, entry_formal, entry_formals, entry_group, entry_groups, entry_meaning, entry_state, entries_state, accept_rule, accept_groups, accept_heading, accepted, Labels, label_noted, labels_noted, stmt_state, stmts_state, body_state, arms_state, arm_state, accept_state, alts_state, alt_state, comm_state, broken_sort, sort_of, sub_meaning, whole_sort, sub_headed, may_export, export_state, export_list, exports_state, module_owner, init_state, process_named, process_headed, process_cells, scope_cells, result_cells, cells_rule, part_state, parts_state, sub_state, module_state, process_state}
+use Rattle.pfc_types.specs.rules.Constants.{Ordinal, Extent, same_ordinal, constant_place, constant_value, broken_constant, broken_ranges, range_extents}
+use Rattle.pfc_types.specs.rules.Constants.{type_place, Made, added_unless, added, channel_form, array_of, made_arrays, MadeFields, made_field, made_names}
+use Rattle.pfc_types.specs.rules.Constants.{made_group, record_form, fields_begun, made, made_items, made_item}
+use Rattle.pfc_types.specs.rules.Declarations.{constant_meaning, const_state, consts_state, type_state, types_state, Owner, in_program, elsewhere, owner_rules}
+use Rattle.pfc_types.specs.rules.Declarations.{owned_type, passes_most, populated, brought, var_name_state, var_names_state, var_state, vars_state, group_type}
+use Rattle.pfc_types.specs.rules.Declarations.{broken_group, Heading, formal_heading, formals_heading, group_viewed, group_heading, groups_heading, heading}
+use Rattle.pfc_types.specs.rules.Declarations.{EntryHeading, entry_formal, entry_formals, entry_group, entry_groups, entry_meaning, entry_state, entries_state}
+use Rattle.pfc_types.specs.rules.Declarations.{accept_rule, accept_groups, accept_heading, accepted, Labels, label_noted, labels_noted, stmt_state, stmts_state}
+use Rattle.pfc_types.specs.rules.Declarations.{body_state, arms_state, arm_state, accept_state, alts_state, alt_state, comm_state, broken_sort, sort_of}
+use Rattle.pfc_types.specs.rules.Declarations.{sub_meaning, whole_sort, sub_headed, may_export, export_state, export_list, exports_state, module_owner}
+use Rattle.pfc_types.specs.rules.Declarations.{init_state, process_named, process_headed, process_cells, scope_cells, result_cells, cells_rule, part_state}
+use Rattle.pfc_types.specs.rules.Declarations.{parts_state, sub_state, module_state, process_state}
 use Rattle.pfc_types.specs.rules.Whole.{begun, declared_parts, declared_all, main_cells, finished}
 use Rattle.pfc_translation.specs.Addresses.{fields_before}
 use Rattle.pfc_cells.specs.Shapes.{has_parts}

@@ -1,10 +1,12 @@
 -- In a table whose types are made of earlier ones, arrays and records take the cells of their parts.
-use Rattle.std.proofs.Common.{◌≡◌, Option, ℕ, zero, suc, ◌+◌, ◌*◌, ◌<◌, true, false, ℤ, [], ◌∷◌, ◌++◌, length, take, get_or, fold, sum_by, nat_lt, Some, None, refl, ap, ◌∙◌, arith}
+use Rattle.std.proofs.Common.{◌≡◌, Option, ℕ, zero, suc, ◌+◌, ◌*◌, ◌<◌, true, false, ℤ, [], ◌∷◌, ◌++◌, length, take, get_or, fold, sum_by, nat_lt, Some, None}
+use Rattle.std.proofs.Common.{refl, ap, ◌∙◌, arith}
 use Rattle.std.proofs.lemmas.Bool.Decides.{nat_tests}
 use Rattle.std.proofs.lemmas.List.{take_all}
 use Rattle.std.proofs.lemmas.List.Sums.{sum_by-cons}
 use Rattle.pfc_tree.specs.Symbols.{Text}
-use Rattle.pfc_types.specs.Types.{Forms, form_of, cells_in, extent, is_simple, predeclared_forms, all_held, held_of, held_before, held_next, held_with, one_cell}
+use Rattle.pfc_types.specs.Types.{Forms, form_of, cells_in, extent, is_simple, predeclared_forms, all_held, held_of, held_before, held_next, held_with}
+use Rattle.pfc_types.specs.Types.{one_cell}
 use Rattle.pfc_types.specs.Fields.{FieldList}
 use Rattle.pfc_types.specs.Faulty.{BeginsPredeclared}
 use Rattle.pfc_types.specs.declared.types.TypeId.{TypeId}

@@ -1,8 +1,10 @@
 -- In a table that is built up a type without objects is a type of values.
-use Rattle.std.proofs.Common.{◌≡◌, ◌≢◌, ℕ, zero, suc, ◌+◌, ◌*◌, ◌<◌, ◌≤◌, ℤ, int_le, Bool, true, false, ◌||◌, nat_lt, min, is_some, [], ◌∷◌, length, take, fold, Option, Some, None, refl, sym, ap, ◌∙◌, arith, length-take}
+use Rattle.std.proofs.Common.{◌≡◌, ◌≢◌, ℕ, zero, suc, ◌+◌, ◌*◌, ◌<◌, ◌≤◌, ℤ, int_le, Bool, true, false, ◌||◌, nat_lt, min, is_some, [], ◌∷◌, length, take, fold}
+use Rattle.std.proofs.Common.{Option, Some, None, refl, sym, ap, ◌∙◌, arith, length-take}
 use Rattle.std.proofs.lemmas.Bool.Decides.{nat_tests}
 use Rattle.std.proofs.lemmas.Option.{slice_get-get_or}
-use Rattle.pfc_types.specs.Types.{Forms, form_of, extent, is_simple, is_object, held_of, held_before, held_next, held_with, held_times, predeclared_held, nothing_held, one_cell, fields_held, all_held, most_processes}
+use Rattle.pfc_types.specs.Types.{Forms, form_of, extent, is_simple, is_object, held_of, held_before, held_next, held_with, held_times, predeclared_held}
+use Rattle.pfc_types.specs.Types.{nothing_held, one_cell, fields_held, all_held, most_processes}
 use Rattle.pfc_types.specs.Fields.{FieldList}
 use Rattle.pfc_types.specs.declared.types.TypeId.{TypeId}
 use Rattle.pfc_types.specs.declared.types.TypeForm.{TypeForm}

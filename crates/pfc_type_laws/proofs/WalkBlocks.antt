@@ -1,17 +1,22 @@
 -- Through all declarations of a tree each type stands behind those that it is made of.
-use Rattle.std.proofs.Common.{◌≡◌, ℕ, zero, suc, ◌+◌, Bool, true, false, not, ◌&&◌, if◌then◌else◌, is_some, List, [], ◌∷◌, ◌++◌, length, get_or, Option, Some, None, refl, sym, subst, arith, length-append}
+use Rattle.std.proofs.Common.{◌≡◌, ℕ, zero, suc, ◌+◌, Bool, true, false, not, ◌&&◌, if◌then◌else◌, is_some, List, [], ◌∷◌, ◌++◌, length, get_or, Option, Some}
+use Rattle.std.proofs.Common.{None, refl, sym, subst, arith, length-append}
 use Rattle.std.specs.List.{list_any}
 use Rattle.pfc_base.specs.declared.places.Place.{Place}
 use Rattle.pfc_tree.specs.Symbols.{Text}
 use Rattle.pfc_tree.specs.declared.tree.Constant.{Constant}
 use Rattle.pfc_tree.specs.declared.tree.ConstItem.{ConstItem}
 use Rattle.pfc_tree.specs.trees.Types.{VarTrees, TypeItemTree, GroupTree, var_item, no_vars, more_vars}
-use Rattle.pfc_tree.specs.trees.Stmts.{StmtTree, StmtTrees, BodyTree, ArmTree, ArmTrees, AcceptTree, AltTree, AltTrees, CommTree, block, if_then, if_then_else, case_of, while_do, repeat_until, repeat_forever, for_do, cobegin, accepting, select, select_else, no_stmts, more_stmts, body, arm, no_arms, more_arms, accept, accept_do, alt, no_alts, more_alts, comm_accept}
-use Rattle.pfc_tree.specs.trees.Parts.{KindTree, EntryTree, PartTree, PartTrees, SubTree, ModuleTree, ProcessTree, ProgramTree, consts, types, vars, sub_part, monitor, resource, process_part, no_parts, more_parts, sub, the_module, process}
+use Rattle.pfc_tree.specs.trees.Stmts.{StmtTree, StmtTrees, BodyTree, ArmTree, ArmTrees, AcceptTree, AltTree, AltTrees, CommTree, block, if_then, if_then_else}
+use Rattle.pfc_tree.specs.trees.Stmts.{case_of, while_do, repeat_until, repeat_forever, for_do, cobegin, accepting, select, select_else, no_stmts, more_stmts}
+use Rattle.pfc_tree.specs.trees.Stmts.{body, arm, no_arms, more_arms, accept, accept_do, alt, no_alts, more_alts, comm_accept}
+use Rattle.pfc_tree.specs.trees.Parts.{KindTree, EntryTree, PartTree, PartTrees, SubTree, ModuleTree, ProcessTree, ProgramTree, consts, types, vars, sub_part}
+use Rattle.pfc_tree.specs.trees.Parts.{monitor, resource, process_part, no_parts, more_parts, sub, the_module, process}
 use Rattle.pfc_types.specs.Faults.{unless}
 use Rattle.pfc_types.specs.Types.{Forms, predeclared_forms, most_processes}
 use Rattle.pfc_types.specs.Scopes.{Level, scope_at, here, meaning_in, look}
-use Rattle.pfc_types.specs.Blocks.{State, no_blocks, note, declare, add_name, add_form, add_sub, add_module, add_process, add_entry, open_scope, set_population, sub_at, export_sub}
+use Rattle.pfc_types.specs.Blocks.{State, no_blocks, note, declare, add_name, add_form, add_sub, add_module, add_process, add_entry, open_scope, set_population}
+use Rattle.pfc_types.specs.Blocks.{sub_at, export_sub}
 use Rattle.pfc_types.specs.declared.types.TypeId.{TypeId}
 use Rattle.pfc_types.specs.declared.types.TypeForm.{TypeForm}
 use Rattle.pfc_types.specs.declared.types.TypeForm.TheVariants.{Process as AProcess}
@@ -21,11 +26,21 @@ use Rattle.pfc_types.specs.declared.scope.Meaning.{Meaning}
 use Rattle.pfc_types.specs.declared.scope.Meaning.TheVariants.{Named, Sub, Module, Process, Faulty}
 use Rattle.pfc_types.specs.rules.Kinds.{where_so, named_type, type_meaning, variable_meaning}
 use Rattle.pfc_types.specs.rules.Constants.{Ordinal, same_ordinal, constant_value, constant_place, broken_constant, made, type_place}
-use Rattle.pfc_types.specs.rules.Declarations.{constant_meaning, const_state, consts_state, type_state, types_state, Owner, in_program, elsewhere, owner_rules, shared_fits, condition_fits, owned_type, passed_fits, parameter_fits, parameter_type, passes_most, populated, brought, var_name_state, var_names_state, var_state, vars_state, group_type, broken_group, Heading, heading, accept_heading, formal_heading, formals_heading, group_viewed, group_heading, groups_heading, accept_groups, EntryHeading, entry_formal, entry_formals, entry_group, entry_groups, entry_meaning, entry_state, entries_state, accept_rule, accepted, Labels, label_noted, labels_noted, stmt_state, stmts_state, body_state, arms_state, arm_state, accept_state, alts_state, alt_state, comm_state, broken_sort, sort_of, whole_sort, sub_meaning, sub_headed, may_export, export_state, export_list, exports_state, module_owner, module_closed, init_state, process_named, process_headed, process_cells, cells_rule, scope_cells, result_cells, part_state, parts_state, sub_state, module_state, process_state}
+use Rattle.pfc_types.specs.rules.Declarations.{constant_meaning, const_state, consts_state, type_state, types_state, Owner, in_program, elsewhere, owner_rules}
+use Rattle.pfc_types.specs.rules.Declarations.{shared_fits, condition_fits, owned_type, passed_fits, parameter_fits, parameter_type, passes_most, populated}
+use Rattle.pfc_types.specs.rules.Declarations.{brought, var_name_state, var_names_state, var_state, vars_state, group_type, broken_group, Heading, heading}
+use Rattle.pfc_types.specs.rules.Declarations.{accept_heading, formal_heading, formals_heading, group_viewed, group_heading, groups_heading, accept_groups}
+use Rattle.pfc_types.specs.rules.Declarations.{EntryHeading, entry_formal, entry_formals, entry_group, entry_groups, entry_meaning, entry_state, entries_state}
+use Rattle.pfc_types.specs.rules.Declarations.{accept_rule, accepted, Labels, label_noted, labels_noted, stmt_state, stmts_state, body_state, arms_state}
+use Rattle.pfc_types.specs.rules.Declarations.{arm_state, accept_state, alts_state, alt_state, comm_state, broken_sort, sort_of, whole_sort, sub_meaning}
+use Rattle.pfc_types.specs.rules.Declarations.{sub_headed, may_export, export_state, export_list, exports_state, module_owner, module_closed, init_state}
+use Rattle.pfc_types.specs.rules.Declarations.{process_named, process_headed, process_cells, cells_rule, scope_cells, result_cells, part_state, parts_state}
+use Rattle.pfc_types.specs.rules.Declarations.{sub_state, module_state, process_state}
 use Rattle.pfc_types.specs.rules.Whole.{begun, declared_parts, declared_all, finished, types_of, scopes_of, main_cells}
 use Rattle.pfc_types.proofs.Prefixes.{begins_same}
 use Rattle.pfc_type_laws.specs.Tables.{IsBuiltUp}
-use Rattle.pfc_type_laws.proofs.WalkTypes.{IsPlaced, HasPlace, NoSignal, Holds, add_form_holds, note_holds, note_forms, open_holds, declare_holds, look_placed, named_placed, named_no_signal, type_made, type_no_signal}
+use Rattle.pfc_type_laws.proofs.WalkTypes.{IsPlaced, HasPlace, NoSignal, Holds, add_form_holds, note_holds, note_forms, open_holds, declare_holds, look_placed}
+use Rattle.pfc_type_laws.proofs.WalkTypes.{named_placed, named_no_signal, type_made, type_no_signal}
 
 -- ## What names are declared to stand for
 

@@ -1,5 +1,6 @@
 -- A name that is a factor, in which no rule is broken: a constant, a variable with its selectors, or a function with its arguments.
-use Rattle.std.proofs.Common.{◌≡◌, ℕ, zero, suc, ◌==◌, Bool, true, false, not, ◌&&◌, ◌||◌, if◌then◌else◌, List, [], ◌∷◌, length, get_or, is_some, Option, Some, None, refl, sym, ap, ◌∙◌, subst}
+use Rattle.std.proofs.Common.{◌≡◌, ℕ, zero, suc, ◌==◌, Bool, true, false, not, ◌&&◌, ◌||◌, if◌then◌else◌, List, [], ◌∷◌, length, get_or, is_some, Option, Some}
+use Rattle.std.proofs.Common.{None, refl, sym, ap, ◌∙◌, subst}
 use Rattle.pfc_base.specs.declared.places.Place.{Place}
 use Rattle.pfc_tree.specs.Symbols.{Text}
 use Rattle.pfc_tree.specs.trees.Exprs.{SelectorTrees, ActualTrees, no_selectors, more_selectors, no_actuals, more_actuals, actual, actual_width}
@@ -18,15 +19,21 @@ use Rattle.pfc_types.specs.declared.heads.SubSort.{SubSort}
 use Rattle.pfc_types.specs.declared.heads.SubSort.TheVariants.{Procedure, Guarded, Function}
 use Rattle.pfc_types.specs.rules.Kinds.{variable_type, has_simple}
 use Rattle.pfc_types.specs.rules.FaultyNames.{all_typed}
-use Rattle.pfc_types.specs.rules.Routines.{Want, a_value, a_simple_value, a_variable_of, wants_for, gives, gives_alike, Site as Stand, anywhere, in_main, in_monitor_sub, Routine, the_signal, a_function, routines, routine_of, one_integer, one_simple, one_condition, site_fits, site_rule, Callee, nothing_called, called_sort, called_routine, called_function, given, sort_value, routine_value, is_function_sort, is_signal, is_function_routine, fits_use, is_any}
-use Rattle.pfc_types.specs.rules.Expressions.{find, no_selector, no_actual, guard_allows, use_rules, plain_use, use_type, actual_count, count_rule, selected, args_fit, first_type, expr_type, broken_selectors, broken_actuals}
+use Rattle.pfc_types.specs.rules.Routines.{Want, a_value, a_simple_value, a_variable_of, wants_for, gives, gives_alike, Site as Stand, anywhere, in_main}
+use Rattle.pfc_types.specs.rules.Routines.{in_monitor_sub, Routine, the_signal, a_function, routines, routine_of, one_integer, one_simple, one_condition}
+use Rattle.pfc_types.specs.rules.Routines.{site_fits, site_rule, Callee, nothing_called, called_sort, called_routine, called_function, given, sort_value}
+use Rattle.pfc_types.specs.rules.Routines.{routine_value, is_function_sort, is_signal, is_function_routine, fits_use, is_any}
+use Rattle.pfc_types.specs.rules.Expressions.{find, no_selector, no_actual, guard_allows, use_rules, plain_use, use_type, actual_count, count_rule, selected}
+use Rattle.pfc_types.specs.rules.Expressions.{args_fit, first_type, expr_type, broken_selectors, broken_actuals}
 use Rattle.pfc_types.proofs.Clean.{clean, and-left, and-right}
-use Rattle.pfc_semantics.specs.Predeclared.{Function as AFunction, abs, sqr, odd, ord, chr, succ, pred, eof, eoln, empty, clock, random, no_function, functions, function_of}
+use Rattle.pfc_semantics.specs.Predeclared.{Function as AFunction, abs, sqr, odd, ord, chr, succ, pred, eof, eoln, empty, clock, random, no_function, functions}
+use Rattle.pfc_semantics.specs.Predeclared.{function_of}
 use Rattle.pfc_semantics.specs.Programs.{Block, Program}
 use Rattle.pfc_semantics.specs.Expressions.{spot_of}
 use Rattle.pfc_translation.specs.Sites.{Site, forms_of}
 use Rattle.pfc_standing_code.specs.Shapes.{Shape, a_number, shape_of}
-use Rattle.pfc_standing_code.specs.Typed.{IsDeclared, LeavesCells, InExpressions, IsOfSub, IsSub, Either, IsFunction, IsUse, IsGiven, IsGivenFirst, IsLent, IsLentFirst, AreArguments, AreSelectors}
+use Rattle.pfc_standing_code.specs.Typed.{IsDeclared, LeavesCells, InExpressions, IsOfSub, IsSub, Either, IsFunction, IsUse, IsGiven, IsGivenFirst, IsLent}
+use Rattle.pfc_standing_code.specs.Typed.{IsLentFirst, AreArguments, AreSelectors}
 use Rattle.pfc_name_laws.specs.Reached.{GivesSimple}
 use Rattle.pfc_typed_phrases.specs.Names.{left_behind, IsNamedSub, IsWhole, AreKnown}
 use Rattle.pfc_typed_phrases.specs.Phrases.{IsWanted, AreWanted, IsAsked, AreAsked}

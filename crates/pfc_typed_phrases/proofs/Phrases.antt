@@ -1,8 +1,12 @@
 -- Expressions, selectors and arguments in which no rule is broken have types, and the shapes of their types. One induction over all their forms.
-use Rattle.std.proofs.Common.{◌≡◌, ℕ, suc, ◌+◌, ◌==◌, Bool, true, false, not, ◌&&◌, ◌||◌, if◌then◌else◌, List, [], ◌∷◌, length, option_map, int_le, Option, Some, None, refl, sym, ap, ◌∙◌, subst, arith}
+use Rattle.std.proofs.Common.{◌≡◌, ℕ, suc, ◌+◌, ◌==◌, Bool, true, false, not, ◌&&◌, ◌||◌, if◌then◌else◌, List, [], ◌∷◌, length, option_map, int_le, Option}
+use Rattle.std.proofs.Common.{Some, None, refl, sym, ap, ◌∙◌, subst, arith}
 use Rattle.std.proofs.lemmas.Bool.Decides.{nat_tests}
 use Rattle.pfc_base.specs.declared.places.Place.{Place}
-use Rattle.pfc_tree.specs.trees.Exprs.{ExprTree, SimpleTree, SummandTrees, TermTree, MultiplierTrees, FactorTree, SelectorTrees, ExprTrees, ActualTrees, plain, related, sum, no_summands, more_summands, product, no_multipliers, more_multipliers, number, literal, negation, paren, applied, desig, index, field, no_selectors, more_selectors, no_exprs, more_exprs, actual, actual_width, no_actuals, more_actuals}
+use Rattle.pfc_tree.specs.trees.Exprs.{ExprTree, SimpleTree, SummandTrees, TermTree, MultiplierTrees, FactorTree, SelectorTrees, ExprTrees, ActualTrees, plain}
+use Rattle.pfc_tree.specs.trees.Exprs.{related, sum, no_summands, more_summands, product, no_multipliers, more_multipliers, number, literal, negation, paren}
+use Rattle.pfc_tree.specs.trees.Exprs.{applied, desig, index, field, no_selectors, more_selectors, no_exprs, more_exprs, actual, actual_width, no_actuals}
+use Rattle.pfc_tree.specs.trees.Exprs.{more_actuals}
 use Rattle.pfc_types.specs.Faults.{◌⨾◌, unless}
 use Rattle.pfc_types.specs.Types.{integer, boolean, char, condition, array_form, is_same, is_simple, is_object}
 use Rattle.pfc_types.specs.Scopes.{Level, meaning_of}
@@ -15,8 +19,14 @@ use Rattle.pfc_types.specs.declared.view.Found.{Found}
 use Rattle.pfc_types.specs.declared.view.Around.{Around}
 use Rattle.pfc_types.specs.rules.Kinds.{where_so, may_have, has, value_rule, variable_type, has_object}
 use Rattle.pfc_types.specs.rules.Constants.{is_char}
-use Rattle.pfc_types.specs.rules.Routines.{Want, a_value, a_simple_value, a_variable_of, may_suit, suits, fits_want, want_rules, nothing_called, called_function, site_fits, site_rule}
-use Rattle.pfc_types.specs.rules.Expressions.{find, simple_place, expr_place, add_operand, mul_operand, operated, operator_rule, signed_type, signed_rule, related_type, relation_rule, element_type, index_rule, field_type, field_rule, no_selector, no_actual, guard_allows, use_rules, plain_use, use_type, actual_count, count_rule, lends, found_lends, is_variable, expr_type, simple_type, summed, term_type, multiplied, factor_type, selected, indexed, args_fit, arg_fits, first_type, broken_expr, broken_simple, broken_summands, broken_term, broken_multipliers, broken_factor, broken_selectors, broken_indexes, broken_actuals, broken_actual, broken_wanted}
+use Rattle.pfc_types.specs.rules.Routines.{Want, a_value, a_simple_value, a_variable_of, may_suit, suits, fits_want, want_rules, nothing_called}
+use Rattle.pfc_types.specs.rules.Routines.{called_function, site_fits, site_rule}
+use Rattle.pfc_types.specs.rules.Expressions.{find, simple_place, expr_place, add_operand, mul_operand, operated, operator_rule, signed_type, signed_rule}
+use Rattle.pfc_types.specs.rules.Expressions.{related_type, relation_rule, element_type, index_rule, field_type, field_rule, no_selector, no_actual}
+use Rattle.pfc_types.specs.rules.Expressions.{guard_allows, use_rules, plain_use, use_type, actual_count, count_rule, lends, found_lends, is_variable}
+use Rattle.pfc_types.specs.rules.Expressions.{expr_type, simple_type, summed, term_type, multiplied, factor_type, selected, indexed, args_fit, arg_fits}
+use Rattle.pfc_types.specs.rules.Expressions.{first_type, broken_expr, broken_simple, broken_summands, broken_term, broken_multipliers, broken_factor}
+use Rattle.pfc_types.specs.rules.Expressions.{broken_selectors, broken_indexes, broken_actuals, broken_actual, broken_wanted}
 use Rattle.pfc_types.proofs.Clean.{clean, and-left, and-right}
 use Rattle.pfc_semantics.specs.Displays.{TypedSpot}
 use Rattle.pfc_semantics.specs.Programs.{Block, Program}
@@ -25,10 +35,12 @@ use Rattle.pfc_semantics.specs.Expressions.{spot_of}
 use Rattle.pfc_translation.specs.Sites.{Site, forms_of}
 use Rattle.pfc_translation.specs.Addresses.{type_behind}
 use Rattle.pfc_standing_code.specs.Shapes.{Shape, a_number, shape_of}
-use Rattle.pfc_standing_code.specs.Typed.{IsDeclared, IsFunction, IsUse, HasShape, HasShapeSimple, AreSummands, HasShapeTerm, AreMultipliers, HasShapeFactor, IsGivenFirst, IsLentFirst, IsVariable, AreArguments, AreSelectors, AreIndices}
+use Rattle.pfc_standing_code.specs.Typed.{IsDeclared, IsFunction, IsUse, HasShape, HasShapeSimple, AreSummands, HasShapeTerm, AreMultipliers, HasShapeFactor}
+use Rattle.pfc_standing_code.specs.Typed.{IsGivenFirst, IsLentFirst, IsVariable, AreArguments, AreSelectors, AreIndices}
 use Rattle.pfc_typed_phrases.specs.Names.{AreKnown}
 use Rattle.pfc_typed_phrases.specs.Phrases.{IsWanted, AreWanted, IsAsked, AreAsked}
-use Rattle.pfc_typed_phrases.proofs.Rules.{holds, never, where_true, same_type, simple_shape, both, operator_known, add_simple, multiply_simple, signed_known, relation_known, index_known, field_known}
+use Rattle.pfc_typed_phrases.proofs.Rules.{holds, never, where_true, same_type, simple_shape, both, operator_known, add_simple, multiply_simple, signed_known}
+use Rattle.pfc_typed_phrases.proofs.Rules.{relation_known, index_known, field_known}
 use Rattle.pfc_typed_phrases.proofs.Names.{site_in, name_allowed, name_used}
 use Rattle.pfc_standing_code.specs.ValueTypes.{IsValueType}
 use Rattle.pfc_typed_phrases.proofs.Values.{expr_value, not_true}

@@ -1,5 +1,6 @@
 -- What a rule that is not broken says of the types of parts that have types.
-use Rattle.std.proofs.Common.{◌≡◌, ℕ, suc, ◌+◌, ◌==◌, ℤ, Bool, true, false, not, ◌&&◌, if◌then◌else◌, cond, nat_lt, ◌<◌, [], ◌∷◌, length, slice_get, bytes_eq, Option, Some, None, refl, sym, ap, ◌∙◌, subst, arith}
+use Rattle.std.proofs.Common.{◌≡◌, ℕ, suc, ◌+◌, ◌==◌, ℤ, Bool, true, false, not, ◌&&◌, if◌then◌else◌, cond, nat_lt, ◌<◌, [], ◌∷◌, length, slice_get, bytes_eq}
+use Rattle.std.proofs.Common.{Option, Some, None, refl, sym, ap, ◌∙◌, subst, arith}
 use Rattle.std.specs.Map.{keys_of}
 use Rattle.std.specs.List.{position_or_len}
 use Rattle.std.proofs.lemmas.Bool.Decides.{nat_tests}
@@ -17,7 +18,8 @@ use Rattle.pfc_types.specs.declared.types.TypeId.{TypeId}
 use Rattle.pfc_types.specs.declared.types.TypeForm.{TypeForm}
 use Rattle.pfc_types.specs.declared.types.TypeForm.TheVariants.{Channel, Array, Record, Process}
 use Rattle.pfc_types.specs.rules.Kinds.{where_so}
-use Rattle.pfc_types.specs.rules.Expressions.{add_operand, mul_operand, operated, operator_rule, signed_type, signed_rule, related_type, relation_rule, element_of, element_type, may_index, index_rule, field_type, is_field, field_rule}
+use Rattle.pfc_types.specs.rules.Expressions.{add_operand, mul_operand, operated, operator_rule, signed_type, signed_rule, related_type, relation_rule}
+use Rattle.pfc_types.specs.rules.Expressions.{element_of, element_type, may_index, index_rule, field_type, is_field, field_rule}
 use Rattle.pfc_types.proofs.Clean.{clean, clean-unless, and-left, and-right}
 use Rattle.pfc_standing_code.specs.Shapes.{a_number, a_whole, shape_of}
 use Rattle.pfc_standing_code.specs.Typed.{IsField}

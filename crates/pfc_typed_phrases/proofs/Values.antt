@@ -1,7 +1,10 @@
 -- A value that an expression gives has no object in it where its type is no object type.
-use Rattle.std.proofs.Common.{◌≡◌, ℕ, zero, suc, ◌<◌, Bool, true, false, not, if◌then◌else◌, [], ◌∷◌, length, option_map, slice_get, Option, Some, None, refl, sym, ap, ◌∙◌, subst, arith}
+use Rattle.std.proofs.Common.{◌≡◌, ℕ, zero, suc, ◌<◌, Bool, true, false, not, if◌then◌else◌, [], ◌∷◌, length, option_map, slice_get, Option, Some, None, refl}
+use Rattle.std.proofs.Common.{sym, ap, ◌∙◌, subst, arith}
 use Rattle.pfc_tree.specs.Symbols.{Text}
-use Rattle.pfc_tree.specs.trees.Exprs.{ExprTree, FactorTree, SelectorTrees, ExprTrees, plain, related, sum, no_summands, more_summands, product, no_multipliers, more_multipliers, number, literal, negation, paren, applied, desig, index, field, no_selectors, more_selectors, no_exprs, more_exprs}
+use Rattle.pfc_tree.specs.trees.Exprs.{ExprTree, FactorTree, SelectorTrees, ExprTrees, plain, related, sum, no_summands, more_summands, product, no_multipliers}
+use Rattle.pfc_tree.specs.trees.Exprs.{more_multipliers, number, literal, negation, paren, applied, desig, index, field, no_selectors, more_selectors, no_exprs}
+use Rattle.pfc_tree.specs.trees.Exprs.{more_exprs}
 use Rattle.pfc_types.specs.Types.{form_of, array_form, field_form, is_simple, is_object, condition}
 use Rattle.pfc_types.specs.Fields.{FieldList}
 use Rattle.pfc_types.specs.Scopes.{meaning_of}
@@ -18,7 +21,8 @@ use Rattle.pfc_translation.specs.Sites.{Site, forms_of}
 use Rattle.pfc_translation.specs.Addresses.{type_behind}
 use Rattle.pfc_standing_code.specs.Shapes.{Shape, a_number, a_whole, shape_of}
 use Rattle.pfc_standing_code.specs.ValueTypes.{IsValueType, value_simple}
-use Rattle.pfc_standing_code.specs.Typed.{IsDeclared, IsUse, IsFunction, HasShape, HasShapeFactor, IsGivenFirst, IsLentFirst, AreArguments, AreSelectors, AreIndices}
+use Rattle.pfc_standing_code.specs.Typed.{IsDeclared, IsUse, IsFunction, HasShape, HasShapeFactor, IsGivenFirst, IsLentFirst, AreArguments, AreSelectors}
+use Rattle.pfc_standing_code.specs.Typed.{AreIndices}
 use Rattle.pfc_type_laws.specs.Tables.{AreBefore, AreNoSignals, IsOfVariables}
 use Rattle.pfc_type_laws.proofs.ValueTypes.{value_type}
 use Rattle.pfc_typed_phrases.specs.Names.{AreKnown}

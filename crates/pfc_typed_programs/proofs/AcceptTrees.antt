@@ -1,14 +1,17 @@
 -- Each accept in the body of a process has the parameters of its entry: by induction over the parts of a program, as they are declared.
-use Rattle.std.proofs.Common.{◌≡◌, ℕ, ◌+◌, ◌<◌, ◌≤◌, ◌==◌, ◌||◌, ◌⊎◌, inl, inr, Bool, true, false, List, [], ◌∷◌, ◌++◌, length, get_or, Option, Some, None, refl, ap, sym, ◌∙◌, subst, arith}
+use Rattle.std.proofs.Common.{◌≡◌, ℕ, ◌+◌, ◌<◌, ◌≤◌, ◌==◌, ◌||◌, ◌⊎◌, inl, inr, Bool, true, false, List, [], ◌∷◌, ◌++◌, length, get_or, Option, Some, None}
+use Rattle.std.proofs.Common.{refl, ap, sym, ◌∙◌, subst, arith}
 use Rattle.std.specs.List.{All}
 use Rattle.std.specs.Option.{option_or}
 use Rattle.std.proofs.lemmas.Bool.Decides.{nat_tests}
 use Rattle.std.proofs.lemmas.List.Elements.{All-nil, All-cons, All-append, All-weaker}
 use Rattle.pfc_tree.specs.Symbols.{Text}
 use Rattle.pfc_tree.specs.trees.Stmts.{body}
-use Rattle.pfc_tree.specs.trees.Parts.{PartTree, PartTrees, SubTree, ModuleTree, ProcessTree, ProgramTree, consts, types, vars, sub_part, monitor, resource, process_part, no_parts, more_parts, sub, the_module, process}
+use Rattle.pfc_tree.specs.trees.Parts.{PartTree, PartTrees, SubTree, ModuleTree, ProcessTree, ProgramTree, consts, types, vars, sub_part, monitor, resource}
+use Rattle.pfc_tree.specs.trees.Parts.{process_part, no_parts, more_parts, sub, the_module, process}
 use Rattle.pfc_tree.specs.forget.Parts.{forget_part, forget_parts, forget_sub, forget_module, forget_process, forget_program}
-use Rattle.pfc_tree.specs.lawful.Parts.{Home, of_program, of_resource, of_other, HoldsModules, IsLawfulPart, AreLawfulParts, IsLawfulSub, IsLawfulModule, IsLawfulProcess, IsLawful}
+use Rattle.pfc_tree.specs.lawful.Parts.{Home, of_program, of_resource, of_other, HoldsModules, IsLawfulPart, AreLawfulParts, IsLawfulSub, IsLawfulModule}
+use Rattle.pfc_tree.specs.lawful.Parts.{IsLawfulProcess, IsLawful}
 use Rattle.pfc_types.specs.Scopes.{Names, Level, all_names, here, scope_at, found_at, found_in, meaning_of, look}
 use Rattle.pfc_types.specs.Blocks.{State, no_process, process_at}
 use Rattle.pfc_types.specs.declared.heads.ProcessHead.{ProcessHead}
@@ -16,8 +19,10 @@ use Rattle.pfc_types.specs.declared.scope.Meaning.{Meaning}
 use Rattle.pfc_types.specs.declared.scope.Meaning.TheVariants.{Entry}
 use Rattle.pfc_types.specs.declared.view.Found.{Found}
 use Rattle.pfc_types.specs.rules.Statements.{broken_stmts}
-use Rattle.pfc_types.specs.rules.Bodies.{env_at, around_process, level, passed, passed_part, passed_groups, passed_entries, part_scopes, parts_scopes, broken_part, broken_parts, broken_process}
-use Rattle.pfc_types.specs.rules.Declarations.{in_program, elsewhere, entries_state, process_headed, process_cells, cells_rule, body_state, part_state, parts_state, process_state}
+use Rattle.pfc_types.specs.rules.Bodies.{env_at, around_process, level, passed, passed_part, passed_groups, passed_entries, part_scopes, parts_scopes}
+use Rattle.pfc_types.specs.rules.Bodies.{broken_part, broken_parts, broken_process}
+use Rattle.pfc_types.specs.rules.Declarations.{in_program, elsewhere, entries_state, process_headed, process_cells, cells_rule, body_state, part_state}
+use Rattle.pfc_types.specs.rules.Declarations.{parts_state, process_state}
 use Rattle.pfc_types.specs.rules.Whole.{begun, declared_parts, declared_all, main_cells, finished, broken, faults_in}
 use Rattle.pfc_types.proofs.Prefixes.{begins_same, begins_trans, begins_length}
 use Rattle.pfc_types.proofs.Walking.{Walked, note_kept, kept_opened}

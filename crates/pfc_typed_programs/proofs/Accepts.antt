@@ -1,12 +1,16 @@
 -- Each accept has the parameters of its entry: by induction over the statements, as they are declared.
-use Rattle.std.proofs.Common.{◌≡◌, ℕ, ◌+◌, ◌-◌, ◌<◌, ◌≤◌, ◌==◌, ◌&&◌, ◌||◌, ◌⊎◌, inl, inr, Bool, true, false, not, nat_lt, if◌then◌else◌, List, [], ◌∷◌, length, length-append, map, get_or, Option, Some, None, is_some, refl, ap, sym, ◌∙◌, subst, arith}
+use Rattle.std.proofs.Common.{◌≡◌, ℕ, ◌+◌, ◌-◌, ◌<◌, ◌≤◌, ◌==◌, ◌&&◌, ◌||◌, ◌⊎◌, inl, inr, Bool, true, false, not, nat_lt, if◌then◌else◌, List, [], ◌∷◌, length}
+use Rattle.std.proofs.Common.{length-append, map, get_or, Option, Some, None, is_some, refl, ap, sym, ◌∙◌, subst, arith}
 use Rattle.std.specs.Option.{option_or}
 use Rattle.std.proofs.lemmas.Bool.Decides.{nat_tests}
 use Rattle.std.proofs.Math.ListN.{get_or-append}
 use Rattle.pfc_base.specs.declared.places.Place.{Place}
 use Rattle.pfc_tree.specs.Symbols.{Text}
 use Rattle.pfc_tree.specs.trees.Types.{GroupTree}
-use Rattle.pfc_tree.specs.trees.Stmts.{StmtTree, StmtTrees, ArmTrees, AcceptTree, AltTrees, CommTree, empty, null, block, if_then, if_then_else, case_of, while_do, repeat_until, repeat_forever, for_do, cobegin, accepting, requeue, select, select_else, assign, send, receive, call, no_stmts, more_stmts, body, arm, no_arms, more_arms, accept, accept_do, alt, no_alts, more_alts, comm_accept, comm_send, comm_receive, timeout, terminate}
+use Rattle.pfc_tree.specs.trees.Stmts.{StmtTree, StmtTrees, ArmTrees, AcceptTree, AltTrees, CommTree, empty, null, block, if_then, if_then_else, case_of}
+use Rattle.pfc_tree.specs.trees.Stmts.{while_do, repeat_until, repeat_forever, for_do, cobegin, accepting, requeue, select, select_else, assign, send, receive}
+use Rattle.pfc_tree.specs.trees.Stmts.{call, no_stmts, more_stmts, body, arm, no_arms, more_arms, accept, accept_do, alt, no_alts, more_alts, comm_accept}
+use Rattle.pfc_tree.specs.trees.Stmts.{comm_send, comm_receive, timeout, terminate}
 use Rattle.pfc_types.specs.Faults.{unless, listed}
 use Rattle.pfc_types.specs.Growing.{Begins}
 use Rattle.pfc_types.specs.Scopes.{Names, Level, all_names, here, scope_at, meaning_in, position_in, within, found_at, found_in, meaning_of, look}
@@ -21,15 +25,19 @@ use Rattle.pfc_types.specs.declared.view.Found.{Found}
 use Rattle.pfc_types.specs.rules.Kinds.{name_rules, an_entry, may_agree, variable_meaning}
 use Rattle.pfc_types.specs.rules.Expressions.{Env}
 use Rattle.pfc_types.specs.rules.FaultyNames.{all_typed, stands_faulty}
-use Rattle.pfc_types.specs.rules.Statements.{scopes_in, arm_scopes, comm_scopes, alt_scopes, alts_scopes, broken_stmt, broken_stmts, broken_arms, broken_accept, broken_comm, broken_alts, accept_rules}
-use Rattle.pfc_types.specs.rules.Declarations.{Heading, same_formal, same_formals, accept_rule, accept_heading, accepted, Labels, labels_noted, stmt_state, stmts_state, arms_state, arm_state, accept_state, alts_state, alt_state, comm_state}
+use Rattle.pfc_types.specs.rules.Statements.{scopes_in, arm_scopes, comm_scopes, alt_scopes, alts_scopes, broken_stmt, broken_stmts, broken_arms, broken_accept}
+use Rattle.pfc_types.specs.rules.Statements.{broken_comm, broken_alts, accept_rules}
+use Rattle.pfc_types.specs.rules.Declarations.{Heading, same_formal, same_formals, accept_rule, accept_heading, accepted, Labels, labels_noted, stmt_state}
+use Rattle.pfc_types.specs.rules.Declarations.{stmts_state, arms_state, arm_state, accept_state, alts_state, alt_state, comm_state}
 use Rattle.pfc_types.proofs.Walking.{Opened, kept_opened}
-use Rattle.pfc_types.proofs.WalkStatements.{labels_kept, accepted_opened, stmt_opened, stmts_opened, arms_opened, arm_opened, alts_opened, alt_opened, comm_opened}
+use Rattle.pfc_types.proofs.WalkStatements.{labels_kept, accepted_opened, stmt_opened, stmts_opened, arms_opened, arm_opened, alts_opened, alt_opened}
+use Rattle.pfc_types.proofs.WalkStatements.{comm_opened}
 use Rattle.pfc_name_laws.specs.Numbers.{AreNumbered}
 use Rattle.pfc_name_laws.specs.Reached.{HasEntry, entries_of, formal_meaning, meanings_of, Reached}
 use Rattle.pfc_name_laws.proofs.Numbers.{numbered, no_faulty, get_or-beyond}
 use Rattle.pfc_name_laws.proofs.Headings.{all_headed}
-use Rattle.pfc_name_laws.proofs.Steps.{Stepped, note_clean, note_scopes, open_plain, accept_groups_plain, accepted_plain, labels_plain, stmt_plain, stmts_plain, arms_plain, arm_plain, alts_plain, alt_plain, comm_plain}
+use Rattle.pfc_name_laws.proofs.Steps.{Stepped, note_clean, note_scopes, open_plain, accept_groups_plain, accepted_plain, labels_plain, stmt_plain, stmts_plain}
+use Rattle.pfc_name_laws.proofs.Steps.{arms_plain, arm_plain, alts_plain, alt_plain, comm_plain}
 use Rattle.pfc_name_laws.proofs.Parts.{opened_empty}
 use Rattle.pfc_image_laws.specs.Levels.{sees}
 use Rattle.pfc_image_numbers.proofs.Rules.{IsClean}

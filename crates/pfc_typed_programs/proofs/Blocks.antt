@@ -1,5 +1,6 @@
 -- The blocks that headings name: each is there, its parameters take the cells of the arguments, and a function's leaves its value.
-use Rattle.std.proofs.Common.{◌≡◌, ℕ, ◌+◌, ◌<◌, zero, suc, ◌==◌, ◌||◌, Bool, true, false, List, [], ◌∷◌, ◌++◌, length, map, take, drop, get_or, slice_get, is_some, if◌then◌else◌, Option, Some, None, refl, ap, sym, ◌∙◌, subst, arith}
+use Rattle.std.proofs.Common.{◌≡◌, ℕ, ◌+◌, ◌<◌, zero, suc, ◌==◌, ◌||◌, Bool, true, false, List, [], ◌∷◌, ◌++◌, length, map, take, drop, get_or, slice_get}
+use Rattle.std.proofs.Common.{is_some, if◌then◌else◌, Option, Some, None, refl, ap, sym, ◌∙◌, subst, arith}
 use Rattle.std.specs.List.{All}
 use Rattle.std.proofs.lemmas.List.{append_assoc, length-map}
 use Rattle.std.proofs.lemmas.List.Sums.{sum_by-cons}
@@ -40,7 +41,8 @@ use Rattle.pfc_image_numbers.proofs.Rules.{IsClean, clean_of, and_left, and_righ
 use Rattle.pfc_image_cells.proofs.Subs.{program_subs}
 use Rattle.pfc_image_cells.proofs.Layouts.{laid_parts}
 use Rattle.pfc_image_cells.proofs.Formals.{formals_laid}
-use Rattle.pfc_image_cells.proofs.Trees.{among, same_number, other_number, equal_number, Fine, Placed, IsLaidOut, mods, mods_behind, module_opens, blocks_placed, program_mods, mains_no_sub, own_sub, sub_none}
+use Rattle.pfc_image_cells.proofs.Trees.{among, same_number, other_number, equal_number, Fine, Placed, IsLaidOut, mods, mods_behind, module_opens}
+use Rattle.pfc_image_cells.proofs.Trees.{blocks_placed, program_mods, mains_no_sub, own_sub, sub_none}
 use Rattle.pfc_standing_images.proofs.Numbers.{block_there}
 use Rattle.pfc_typed_phrases.specs.Names.{left_behind}
 use Rattle.pfc_typed_programs.specs.Bodies.{IsCallee}

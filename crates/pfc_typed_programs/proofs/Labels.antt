@@ -1,11 +1,15 @@
 -- In a lawful tree each `case` has a label.
 use Rattle.std.proofs.Common.{List, [], ◌∷◌, map}
 use Rattle.pfc_tree.specs.declared.tree.Constant.{Constant}
-use Rattle.pfc_tree.specs.trees.Stmts.{StmtTree, StmtTrees, ArmTrees, AcceptTree, AltTrees, CommTree, empty, null, block, if_then, if_then_else, case_of, while_do, repeat_until, repeat_forever, for_do, cobegin, accepting, requeue, select, select_else, assign, send, receive, call, no_stmts, more_stmts, body, arm, no_arms, more_arms, accept, accept_do, alt, no_alts, more_alts, comm_accept, comm_send, comm_receive, timeout, terminate}
+use Rattle.pfc_tree.specs.trees.Stmts.{StmtTree, StmtTrees, ArmTrees, AcceptTree, AltTrees, CommTree, empty, null, block, if_then, if_then_else, case_of}
+use Rattle.pfc_tree.specs.trees.Stmts.{while_do, repeat_until, repeat_forever, for_do, cobegin, accepting, requeue, select, select_else, assign, send, receive}
+use Rattle.pfc_tree.specs.trees.Stmts.{call, no_stmts, more_stmts, body, arm, no_arms, more_arms, accept, accept_do, alt, no_alts, more_alts, comm_accept}
+use Rattle.pfc_tree.specs.trees.Stmts.{comm_send, comm_receive, timeout, terminate}
 use Rattle.pfc_tree.specs.forget.Types.{forget_constant}
 use Rattle.pfc_tree.specs.forget.Stmts.{forget_stmt, forget_stmts, forget_arms, forget_accept, forget_alts, forget_comm}
 use Rattle.pfc_tree.specs.lawful.Types.{IsFilled}
-use Rattle.pfc_tree.specs.lawful.Stmts.{IsLawfulStmt, HasLawfulStmts, AreLawfulStmts, HasLawfulArms, AreLawfulArms, IsLawfulAccept, HasLawfulAlts, AreLawfulAlts, IsLawfulComm}
+use Rattle.pfc_tree.specs.lawful.Stmts.{IsLawfulStmt, HasLawfulStmts, AreLawfulStmts, HasLawfulArms, AreLawfulArms, IsLawfulAccept, HasLawfulAlts}
+use Rattle.pfc_tree.specs.lawful.Stmts.{AreLawfulAlts, IsLawfulComm}
 use Rattle.pfc_typed_structures.specs.Inside.{HasLabel, HasLabels, IsLabelled, AreLabelled, AreArmsLabelled, IsAcceptLabelled, IsCommLabelled, AreAltsLabelled}
 
 one_label : (ls : List Constant) → IsFilled (map forget_constant ls) → HasLabel ls

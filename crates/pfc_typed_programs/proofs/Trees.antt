@@ -5,19 +5,23 @@ use Rattle.std.specs.Option.{IfSome}
 use Rattle.std.proofs.lemmas.List.{map-append}
 use Rattle.std.proofs.lemmas.List.Elements.{All-nil, All-cons, All-append}
 use Rattle.pfc_tree.specs.trees.Stmts.{BodyTree, body}
-use Rattle.pfc_tree.specs.trees.Parts.{KindTree, PartTree, PartTrees, SubTree, ModuleTree, ProcessTree, ProgramTree, procedure, function, guarded, consts, types, vars, sub_part, monitor, resource, process_part, no_parts, more_parts, sub, the_module, process}
+use Rattle.pfc_tree.specs.trees.Parts.{KindTree, PartTree, PartTrees, SubTree, ModuleTree, ProcessTree, ProgramTree, procedure, function, guarded, consts}
+use Rattle.pfc_tree.specs.trees.Parts.{types, vars, sub_part, monitor, resource, process_part, no_parts, more_parts, sub, the_module, process}
 use Rattle.pfc_tree.specs.forget.Stmts.{forget_body}
 use Rattle.pfc_tree.specs.lawful.Stmts.{IsLawfulBody}
 use Rattle.pfc_tree.specs.forget.Parts.{forget_part, forget_parts, forget_sub, forget_module, forget_process, forget_program}
-use Rattle.pfc_tree.specs.lawful.Parts.{Home, of_program, of_resource, of_other, IsLawfulPart, AreLawfulParts, IsLawfulSub, IsLawfulModule, IsLawfulProcess, IsLawful}
+use Rattle.pfc_tree.specs.lawful.Parts.{Home, of_program, of_resource, of_other, IsLawfulPart, AreLawfulParts, IsLawfulSub, IsLawfulModule, IsLawfulProcess}
+use Rattle.pfc_tree.specs.lawful.Parts.{IsLawful}
 use Rattle.pfc_types.specs.Scopes.{Level, scope_at}
 use Rattle.pfc_types.specs.Blocks.{State}
 use Rattle.pfc_types.specs.rules.Expressions.{Env}
 use Rattle.pfc_types.specs.rules.Statements.{broken_guard}
-use Rattle.pfc_types.specs.rules.Bodies.{env_at, around_guard, level, passed, passed_part, passed_groups, passed_entries, part_scopes, parts_scopes, process_scopes, broken_when, broken_part, broken_parts, broken_sub, broken_module, broken_process}
+use Rattle.pfc_types.specs.rules.Bodies.{env_at, around_guard, level, passed, passed_part, passed_groups, passed_entries, part_scopes, parts_scopes}
+use Rattle.pfc_types.specs.rules.Bodies.{process_scopes, broken_when, broken_part, broken_parts, broken_sub, broken_module, broken_process}
 use Rattle.pfc_types.specs.rules.Whole.{finished, broken_bodies}
 use Rattle.pfc_semantics.specs.Layouts.{main_layout}
-use Rattle.pfc_semantics.specs.Programs.{Block, block_of, guard_of, part_blocks, parts_blocks, sub_blocks, module_blocks, process_blocks, module_inits, part_inits, parts_inits, env_of_main, program_of}
+use Rattle.pfc_semantics.specs.Programs.{Block, block_of, guard_of, part_blocks, parts_blocks, sub_blocks, module_blocks, process_blocks, module_inits}
+use Rattle.pfc_semantics.specs.Programs.{part_inits, parts_inits, env_of_main, program_of}
 use Rattle.pfc_name_laws.specs.Processes.{processes_from}
 use Rattle.pfc_image_laws.specs.Levels.{sees}
 use Rattle.pfc_image_numbers.proofs.Rules.{IsClean}

@@ -7,7 +7,8 @@ use Rattle.pfc_types.proofs.Clean.{listed-clean}
 use Rattle.pfc_translation.specs.Sites.{Site}
 use Rattle.pfc_typed_phrases.specs.Names.{AreKnown}
 use Rattle.pfc_typed_statements.specs.Reached.{AreReached, AreCallable}
-use Rattle.pfc_typed_statements.specs.Statements.{AssignmentsAreTyped, SendsAreTyped, ReceivesAreTyped, RequeuesAreTyped, ItemsAreWritten, ItemsAreRead, CallsAreTyped}
+use Rattle.pfc_typed_statements.specs.Statements.{AssignmentsAreTyped, SendsAreTyped, ReceivesAreTyped, RequeuesAreTyped, ItemsAreWritten, ItemsAreRead}
+use Rattle.pfc_typed_statements.specs.Statements.{CallsAreTyped}
 use Rattle.pfc_typed_statements.proofs.Messages.{assign_typed, send_typed, receive_typed, requeue_typed}
 use Rattle.pfc_typed_statements.proofs.Calls.{call_typed}
 use Rattle.pfc_typed_statements.proofs.Items.{writes_typed, reads_typed}

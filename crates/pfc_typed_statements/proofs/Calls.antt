@@ -17,7 +17,9 @@ use Rattle.pfc_types.specs.declared.heads.SubSort.TheVariants.{Procedure, Guarde
 use Rattle.pfc_types.specs.rules.Routines.{wants_for, anywhere}
 use Rattle.pfc_types.specs.rules.FaultyNames.{all_typed}
 use Rattle.pfc_types.specs.rules.Expressions.{find, selected, selected_by, field_type, is_field, broken_selectors}
-use Rattle.pfc_types.specs.rules.Calls.{asked_formals, call_sub, activate, activate_type, activate_variable, call_name, call_entry_named, call_entry, call_exported, call_field, call_part, last_field, before_last, only_field, call_selected, call_in_module, call_in_process, call_part_of, broken_call}
+use Rattle.pfc_types.specs.rules.Calls.{asked_formals, call_sub, activate, activate_type, activate_variable, call_name, call_entry_named, call_entry}
+use Rattle.pfc_types.specs.rules.Calls.{call_exported, call_field, call_part, last_field, before_last, only_field, call_selected, call_in_module}
+use Rattle.pfc_types.specs.rules.Calls.{call_in_process, call_part_of, broken_call}
 use Rattle.pfc_types.proofs.Clean.{clean, clean-unless, and-left, and-right}
 use Rattle.pfc_semantics.specs.Displays.{TypedSpot}
 use Rattle.pfc_semantics.specs.Programs.{Block, Program}
@@ -26,7 +28,8 @@ use Rattle.pfc_semantics.specs.Statements.{name_in_process, process_of_type}
 use Rattle.pfc_translation.specs.Sites.{Site}
 use Rattle.pfc_translation.specs.Addresses.{type_behind}
 use Rattle.pfc_standing_code.specs.Typed.{IsDeclared, ByName, FromOutside, IsField as IsPartField, AreArguments, AreSelectors, IsPartOf}
-use Rattle.pfc_standing_code.specs.TypedStatements.{IsProcessType, IsActivation, IsEntry, IsProcess, IsField, IsCalledVariable, IsCalledProcess, IsSubCall, IsExported, IsModuleCall, IsCalled, IsCall}
+use Rattle.pfc_standing_code.specs.TypedStatements.{IsProcessType, IsActivation, IsEntry, IsProcess, IsField, IsCalledVariable, IsCalledProcess, IsSubCall}
+use Rattle.pfc_standing_code.specs.TypedStatements.{IsExported, IsModuleCall, IsCalled, IsCall}
 use Rattle.pfc_typed_phrases.specs.Names.{left_behind, IsWhole, AreKnown}
 use Rattle.pfc_typed_phrases.proofs.Rules.{holds, never, field_known}
 use Rattle.pfc_typed_phrases.proofs.Names.{site_in, of_named, asked_formals as ask_formals, wanted_arguments}

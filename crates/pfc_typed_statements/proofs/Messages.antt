@@ -18,9 +18,12 @@ use Rattle.pfc_types.specs.declared.heads.SubSort.{SubSort}
 use Rattle.pfc_types.specs.declared.heads.SubSort.TheVariants.{Procedure, Guarded, Function}
 use Rattle.pfc_types.specs.rules.Kinds.{has, may_have, may_agree, value_rule, has_object}
 use Rattle.pfc_types.specs.rules.Routines.{called_with, wants_for, anywhere}
-use Rattle.pfc_types.specs.rules.Expressions.{find, as_desig, expr_place, expr_type, desig_place, desig_type, count_rule, broken_actuals, broken_desig, broken_expr}
+use Rattle.pfc_types.specs.rules.Expressions.{find, as_desig, expr_place, expr_type, desig_place, desig_type, count_rule, broken_actuals, broken_desig}
+use Rattle.pfc_types.specs.rules.Expressions.{broken_expr}
 use Rattle.pfc_types.specs.rules.Calls.{requeue_rules, requeue_sub}
-use Rattle.pfc_types.specs.rules.Statements.{is_around, assigned_sub, target_of, target_type, sub_target, target_rules, broken_target, types_rule, broken_assign, carried_by, channel_rule, broken_channel, names_any, only_any_rule, any_rule, broken_message, broken_send, broken_receiver, broken_receive, innermost, broken_requeue}
+use Rattle.pfc_types.specs.rules.Statements.{is_around, assigned_sub, target_of, target_type, sub_target, target_rules, broken_target, types_rule}
+use Rattle.pfc_types.specs.rules.Statements.{broken_assign, carried_by, channel_rule, broken_channel, names_any, only_any_rule, any_rule, broken_message}
+use Rattle.pfc_types.specs.rules.Statements.{broken_send, broken_receiver, broken_receive, innermost, broken_requeue}
 use Rattle.pfc_types.proofs.Clean.{clean, and-left, and-right}
 use Rattle.pfc_semantics.specs.Programs.{Block, Program}
 use Rattle.pfc_semantics.specs.Expressions.{spot_of}

@@ -1,5 +1,6 @@
 -- Calls of predeclared procedures in which no rule is broken.
-use Rattle.std.proofs.Common.{◌≡◌, ℕ, zero, suc, ◌+◌, ◌-◌, ◌≤◌, Bool, true, false, ◌&&◌, if◌then◌else◌, nat_lt, List, [], ◌∷◌, get_or, drop, Some, None, refl, ap, ◌∙◌, subst, arith}
+use Rattle.std.proofs.Common.{◌≡◌, ℕ, zero, suc, ◌+◌, ◌-◌, ◌≤◌, Bool, true, false, ◌&&◌, if◌then◌else◌, nat_lt, List, [], ◌∷◌, get_or, drop, Some, None, refl}
+use Rattle.std.proofs.Common.{ap, ◌∙◌, subst, arith}
 use Rattle.std.proofs.lemmas.Bool.Decides.{nat_tests}
 use Rattle.std.proofs.lemmas.List.{get_or-drop}
 use Rattle.pfc_base.specs.declared.places.Place.{Place}
@@ -8,7 +9,9 @@ use Rattle.pfc_types.specs.Types.{integer, semaphore, condition}
 use Rattle.pfc_types.specs.Scopes.{Level}
 use Rattle.pfc_types.specs.declared.types.TypeId.{TypeId}
 use Rattle.pfc_types.specs.declared.view.Around.{Around}
-use Rattle.pfc_types.specs.rules.Routines.{Want, a_value, a_variable_of, Site as Stand, anywhere, in_main, in_monitor_sub, Routine, the_signal, a_procedure, a_delay, a_reader, a_writer, routines, routine_of, one_integer, one_semaphore, one_condition, ranked_condition, called_with, site_rule}
+use Rattle.pfc_types.specs.rules.Routines.{Want, a_value, a_variable_of, Site as Stand, anywhere, in_main, in_monitor_sub, Routine, the_signal, a_procedure}
+use Rattle.pfc_types.specs.rules.Routines.{a_delay, a_reader, a_writer, routines, routine_of, one_integer, one_semaphore, one_condition, ranked_condition}
+use Rattle.pfc_types.specs.rules.Routines.{called_with, site_rule}
 use Rattle.pfc_types.specs.rules.Expressions.{actual_count, count_rule, first_type, broken_actuals}
 use Rattle.pfc_types.specs.rules.Calls.{asked, some_rule, broken_reads, broken_writes, call_routine}
 use Rattle.pfc_types.proofs.Clean.{clean, and-left, and-right}

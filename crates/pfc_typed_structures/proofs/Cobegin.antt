@@ -4,8 +4,14 @@ use Rattle.pfc_base.specs.declared.places.Place.{Place}
 use Rattle.pfc_tree.specs.Symbols.{Text}
 use Rattle.pfc_tree.specs.declared.tree.Constant.{Constant}
 use Rattle.pfc_tree.specs.declared.tree.Spread.{Spread}
-use Rattle.pfc_tree.specs.trees.Exprs.{ExprTree, SimpleTree, SummandTrees, TermTree, MultiplierTrees, FactorTree, DesigTree, SelectorTrees, ExprTrees, ActualTree, ActualTrees, plain, related, sum, no_summands, more_summands, product, no_multipliers, more_multipliers, number, literal, negation, paren, applied as used, desig, index, field, no_selectors, more_selectors, no_exprs, more_exprs, actual, actual_width, no_actuals, more_actuals}
-use Rattle.pfc_tree.specs.trees.Stmts.{StmtTree, StmtTrees, ArmTrees, AcceptTree, AltTrees, CommTree, empty, null, block, if_then, if_then_else, case_of, while_do, repeat_until, repeat_forever, for_do, cobegin, accepting, requeue, select, select_else, assign, send, receive, call, no_stmts, more_stmts, body, arm, no_arms, more_arms, accept, accept_do, alt, no_alts, more_alts, comm_accept, comm_send, comm_receive, timeout, terminate}
+use Rattle.pfc_tree.specs.trees.Exprs.{ExprTree, SimpleTree, SummandTrees, TermTree, MultiplierTrees, FactorTree, DesigTree, SelectorTrees, ExprTrees}
+use Rattle.pfc_tree.specs.trees.Exprs.{ActualTree, ActualTrees, plain, related, sum, no_summands, more_summands, product, no_multipliers, more_multipliers}
+use Rattle.pfc_tree.specs.trees.Exprs.{number, literal, negation, paren, applied as used, desig, index, field, no_selectors, more_selectors, no_exprs}
+use Rattle.pfc_tree.specs.trees.Exprs.{more_exprs, actual, actual_width, no_actuals, more_actuals}
+use Rattle.pfc_tree.specs.trees.Stmts.{StmtTree, StmtTrees, ArmTrees, AcceptTree, AltTrees, CommTree, empty, null, block, if_then, if_then_else, case_of}
+use Rattle.pfc_tree.specs.trees.Stmts.{while_do, repeat_until, repeat_forever, for_do, cobegin, accepting, requeue, select, select_else, assign, send, receive}
+use Rattle.pfc_tree.specs.trees.Stmts.{call, no_stmts, more_stmts, body, arm, no_arms, more_arms, accept, accept_do, alt, no_alts, more_alts, comm_accept}
+use Rattle.pfc_tree.specs.trees.Stmts.{comm_send, comm_receive, timeout, terminate}
 use Rattle.pfc_types.specs.Types.{semaphore, condition}
 use Rattle.pfc_types.specs.Scopes.{Level, here, meaning_of}
 use Rattle.pfc_types.specs.Blocks.{State, sub_at, process_at, entry_at}
@@ -21,7 +27,8 @@ use Rattle.pfc_types.specs.rules.Calls.{last_field, before_last}
 use Rattle.pfc_types.specs.rules.Expressions.{guard_allows, find, as_desig, expr_type, desig_type, selected}
 use Rattle.pfc_types.specs.rules.Statements.{scopes_in, arm_scopes, comm_scopes, alt_scopes, alts_scopes, names_any}
 use Rattle.pfc_semantics.specs.Displays.{Spot, TypedSpot}
-use Rattle.pfc_semantics.specs.Predeclared.{Function, Procedure, abs, sqr, odd, ord, chr, succ, pred, eof, eoln, empty as empty_function, clock, random, no_function, function_of, reader, writer, initial, wait, signal, delay, resume, sleep, no_procedure, procedure_of}
+use Rattle.pfc_semantics.specs.Predeclared.{Function, Procedure, abs, sqr, odd, ord, chr, succ, pred, eof, eoln, empty as empty_function, clock, random}
+use Rattle.pfc_semantics.specs.Predeclared.{no_function, function_of, reader, writer, initial, wait, signal, delay, resume, sleep, no_procedure, procedure_of}
 use Rattle.pfc_semantics.specs.Programs.{Block, Program}
 use Rattle.pfc_semantics.specs.Alternatives.{message_of, receiver_of}
 use Rattle.pfc_semantics.specs.Expressions.{spot_of}
@@ -30,8 +37,14 @@ use Rattle.pfc_translation.specs.Sites.{Site, context_of, forms_of, blocks_of, t
 use Rattle.pfc_translation.specs.Addresses.{element_in, type_behind}
 use Rattle.pfc_image_numbers.proofs.Alike.{AreAlike, expr_same, selected_same}
 use Rattle.pfc_standing_code.specs.Shapes.{Shape, a_number, shape_of}
-use Rattle.pfc_standing_code.specs.Typed.{IsDeclared, ByName, InExpressions, FromOutside, ByRequeue, IsSub, Either, IsFunction, IsUse, HasShape, HasShapeSimple, AreSummands, HasShapeTerm, AreMultipliers, HasShapeFactor, IsGivenFirst, IsLentFirst, IsGiven, IsLent, IsVariable, AreArguments, AreSelectors, AreIndices, IsPartOf, IsDesig}
-use Rattle.pfc_standing_code.specs.TypedStatements.{IsSimpleVariable, IsAssignment, IsMessage, IsReceiver, IsSend, IsReceive, IsItem, AreWritten, IsRead, AreRead, IsNumber, IsRank, IsProcedure, IsProcessType, IsActivation, IsEntryCall, IsEntry, IsProcess, IsField, IsCalledVariable, IsCalledProcess, IsSubCall, IsExported, IsModuleCall, IsCalled, IsCall, IsRequeue, HaveValues, IsGuard, IsSpread, IsComm, IsTyped, AreTyped, AreArmsTyped, IsAcceptTyped, IsMetTyped, AreAltsTyped}
+use Rattle.pfc_standing_code.specs.Typed.{IsDeclared, ByName, InExpressions, FromOutside, ByRequeue, IsSub, Either, IsFunction, IsUse, HasShape, HasShapeSimple}
+use Rattle.pfc_standing_code.specs.Typed.{AreSummands, HasShapeTerm, AreMultipliers, HasShapeFactor, IsGivenFirst, IsLentFirst, IsGiven, IsLent, IsVariable}
+use Rattle.pfc_standing_code.specs.Typed.{AreArguments, AreSelectors, AreIndices, IsPartOf, IsDesig}
+use Rattle.pfc_standing_code.specs.TypedStatements.{IsSimpleVariable, IsAssignment, IsMessage, IsReceiver, IsSend, IsReceive, IsItem, AreWritten, IsRead}
+use Rattle.pfc_standing_code.specs.TypedStatements.{AreRead, IsNumber, IsRank, IsProcedure, IsProcessType, IsActivation, IsEntryCall, IsEntry, IsProcess}
+use Rattle.pfc_standing_code.specs.TypedStatements.{IsField, IsCalledVariable, IsCalledProcess, IsSubCall, IsExported, IsModuleCall, IsCalled, IsCall}
+use Rattle.pfc_standing_code.specs.TypedStatements.{IsRequeue, HaveValues, IsGuard, IsSpread, IsComm, IsTyped, AreTyped, AreArmsTyped, IsAcceptTyped}
+use Rattle.pfc_standing_code.specs.TypedStatements.{IsMetTyped, AreAltsTyped}
 use Rattle.pfc_typed_structures.specs.Inside.{in_cobegin}
 use Rattle.pfc_standing_code.specs.ValueTypes.{IsValueType}
 

@@ -16,7 +16,8 @@ use Rattle.pfc_types.specs.rules.Kinds.{may_have, may_be_simple, may_agree, cond
 use Rattle.pfc_types.specs.rules.Constants.{Ordinal, constant_value, constant_type, constant_place, broken_constant}
 use Rattle.pfc_types.specs.rules.Expressions.{find, expr_place, expr_type, broken_expr}
 use Rattle.pfc_types.specs.rules.FaultyNames.{stands_faulty, constant_uses_faulty}
-use Rattle.pfc_types.specs.rules.Statements.{written_constant, may_label, label_rule, broken_labels, for_rule, broken_for, broken_spread, broken_guard, broken_timeout}
+use Rattle.pfc_types.specs.rules.Statements.{written_constant, may_label, label_rule, broken_labels, for_rule, broken_for, broken_spread, broken_guard}
+use Rattle.pfc_types.specs.rules.Statements.{broken_timeout}
 use Rattle.pfc_types.proofs.Clean.{clean, and-left, and-right, clean-listed}
 use Rattle.pfc_types.proofs.FaultyConstants.{constant_exact}
 use Rattle.pfc_semantics.specs.Expressions.{spot_of}

@@ -4,7 +4,10 @@ use Rattle.std.proofs.lemmas.Bool.Decides.{nat_tests}
 use Rattle.pfc_base.specs.declared.places.Place.{Place}
 use Rattle.pfc_tree.specs.Symbols.{Text}
 use Rattle.pfc_tree.specs.trees.Exprs.{ExprTree}
-use Rattle.pfc_tree.specs.trees.Stmts.{StmtTree, StmtTrees, ArmTrees, AcceptTree, AltTrees, CommTree, empty, null, block, if_then, if_then_else, case_of, while_do, repeat_until, repeat_forever, for_do, cobegin, accepting, requeue, select, select_else, assign, send, receive, call, no_stmts, more_stmts, body, arm, no_arms, more_arms, accept, accept_do, alt, no_alts, more_alts, comm_accept, comm_send, comm_receive, timeout, terminate}
+use Rattle.pfc_tree.specs.trees.Stmts.{StmtTree, StmtTrees, ArmTrees, AcceptTree, AltTrees, CommTree, empty, null, block, if_then, if_then_else, case_of}
+use Rattle.pfc_tree.specs.trees.Stmts.{while_do, repeat_until, repeat_forever, for_do, cobegin, accepting, requeue, select, select_else, assign, send, receive}
+use Rattle.pfc_tree.specs.trees.Stmts.{call, no_stmts, more_stmts, body, arm, no_arms, more_arms, accept, accept_do, alt, no_alts, more_alts, comm_accept}
+use Rattle.pfc_tree.specs.trees.Stmts.{comm_send, comm_receive, timeout, terminate}
 use Rattle.pfc_types.specs.declared.types.TypeId.{TypeId}
 use Rattle.pfc_types.specs.Faults.{unless}
 use Rattle.pfc_types.specs.Scopes.{meaning_of}
@@ -14,7 +17,10 @@ use Rattle.pfc_types.specs.declared.view.Around.{Around}
 use Rattle.pfc_types.specs.rules.Kinds.{condition_rule, name_rules, an_entry}
 use Rattle.pfc_types.specs.rules.Expressions.{find, expr_place, expr_type, broken_expr}
 use Rattle.pfc_types.specs.rules.Calls.{broken_call}
-use Rattle.pfc_types.specs.rules.Statements.{scopes_in, stmts_scopes, arm_scopes, arms_scopes, accept_scopes, comm_scopes, alt_scopes, alts_scopes, broken_labels, broken_for, broken_spread, broken_guard, broken_assign, broken_send, broken_receive, broken_requeue, cobegin_rule, accept_rules, within_accept, within_cobegin, select_rule, number_rule, ways_rule, else_rule, broken_stmt, broken_stmts, broken_arms, broken_accept, broken_alts, broken_comm}
+use Rattle.pfc_types.specs.rules.Statements.{scopes_in, stmts_scopes, arm_scopes, arms_scopes, accept_scopes, comm_scopes, alt_scopes, alts_scopes}
+use Rattle.pfc_types.specs.rules.Statements.{broken_labels, broken_for, broken_spread, broken_guard, broken_assign, broken_send, broken_receive, broken_requeue}
+use Rattle.pfc_types.specs.rules.Statements.{cobegin_rule, accept_rules, within_accept, within_cobegin, select_rule, number_rule, ways_rule, else_rule}
+use Rattle.pfc_types.specs.rules.Statements.{broken_stmt, broken_stmts, broken_arms, broken_accept, broken_alts, broken_comm}
 use Rattle.pfc_types.proofs.Clean.{clean, and-left, and-right, clean-listed}
 use Rattle.pfc_semantics.specs.Alternatives.{entry_number}
 use Rattle.pfc_name_laws.specs.Reached.{formal_meaning}
@@ -25,7 +31,8 @@ use Rattle.pfc_standing_code.specs.TypedStatements.{IsComm, AcceptsEntry, IsType
 use Rattle.pfc_typed_phrases.proofs.Rules.{holds, never}
 use Rattle.pfc_typed_statements.proofs.Anywhere.{assignments_typed, sends_typed, receives_typed, requeues_typed, calls_typed}
 use Rattle.pfc_typed_structures.specs.Accepts.{FitsEntry, Fits, AllFit, ArmsFit, AcceptFits, CommFits, AltsFit, InProcess, IsOfProcess}
-use Rattle.pfc_typed_structures.specs.Inside.{in_cobegin, IsInside, itself, lined, accepted, begun, AreMet, HasLabels, IsLabelled, AreLabelled, AreArmsLabelled, IsAcceptLabelled, IsCommLabelled, AreAltsLabelled}
+use Rattle.pfc_typed_structures.specs.Inside.{in_cobegin, IsInside, itself, lined, accepted, begun, AreMet, HasLabels, IsLabelled, AreLabelled, AreArmsLabelled}
+use Rattle.pfc_typed_structures.specs.Inside.{IsAcceptLabelled, IsCommLabelled, AreAltsLabelled}
 use Rattle.pfc_typed_structures.proofs.Cobegin.{out_of_cobegin}
 use Rattle.pfc_typed_structures.proofs.Leaves.{number_of, condition_typed, guard_typed, timeout_typed, labels_typed, labelled_simple, for_typed, spread_typed}
 

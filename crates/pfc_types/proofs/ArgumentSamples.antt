@@ -5,7 +5,8 @@ use Rattle.pfc_tree.specs.Symbols.{Text}
 use Rattle.pfc_tree.specs.trees.Exprs.{ExprTree, ActualTrees, desig, field, no_selectors, more_selectors, actual, actual_width, no_actuals, more_actuals}
 use Rattle.pfc_tree.specs.trees.Types.{GroupTree, named}
 use Rattle.pfc_tree.specs.trees.Stmts.{StmtTree, accepting, accept, accept_do, assign, requeue, call, empty}
-use Rattle.pfc_tree.specs.trees.Parts.{PartTrees, ProgramTree, types, sub_part, monitor, resource, process_part, procedure, guarded, no_parts, more_parts, sub, the_module, process}
+use Rattle.pfc_tree.specs.trees.Parts.{PartTrees, ProgramTree, types, sub_part, monitor, resource, process_part, procedure, guarded, no_parts, more_parts, sub}
+use Rattle.pfc_tree.specs.trees.Parts.{the_module, process}
 use Rattle.pfc_types.specs.rules.Whole.{first_fault, first_concurrency_fault}
 use Rattle.pfc_types.proofs.Samples.{at, refused, name, named_value as value, one_stmt, body_of, var_part, program as program_of, one_part, x}
 use Rattle.pfc_types.proofs.SequentialSamples.{int_at, char_at}

@@ -4,7 +4,8 @@ use Rattle.pfc_tree.specs.Symbols.{Text}
 use Rattle.pfc_tree.specs.trees.Exprs.{desig, field, no_selectors, more_selectors, no_actuals}
 use Rattle.pfc_tree.specs.trees.Types.{TypeTree, GroupTree, named, array, var_item, no_vars, more_vars}
 use Rattle.pfc_tree.specs.trees.Stmts.{StmtTree, assign, call, accepting, accept, empty}
-use Rattle.pfc_tree.specs.trees.Parts.{EntryTree, KindTree, PartTree, PartTrees, ProgramTree, types, vars, sub_part, process_part, procedure, function, no_parts, more_parts, sub, process}
+use Rattle.pfc_tree.specs.trees.Parts.{EntryTree, KindTree, PartTree, PartTrees, ProgramTree, types, vars, sub_part, process_part, procedure, function}
+use Rattle.pfc_tree.specs.trees.Parts.{no_parts, more_parts, sub, process}
 use Rattle.pfc_types.specs.rules.Whole.{first_fault}
 use Rattle.pfc_types.proofs.Samples.{at, refused, name, named_value as value, one_stmt, body_of, var_part, program as program_of, one_part, x, an_integer}
 use Rattle.pfc_types.proofs.SequentialSamples.{var_x, row, bound}

@@ -3,12 +3,15 @@ use Rattle.std.specs.Prelude.{◌≡◌, ℕ, ◌+◌, pos, Bool, true, false, [
 use Rattle.pfc_tree.specs.Symbols.{Text}
 use Rattle.pfc_tree.specs.declared.tree.Relation.TheVariants.{Eq}
 use Rattle.pfc_tree.specs.declared.tree.Constant.TheVariants.{Number}
-use Rattle.pfc_tree.specs.trees.Exprs.{ExprTree, DesigTree, ActualTrees, related, sum, no_summands, product, no_multipliers, number, applied, desig, index, field, no_selectors, more_selectors, no_exprs, more_exprs, actual, no_actuals, more_actuals}
+use Rattle.pfc_tree.specs.trees.Exprs.{ExprTree, DesigTree, ActualTrees, related, sum, no_summands, product, no_multipliers, number, applied, desig, index}
+use Rattle.pfc_tree.specs.trees.Exprs.{field, no_selectors, more_selectors, no_exprs, more_exprs, actual, no_actuals, more_actuals}
 use Rattle.pfc_tree.specs.trees.Types.{GroupTree, named, array}
 use Rattle.pfc_tree.specs.trees.Stmts.{StmtTree, BodyTree, cobegin, accepting, accept_do, requeue, assign, call, empty}
-use Rattle.pfc_tree.specs.trees.Parts.{PartTree, PartTrees, ProgramTree, types, sub_part, monitor, resource, process_part, procedure, function, guarded, no_parts, more_parts, sub, the_module, process}
+use Rattle.pfc_tree.specs.trees.Parts.{PartTree, PartTrees, ProgramTree, types, sub_part, monitor, resource, process_part, procedure, function, guarded}
+use Rattle.pfc_tree.specs.trees.Parts.{no_parts, more_parts, sub, the_module, process}
 use Rattle.pfc_types.specs.rules.Whole.{first_fault}
-use Rattle.pfc_types.proofs.Samples.{at, refused, factor, name, named_value as value, one_stmt as stmts_of, body_of as body_with, var_part, program as program_of, one_part, x, an_integer}
+use Rattle.pfc_types.proofs.Samples.{at, refused, factor, name, named_value as value, one_stmt as stmts_of, body_of as body_with, var_part}
+use Rattle.pfc_types.proofs.Samples.{program as program_of, one_part, x, an_integer}
 
 abbrev body_of : StmtTree → BodyTree
 body_of s = body_with (stmts_of s)

@@ -4,8 +4,10 @@ use Rattle.pfc_base.specs.declared.places.Place.{Place}
 use Rattle.pfc_tree.specs.Symbols.{Text}
 use Rattle.pfc_tree.specs.trees.Exprs.{desig, field, no_selectors, more_selectors, actual, no_actuals, more_actuals}
 use Rattle.pfc_tree.specs.trees.Types.{TypeTree, named, channel}
-use Rattle.pfc_tree.specs.trees.Stmts.{StmtTree, AltTree, AltTrees, CommTree, cobegin, accepting, accept, requeue, select, select_else, call, empty, no_stmts, alt, no_alts, more_alts, comm_receive, timeout, terminate}
-use Rattle.pfc_tree.specs.trees.Parts.{PartTree, PartTrees, ProgramTree, sub_part, monitor, resource, process_part, procedure, guarded, no_parts, more_parts, sub, the_module, process}
+use Rattle.pfc_tree.specs.trees.Stmts.{StmtTree, AltTree, AltTrees, CommTree, cobegin, accepting, accept, requeue, select, select_else, call, empty, no_stmts}
+use Rattle.pfc_tree.specs.trees.Stmts.{alt, no_alts, more_alts, comm_receive, timeout, terminate}
+use Rattle.pfc_tree.specs.trees.Parts.{PartTree, PartTrees, ProgramTree, sub_part, monitor, resource, process_part, procedure, guarded, no_parts, more_parts}
+use Rattle.pfc_tree.specs.trees.Parts.{sub, the_module, process}
 use Rattle.pfc_types.specs.rules.Whole.{first_fault}
 use Rattle.pfc_types.proofs.Samples.{at, refused, name, named_value as value, one_stmt, body_of, var_part, program as program_of, one_part, x, an_integer}
 use Rattle.pfc_types.proofs.SequentialSamples.{int_at, var_x}

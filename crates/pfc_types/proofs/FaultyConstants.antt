@@ -17,7 +17,9 @@ use Rattle.pfc_types.specs.declared.types.TypeId.{TypeId}
 use Rattle.pfc_types.specs.declared.scope.Meaning.{Meaning}
 use Rattle.pfc_types.specs.declared.scope.Meaning.TheVariants.{Constant as AConstant, Named, Variable, Sub, Module, Process, Entry, Predeclared, Faulty}
 use Rattle.pfc_types.specs.rules.Kinds.{a_constant, name_rules, type_name_rules, named_type}
-use Rattle.pfc_types.specs.rules.Constants.{Ordinal, signed, sign_fits, sign_rule, named_constant, char_value, is_char, constant_value, constant_place, broken_constant, Extent, are_bounds, extent_of, range_extent, bounds_rule, broken_range, broken_ranges, range_extents}
+use Rattle.pfc_types.specs.rules.Constants.{Ordinal, signed, sign_fits, sign_rule, named_constant, char_value, is_char, constant_value, constant_place}
+use Rattle.pfc_types.specs.rules.Constants.{broken_constant, Extent, are_bounds, extent_of, range_extent, bounds_rule, broken_range, broken_ranges}
+use Rattle.pfc_types.specs.rules.Constants.{range_extents}
 use Rattle.pfc_types.specs.rules.Declarations.{passed_fits, parameter_fits, parameter_rules, parameter_type, group_type, broken_group}
 use Rattle.pfc_types.specs.rules.FaultyNames.{stands_faulty, constant_uses_faulty, ranges_use_faulty, group_uses_faulty}
 use Rattle.pfc_types.proofs.Clean.{clean, clean-unless, some-where_so, and-false, and-right, related_parts, two_parts}

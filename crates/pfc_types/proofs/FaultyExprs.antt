@@ -1,8 +1,12 @@
 -- Faulty expressions: one has a type exactly where no rule is broken in it and it uses no faulty name. One induction over all forms
 -- of expressions and of their parts.
-use Rattle.std.proofs.Common.{◌≡◌, ℕ, suc, ◌+◌, Bool, true, false, not, ◌&&◌, ◌||◌, ◌==◌, is_some, [], ◌∷◌, length, Option, None, refl, sym, ap, ap₂, ◌∙◌, arith}
+use Rattle.std.proofs.Common.{◌≡◌, ℕ, suc, ◌+◌, Bool, true, false, not, ◌&&◌, ◌||◌, ◌==◌, is_some, [], ◌∷◌, length, Option, None, refl, sym, ap, ap₂, ◌∙◌}
+use Rattle.std.proofs.Common.{arith}
 use Rattle.std.proofs.lemmas.Bool.Decides.{nat_tests}
-use Rattle.pfc_tree.specs.trees.Exprs.{ExprTree, SimpleTree, SummandTrees, TermTree, MultiplierTrees, FactorTree, DesigTree, SelectorTree, SelectorTrees, ExprTrees, ActualTree, ActualTrees, plain, related, sum, no_summands, more_summands, product, no_multipliers, more_multipliers, number, literal, negation, paren, applied, desig, index, field, no_selectors, more_selectors, no_exprs, more_exprs, actual, actual_width, no_actuals, more_actuals}
+use Rattle.pfc_tree.specs.trees.Exprs.{ExprTree, SimpleTree, SummandTrees, TermTree, MultiplierTrees, FactorTree, DesigTree, SelectorTree, SelectorTrees}
+use Rattle.pfc_tree.specs.trees.Exprs.{ExprTrees, ActualTree, ActualTrees, plain, related, sum, no_summands, more_summands, product, no_multipliers}
+use Rattle.pfc_tree.specs.trees.Exprs.{more_multipliers, number, literal, negation, paren, applied, desig, index, field, no_selectors, more_selectors, no_exprs}
+use Rattle.pfc_tree.specs.trees.Exprs.{more_exprs, actual, actual_width, no_actuals, more_actuals}
 use Rattle.pfc_types.specs.Faults.{Faults, ◌⨾◌, unless}
 use Rattle.pfc_types.specs.Faulty.{BeginsPredeclared, AreFaultyExactly}
 use Rattle.pfc_base.specs.declared.places.Place.{Place}
@@ -11,10 +15,17 @@ use Rattle.pfc_types.specs.declared.types.TypeId.{TypeId}
 use Rattle.pfc_types.specs.rules.Constants.{is_char}
 use Rattle.pfc_types.specs.rules.Kinds.{value_rule, may_have}
 use Rattle.pfc_types.specs.rules.Routines.{Want, want_rules}
-use Rattle.pfc_types.specs.rules.Expressions.{Env, find, simple_place, expr_place, add_operand, mul_operand, operated, operator_rule, signed_type, signed_rule, relation_rule, element_type, index_rule, field_rule, actual_count, is_variable, expr_type, simple_type, summed, term_type, multiplied, factor_type, selected_by, indexed, arg_fits, desig_type, broken_expr, broken_simple, broken_summands, broken_term, broken_multipliers, broken_factor, broken_selectors, broken_selector, broken_indexes, broken_actuals, broken_actual, broken_wanted, broken_desig}
-use Rattle.pfc_types.specs.rules.FaultyNames.{expr_uses_faulty, simple_uses_faulty, summands_use_faulty, term_uses_faulty, multipliers_use_faulty, factor_uses_faulty, desig_uses_faulty, selectors_use_faulty, selector_uses_faulty, exprs_use_faulty, actuals_use_faulty, actual_uses_faulty}
+use Rattle.pfc_types.specs.rules.Expressions.{Env, find, simple_place, expr_place, add_operand, mul_operand, operated, operator_rule, signed_type, signed_rule}
+use Rattle.pfc_types.specs.rules.Expressions.{relation_rule, element_type, index_rule, field_rule, actual_count, is_variable, expr_type, simple_type, summed}
+use Rattle.pfc_types.specs.rules.Expressions.{term_type, multiplied, factor_type, selected_by, indexed, arg_fits, desig_type, broken_expr, broken_simple}
+use Rattle.pfc_types.specs.rules.Expressions.{broken_summands, broken_term, broken_multipliers, broken_factor, broken_selectors, broken_selector}
+use Rattle.pfc_types.specs.rules.Expressions.{broken_indexes, broken_actuals, broken_actual, broken_wanted, broken_desig}
+use Rattle.pfc_types.specs.rules.FaultyNames.{expr_uses_faulty, simple_uses_faulty, summands_use_faulty, term_uses_faulty, multipliers_use_faulty}
+use Rattle.pfc_types.specs.rules.FaultyNames.{factor_uses_faulty, desig_uses_faulty, selectors_use_faulty, selector_uses_faulty, exprs_use_faulty}
+use Rattle.pfc_types.specs.rules.FaultyNames.{actuals_use_faulty, actual_uses_faulty}
 use Rattle.pfc_types.proofs.Clean.{related_parts, two_parts, then_parts, clean, clean-unless, some-where_so, and-false, faulty_exactly}
-use Rattle.pfc_types.proofs.FaultyOperators.{operated_exactly, signed_exactly, has_exactly, related_exactly, element_exactly, field_exactly, is_wanted, all_wanted, wanted_exactly}
+use Rattle.pfc_types.proofs.FaultyOperators.{operated_exactly, signed_exactly, has_exactly, related_exactly, element_exactly, field_exactly, is_wanted}
+use Rattle.pfc_types.proofs.FaultyOperators.{all_wanted, wanted_exactly}
 use Rattle.pfc_types.proofs.FaultyNames.{SelectorsExact, ArgumentsExact, use_exact, desig_exact}
 
 -- ## The shapes

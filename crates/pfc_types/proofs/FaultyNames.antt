@@ -1,6 +1,7 @@
 -- Faulty names that are factors: a name with its selectors and arguments has a type exactly where it fits its place, they have
 -- theirs, and its own declaration is whole.
-use Rattle.std.proofs.Common.{◌≡◌, ℕ, zero, suc, Bool, true, false, not, ◌&&◌, ◌||◌, ◌==◌, if◌then◌else◌, is_some, List, [], ◌∷◌, length, get_or, Option, Some, None, ℤ, refl, sym, ap, ap₂, ◌∙◌}
+use Rattle.std.proofs.Common.{◌≡◌, ℕ, zero, suc, Bool, true, false, not, ◌&&◌, ◌||◌, ◌==◌, if◌then◌else◌, is_some, List, [], ◌∷◌, length, get_or, Option, Some}
+use Rattle.std.proofs.Common.{None, ℤ, refl, sym, ap, ap₂, ◌∙◌}
 use Rattle.pfc_base.specs.declared.places.Place.{Place}
 use Rattle.pfc_tree.specs.trees.Exprs.{SelectorTrees, ActualTree, ActualTrees, no_selectors, more_selectors, no_actuals, more_actuals, actual, actual_width}
 use Rattle.pfc_types.specs.Faults.{Faults, ◌⨾◌, unless}
@@ -16,8 +17,12 @@ use Rattle.pfc_types.specs.declared.heads.SubSort.TheVariants.{Procedure, Guarde
 use Rattle.pfc_types.specs.Scopes.{meaning_of}
 use Rattle.pfc_types.specs.rules.Kinds.{a_variable, name_rules, variable_type}
 use Rattle.pfc_types.specs.rules.Declarations.{whole_sort}
-use Rattle.pfc_types.specs.rules.Routines.{Want, wants_for, Gives, gives, gives_alike, Site, anywhere, in_main, in_monitor_sub, Routine, the_signal, a_function, a_procedure, a_delay, a_reader, a_writer, routines, routine_of, site_fits, site_rule, Callee, nothing_called, called_with, called_sort, called_routine, called_function, given, sort_value, routine_value, is_function_sort, is_signal, is_function_routine, fits_use, is_any}
-use Rattle.pfc_types.specs.rules.Expressions.{Env, no_selector, no_actual, guard_allows, use_rules, plain_use, use_type, actual_count, count_rule, is_variable, expr_type, selected, args_fit, arg_fits, first_type, arg_type, broken_selectors, broken_actuals}
+use Rattle.pfc_types.specs.rules.Routines.{Want, wants_for, Gives, gives, gives_alike, Site, anywhere, in_main, in_monitor_sub, Routine, the_signal, a_function}
+use Rattle.pfc_types.specs.rules.Routines.{a_procedure, a_delay, a_reader, a_writer, routines, routine_of, site_fits, site_rule, Callee, nothing_called}
+use Rattle.pfc_types.specs.rules.Routines.{called_with, called_sort, called_routine, called_function, given, sort_value, routine_value, is_function_sort}
+use Rattle.pfc_types.specs.rules.Routines.{is_signal, is_function_routine, fits_use, is_any}
+use Rattle.pfc_types.specs.rules.Expressions.{Env, no_selector, no_actual, guard_allows, use_rules, plain_use, use_type, actual_count, count_rule, is_variable}
+use Rattle.pfc_types.specs.rules.Expressions.{expr_type, selected, args_fit, arg_fits, first_type, arg_type, broken_selectors, broken_actuals}
 use Rattle.pfc_types.specs.rules.FaultyNames.{all_typed, is_faulty, is_faulty_found, selectors_use_faulty, actuals_use_faulty}
 use Rattle.pfc_types.proofs.Clean.{clean, clean-unless, and-false}
 use Rattle.pfc_types.proofs.FaultyOperators.{all_wanted, wanted_formals, fits_typed}

@@ -1,5 +1,6 @@
 -- Faulty operands, selectors and arguments: what joins two parts has a type exactly where both have theirs and its own rule holds.
-use Rattle.std.proofs.Common.{◌≡◌, ℕ, Bool, true, false, not, ◌&&◌, ◌==◌, if◌then◌else◌, is_some, List, [], ◌∷◌, Option, Some, None, refl, sym, ap, ap₂, ◌∙◌, arith}
+use Rattle.std.proofs.Common.{◌≡◌, ℕ, Bool, true, false, not, ◌&&◌, ◌==◌, if◌then◌else◌, is_some, List, [], ◌∷◌, Option, Some, None, refl, sym, ap, ap₂, ◌∙◌}
+use Rattle.std.proofs.Common.{arith}
 use Rattle.std.proofs.lemmas.Bool.Decides.{nat_tests}
 use Rattle.pfc_base.specs.declared.places.Place.{Place}
 use Rattle.pfc_tree.specs.Symbols.{Text}
@@ -10,7 +11,8 @@ use Rattle.pfc_types.specs.Types.{Forms, integer, boolean, is_same, is_simple, f
 use Rattle.pfc_types.specs.declared.types.TypeId.{TypeId}
 use Rattle.pfc_types.specs.declared.heads.Formal.{Formal}
 use Rattle.pfc_types.specs.rules.Kinds.{where_so, has, may_have, has_object, value_rule}
-use Rattle.pfc_types.specs.rules.Expressions.{operated, operator_rule, signed_type, signed_rule, related_type, relation_rule, element_of, element_type, may_index, index_rule, field_type, is_field, field_rule}
+use Rattle.pfc_types.specs.rules.Expressions.{operated, operator_rule, signed_type, signed_rule, related_type, relation_rule, element_of, element_type}
+use Rattle.pfc_types.specs.rules.Expressions.{may_index, index_rule, field_type, is_field, field_rule}
 use Rattle.pfc_types.specs.rules.Routines.{Want, a_value, a_simple_value, a_variable_of, wants_for, suits, may_suit, fits_want, want_rules}
 use Rattle.pfc_types.specs.rules.FaultyNames.{all_typed}
 use Rattle.pfc_types.proofs.Clean.{clean, clean-unless, some-where_so, and-false}

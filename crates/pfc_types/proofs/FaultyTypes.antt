@@ -1,5 +1,6 @@
 -- Faulty types as they are written: what is made is a type exactly where no rule is noted on the way and no faulty name is used.
-use Rattle.std.proofs.Common.{◌≡◌, ◌≢◌, ◌⊎◌, inl, inr, Bool, true, false, not, ◌&&◌, ◌||◌, if◌then◌else◌, nat_le, is_some, List, [], ◌∷◌, ◌++◌, Option, Some, None, refl, sym, ap, ap₂, ◌∙◌, subst, append_assoc, append-nil}
+use Rattle.std.proofs.Common.{◌≡◌, ◌≢◌, ◌⊎◌, inl, inr, Bool, true, false, not, ◌&&◌, ◌||◌, if◌then◌else◌, nat_le, is_some, List, [], ◌∷◌, ◌++◌, Option, Some}
+use Rattle.std.proofs.Common.{None, refl, sym, ap, ap₂, ◌∙◌, subst, append_assoc, append-nil}
 use Rattle.std.specs.Prelude.{int_le}
 use Rattle.std.proofs.lemmas.List.{append_cancel_left}
 use Rattle.pfc_base.specs.declared.places.Place.{Place}
@@ -18,9 +19,12 @@ use Rattle.pfc_types.specs.declared.types.TypeForm.{TypeForm}
 use Rattle.pfc_types.specs.declared.types.TypeForm.TheVariants.{Channel, Array, Record}
 use Rattle.pfc_types.specs.declared.table.TypeFault.TheVariants.{Bounds, Cells}
 use Rattle.pfc_types.specs.rules.Kinds.{type_name_rules}
-use Rattle.pfc_types.specs.rules.Constants.{constant_value, broken_constant, broken_ranges, range_extents, Extent, Made, added_unless, added, made_channel, array_of, made_arrays, MadeFields, made_field, made_names, made_group, record_form, fields_begun, made, made_items, made_item, type_place}
+use Rattle.pfc_types.specs.rules.Constants.{constant_value, broken_constant, broken_ranges, range_extents, Extent, Made, added_unless, added, made_channel}
+use Rattle.pfc_types.specs.rules.Constants.{array_of, made_arrays, MadeFields, made_field, made_names, made_group, record_form, fields_begun, made, made_items}
+use Rattle.pfc_types.specs.rules.Constants.{made_item, type_place}
 use Rattle.pfc_types.specs.rules.Declarations.{group_type, broken_group}
-use Rattle.pfc_types.specs.rules.FaultyNames.{stands_faulty, constant_uses_faulty, ranges_use_faulty, group_uses_faulty, type_uses_faulty, items_use_faulty, item_uses_faulty}
+use Rattle.pfc_types.specs.rules.FaultyNames.{stands_faulty, constant_uses_faulty, ranges_use_faulty, group_uses_faulty, type_uses_faulty, items_use_faulty}
+use Rattle.pfc_types.specs.rules.FaultyNames.{item_uses_faulty}
 use Rattle.pfc_types.proofs.Clean.{clean, and-false, and-true, then_parts, faulty_exactly}
 use Rattle.pfc_types.proofs.FaultyConstants.{constant_exact, all_some, extents_exact, AreBounds, extents_bounds, named_type_exact, group_exact}
 use Rattle.pfc_types.proofs.Walking.{held, note_kept}

@@ -5,12 +5,16 @@ use Rattle.pfc_tree.specs.declared.tree.Sign.TheVariants.{Minus}
 use Rattle.pfc_tree.specs.declared.tree.AddOp.TheVariants.{Add}
 use Rattle.pfc_tree.specs.declared.tree.Relation.TheVariants.{Eq}
 use Rattle.pfc_tree.specs.declared.tree.Constant.TheVariants.{Named}
-use Rattle.pfc_tree.specs.trees.Exprs.{ExprTree, TermTree, plain, related, sum, no_summands, more_summands, product, no_multipliers, number, literal, negation, paren, applied, desig, index, field, no_selectors, more_selectors, no_exprs, more_exprs, actual, no_actuals, more_actuals}
+use Rattle.pfc_tree.specs.trees.Exprs.{ExprTree, TermTree, plain, related, sum, no_summands, more_summands, product, no_multipliers, number, literal, negation}
+use Rattle.pfc_tree.specs.trees.Exprs.{paren, applied, desig, index, field, no_selectors, more_selectors, no_exprs, more_exprs, actual, no_actuals}
+use Rattle.pfc_tree.specs.trees.Exprs.{more_actuals}
 use Rattle.pfc_tree.specs.trees.Types.{TypeTree, named, channel, array, fields, var_item, no_vars, more_vars}
 use Rattle.pfc_tree.specs.trees.Stmts.{StmtTree, if_then, case_of, cobegin, assign, send, receive, call, empty, arm, no_arms, more_arms}
-use Rattle.pfc_tree.specs.trees.Parts.{PartTrees, ProgramTree, consts, types, vars, sub_part, process_part, procedure, function, no_parts, more_parts, sub, process}
+use Rattle.pfc_tree.specs.trees.Parts.{PartTrees, ProgramTree, consts, types, vars, sub_part, process_part, procedure, function, no_parts, more_parts, sub}
+use Rattle.pfc_tree.specs.trees.Parts.{process}
 use Rattle.pfc_types.specs.rules.Whole.{first_fault}
-use Rattle.pfc_types.proofs.Samples.{at, refused, factor, name, named_value as value, one_stmt, body_of, var_part, program as program_of, one_part, x, an_integer}
+use Rattle.pfc_types.proofs.Samples.{at, refused, factor, name, named_value as value, one_stmt, body_of, var_part, program as program_of, one_part, x}
+use Rattle.pfc_types.proofs.Samples.{an_integer}
 use Rattle.pfc_types.proofs.SequentialSamples.{int_at, var_x, call_with, row, bound, pair}
 use Rattle.pfc_types.proofs.ConcurrentSamples.{p, q, process_p, procedure_q, monitor_m, with_c, semaphore_at, resource_r}
 

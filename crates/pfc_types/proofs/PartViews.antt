@@ -1,7 +1,8 @@
 -- The views of the walk over the bodies, part by part, over the finished scopes.
 use Rattle.std.proofs.Common.{ℕ, ◌+◌, List, [], ◌∷◌, ◌++◌, Option, Some, None}
 use Rattle.pfc_tree.specs.trees.Stmts.{BodyTree}
-use Rattle.pfc_tree.specs.trees.Parts.{PartTree, PartTrees, SubTree, ModuleTree, ProcessTree, consts, types, vars, sub_part, monitor, resource, process_part, no_parts, more_parts, sub, the_module, process}
+use Rattle.pfc_tree.specs.trees.Parts.{PartTree, PartTrees, SubTree, ModuleTree, ProcessTree, consts, types, vars, sub_part, monitor, resource, process_part}
+use Rattle.pfc_tree.specs.trees.Parts.{no_parts, more_parts, sub, the_module, process}
 use Rattle.pfc_types.specs.Scopes.{Names, Level, scope_at, here}
 use Rattle.pfc_types.specs.Stops.{guard_views, body_views}
 use Rattle.pfc_types.specs.rules.Bodies.{passed, passed_part, passed_groups, passed_entries, part_scopes, parts_scopes, level}

@@ -1,5 +1,6 @@
 -- The predeclared types: the first places of a table hold what they hold in the table that has no others.
-use Rattle.std.proofs.Common.{◌≡◌, ℕ, zero, suc, ◌<◌, true, false, ◌||◌, List, [], ◌∷◌, ◌++◌, length, get_or, fold, Some, nat_lt, refl, ap, ◌∙◌, arith, length-append, lit<}
+use Rattle.std.proofs.Common.{◌≡◌, ℕ, zero, suc, ◌<◌, true, false, ◌||◌, List, [], ◌∷◌, ◌++◌, length, get_or, fold, Some, nat_lt, refl, ap, ◌∙◌, arith}
+use Rattle.std.proofs.Common.{length-append, lit<}
 use Rattle.std.proofs.lemmas.Bool.Decides.{nat_tests}
 use Rattle.pfc_types.specs.Types.{Forms, is_simple, is_object, predeclared_forms, held_next, all_held, one_cell}
 use Rattle.pfc_types.specs.Faulty.{BeginsPredeclared}

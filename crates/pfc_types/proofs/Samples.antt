@@ -4,7 +4,8 @@ use Rattle.pfc_base.specs.declared.places.Place.{Place}
 use Rattle.pfc_base.specs.declared.faults.Refusal.{Refusal}
 use Rattle.pfc_tree.specs.Symbols.{Text}
 use Rattle.pfc_tree.specs.declared.tree.AddOp.TheVariants.{Add}
-use Rattle.pfc_tree.specs.trees.Exprs.{ExprTree, FactorTree, DesigTree, plain, sum, no_summands, more_summands, product, no_multipliers, number, literal, applied, desig, no_selectors, actual, no_actuals, more_actuals}
+use Rattle.pfc_tree.specs.trees.Exprs.{ExprTree, FactorTree, DesigTree, plain, sum, no_summands, more_summands, product, no_multipliers, number, literal}
+use Rattle.pfc_tree.specs.trees.Exprs.{applied, desig, no_selectors, actual, no_actuals, more_actuals}
 use Rattle.pfc_tree.specs.trees.Types.{TypeTree, named, channel, var_item, no_vars, more_vars}
 use Rattle.pfc_tree.specs.trees.Stmts.{StmtTree, StmtTrees, BodyTree, for_do, cobegin, assign, send, call, empty, no_stmts, more_stmts, body}
 use Rattle.pfc_tree.specs.trees.Parts.{PartTree, PartTrees, ProgramTree, vars, sub_part, process_part, procedure, function, no_parts, more_parts, sub, process}

@@ -4,12 +4,14 @@ use Rattle.pfc_tree.specs.Symbols.{Text}
 use Rattle.pfc_tree.specs.declared.tree.Sign.TheVariants.{Minus}
 use Rattle.pfc_tree.specs.declared.tree.Constant.{Constant}
 use Rattle.pfc_tree.specs.declared.tree.Constant.TheVariants.{Number, Named, Literal}
-use Rattle.pfc_tree.specs.trees.Exprs.{ExprTree, ActualTree, number, literal, desig, index, field, no_selectors, more_selectors, no_exprs, more_exprs, actual, actual_width, no_actuals, more_actuals}
+use Rattle.pfc_tree.specs.trees.Exprs.{ExprTree, ActualTree, number, literal, desig, index, field, no_selectors, more_selectors, no_exprs, more_exprs, actual}
+use Rattle.pfc_tree.specs.trees.Exprs.{actual_width, no_actuals, more_actuals}
 use Rattle.pfc_tree.specs.trees.Types.{TypeTree, named, array, fields, var_item, no_vars, more_vars}
 use Rattle.pfc_tree.specs.trees.Stmts.{StmtTree, if_then, while_do, repeat_until, case_of, assign, call, empty, arm, no_arms, more_arms}
 use Rattle.pfc_tree.specs.trees.Parts.{PartTrees, ProgramTree, consts, types, sub_part, procedure, function, no_parts, more_parts, sub}
 use Rattle.pfc_types.specs.rules.Whole.{first_fault}
-use Rattle.pfc_types.proofs.Samples.{at, refused, factor, name, named_value as value, one_stmt, body_of, var_part, program as program_of, one_part, x, an_integer}
+use Rattle.pfc_types.proofs.Samples.{at, refused, factor, name, named_value as value, one_stmt, body_of, var_part, program as program_of, one_part, x}
+use Rattle.pfc_types.proofs.Samples.{an_integer}
 
 abbrev program : PartTrees → StmtTree → ProgramTree
 program ps s = program_of ps (one_stmt s)

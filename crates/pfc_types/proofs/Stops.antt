@@ -2,13 +2,17 @@
 use Rattle.std.proofs.Common.{◌≡◌, ℕ, ◌+◌, Bool, true, false, List, [], ◌∷◌, ◌++◌, Option, Some, None, refl, sym, ap, ap₂, ◌∙◌, append_assoc, append-nil}
 use Rattle.pfc_base.specs.declared.faults.Refusal.{Refusal}
 use Rattle.pfc_tree.specs.trees.Stmts.{BodyTree}
-use Rattle.pfc_tree.specs.trees.Parts.{PartTree, PartTrees, SubTree, ModuleTree, ProcessTree, ProgramTree, consts, types, vars, sub_part, monitor, resource, process_part, no_parts, more_parts, sub, the_module, process}
+use Rattle.pfc_tree.specs.trees.Parts.{PartTree, PartTrees, SubTree, ModuleTree, ProcessTree, ProgramTree, consts, types, vars, sub_part, monitor, resource}
+use Rattle.pfc_tree.specs.trees.Parts.{process_part, no_parts, more_parts, sub, the_module, process}
 use Rattle.pfc_types.specs.Faults.{listed}
 use Rattle.pfc_types.specs.Scopes.{Level, scope_at, here}
 use Rattle.pfc_types.specs.Blocks.{State}
-use Rattle.pfc_types.specs.Stops.{Inside, a_guard, a_body, Stop, broken_inside, broken_stops, inside_views, views, one_stop, init_stops, part_stops, parts_stops, sub_stops, module_stops, process_stops, stops, body_views}
+use Rattle.pfc_types.specs.Stops.{Inside, a_guard, a_body, Stop, broken_inside, broken_stops, inside_views, views, one_stop, init_stops, part_stops}
+use Rattle.pfc_types.specs.Stops.{parts_stops, sub_stops, module_stops, process_stops, stops, body_views}
 use Rattle.pfc_types.specs.rules.Expressions.{Env}
-use Rattle.pfc_types.specs.rules.Bodies.{passed, passed_part, passed_groups, passed_entries, part_scopes, parts_scopes, level, env_at, around_nothing, around_main, around_process, around_sub, around_guard, broken_init, broken_part, broken_parts, broken_sub, broken_module, broken_process}
+use Rattle.pfc_types.specs.rules.Bodies.{passed, passed_part, passed_groups, passed_entries, part_scopes, parts_scopes, level, env_at, around_nothing}
+use Rattle.pfc_types.specs.rules.Bodies.{around_main, around_process, around_sub, around_guard, broken_init, broken_part, broken_parts, broken_sub}
+use Rattle.pfc_types.specs.rules.Bodies.{broken_module, broken_process}
 use Rattle.pfc_types.specs.rules.Whole.{broken_bodies}
 use Rattle.pfc_types.proofs.PartViews.{init_views, part_views, parts_views, sub_views, module_views, process_views}
 

@@ -5,10 +5,13 @@ use Rattle.pfc_tree.specs.declared.tree.Sign.TheVariants.{Minus}
 use Rattle.pfc_tree.specs.declared.tree.Constant.TheVariants.{Named, Literal}
 use Rattle.pfc_tree.specs.trees.Exprs.{ExprTree, DesigTree, desig, field, no_selectors, more_selectors, actual, no_actuals, more_actuals, applied}
 use Rattle.pfc_tree.specs.trees.Types.{named, channel, array, fields, var_item, no_vars, more_vars}
-use Rattle.pfc_tree.specs.trees.Stmts.{StmtTree, case_of, cobegin, for_do, accepting, accept, requeue, select, assign, receive, call, empty, arm, no_arms, more_arms, no_alts, terminate}
-use Rattle.pfc_tree.specs.trees.Parts.{PartTree, PartTrees, ProgramTree, consts, types, sub_part, resource, process_part, function, guarded, no_parts, more_parts, sub, the_module, process}
+use Rattle.pfc_tree.specs.trees.Stmts.{StmtTree, case_of, cobegin, for_do, accepting, accept, requeue, select, assign, receive, call, empty, arm, no_arms}
+use Rattle.pfc_tree.specs.trees.Stmts.{more_arms, no_alts, terminate}
+use Rattle.pfc_tree.specs.trees.Parts.{PartTree, PartTrees, ProgramTree, consts, types, sub_part, resource, process_part, function, guarded, no_parts}
+use Rattle.pfc_tree.specs.trees.Parts.{more_parts, sub, the_module, process}
 use Rattle.pfc_types.specs.rules.Whole.{first_fault}
-use Rattle.pfc_types.proofs.Samples.{at, refused, factor, name, named_value as value, one_stmt, body_of, var_part, program as program_of, one_part, x, an_integer}
+use Rattle.pfc_types.proofs.Samples.{at, refused, factor, name, named_value as value, one_stmt, body_of, var_part, program as program_of, one_part, x}
+use Rattle.pfc_types.proofs.Samples.{an_integer}
 use Rattle.pfc_types.proofs.SequentialSamples.{int_at, char_at, bound}
 use Rattle.pfc_types.proofs.ConcurrentSamples.{p, q, process_p, procedure_q, monitor_m, with_c, semaphore_at, resource_r, requeue_of, receive_or}
 use Rattle.pfc_types.proofs.OrderSamples.{x_set, integer_x, semaphore_x}

@@ -8,16 +8,21 @@ use Rattle.pfc_tree.specs.trees.Parts.{KindTree, EntryTree, PartTrees, procedure
 use Rattle.pfc_types.specs.Growing.{Begins}
 use Rattle.pfc_types.specs.Scopes.{Names, Level, scope_at, here}
 use Rattle.pfc_types.specs.Blocks.{State, open_scope}
-use Rattle.pfc_types.specs.Visits.{Visit, AreCounted, guard_visits, head_visit, body_visits, init_visits, parts_visits, sub_visits, module_visits, process_visits}
+use Rattle.pfc_types.specs.Visits.{Visit, AreCounted, guard_visits, head_visit, body_visits, init_visits, parts_visits, sub_visits, module_visits}
+use Rattle.pfc_types.specs.Visits.{process_visits}
 use Rattle.pfc_types.specs.Stops.{guard_views, body_views}
 use Rattle.pfc_types.proofs.PartViews.{init_views, parts_views, sub_views, module_views, process_views}
-use Rattle.pfc_types.specs.rules.Declarations.{Owner, elsewhere, Heading, heading, sub_headed, process_headed, process_cells, entries_state, module_owner, init_state, body_state, cells_rule, scope_cells, result_cells, parts_state, sub_state, module_state, process_state}
+use Rattle.pfc_types.specs.rules.Declarations.{Owner, elsewhere, Heading, heading, sub_headed, process_headed, process_cells, entries_state, module_owner}
+use Rattle.pfc_types.specs.rules.Declarations.{init_state, body_state, cells_rule, scope_cells, result_cells, parts_state, sub_state, module_state}
+use Rattle.pfc_types.specs.rules.Declarations.{process_state}
 use Rattle.pfc_types.specs.rules.Bodies.{init_scopes, passed, passed_groups, passed_entries, parts_scopes, level}
 use Rattle.pfc_types.proofs.Walking.{held, Opened, Walked, opened_trans, opened_inner, note_kept, open_opened, open_empty, kept_opened}
 use Rattle.pfc_types.proofs.WalkDeclarations.{groups_walked, entries_walked}
 use Rattle.pfc_types.proofs.WalkStatements.{heading_opened, init_opened}
-use Rattle.pfc_types.proofs.WalkParts.{passed_parts, sub_named_walked, sub_headed_walked, process_named_behind, process_headed_walked, module_closed_walked, parts_walked}
-use Rattle.pfc_types.proofs.Views.{AllWithin, within_grown, within_here, Grown, grown_trans, opened_grown, walked_grown, Finished, finished_later, finished_opened, finished_walked, counted_none, counted_both, counted_one, counted_as}
+use Rattle.pfc_types.proofs.WalkParts.{passed_parts, sub_named_walked, sub_headed_walked, process_named_behind, process_headed_walked, module_closed_walked}
+use Rattle.pfc_types.proofs.WalkParts.{parts_walked}
+use Rattle.pfc_types.proofs.Views.{AllWithin, within_grown, within_here, Grown, grown_trans, opened_grown, walked_grown, Finished, finished_later}
+use Rattle.pfc_types.proofs.Views.{finished_opened, finished_walked, counted_none, counted_both, counted_one, counted_as}
 use Rattle.pfc_types.proofs.ViewsStatements.{init_counted}
 
 ap₃ : {A B C D : Type 0} (f : A → B → C → D) {a a' : A} {b b' : B} {c c' : C} → a ≡ a' → b ≡ b' → c ≡ c' → f a b c ≡ f a' b' c'

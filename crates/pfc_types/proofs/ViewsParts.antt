@@ -1,14 +1,16 @@
 -- The names in view at the bodies of all parts: the names that the walk over the bodies counts in the finished scopes are those that
 -- the scopes held when the walk over the declarations came there.
 use Rattle.std.proofs.Common.{◌≡◌, ◌++◌, ◌+◌, ℕ, ◌<◌, Bool, true, false, List, [], length, Some, sym, ap, ap₂, subst, arith}
-use Rattle.pfc_tree.specs.trees.Parts.{PartTree, PartTrees, SubTree, ModuleTree, ProcessTree, ProgramTree, consts, types, vars, sub_part, monitor, resource, process_part, no_parts, more_parts, sub, the_module, process}
+use Rattle.pfc_tree.specs.trees.Parts.{PartTree, PartTrees, SubTree, ModuleTree, ProcessTree, ProgramTree, consts, types, vars, sub_part, monitor, resource}
+use Rattle.pfc_tree.specs.trees.Parts.{process_part, no_parts, more_parts, sub, the_module, process}
 use Rattle.pfc_types.specs.Growing.{Begins}
 use Rattle.pfc_types.specs.Scopes.{Names, Level, scope_at, here}
 use Rattle.pfc_types.specs.Blocks.{State, open_scope}
 use Rattle.pfc_types.specs.Visits.{AreCounted, part_visits, parts_visits, sub_visits, module_visits, process_visits, visits}
 use Rattle.pfc_types.specs.Stops.{views, stops, body_views}
 use Rattle.pfc_types.proofs.PartViews.{part_views, parts_views, sub_views, module_views, process_views}
-use Rattle.pfc_types.specs.rules.Declarations.{Owner, in_program, elsewhere, sub_headed, process_headed, entries_state, module_owner, cells_rule, part_state, parts_state, sub_state, module_state, process_state}
+use Rattle.pfc_types.specs.rules.Declarations.{Owner, in_program, elsewhere, sub_headed, process_headed, entries_state, module_owner, cells_rule, part_state}
+use Rattle.pfc_types.specs.rules.Declarations.{parts_state, sub_state, module_state, process_state}
 use Rattle.pfc_types.specs.rules.Bodies.{part_scopes, parts_scopes, passed_part}
 use Rattle.pfc_types.specs.rules.Whole.{begun, declared_all, declared_parts, finished, main_cells, scopes_of}
 use Rattle.pfc_types.proofs.Prefixes.{begins_same}

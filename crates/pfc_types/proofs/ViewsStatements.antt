@@ -1,15 +1,22 @@
 -- The names in view in statements: an accept's own scope is the next in both walks, and is closed behind it.
 use Rattle.std.proofs.Common.{ℕ, ◌+◌, List, [], ◌∷◌, length, Option, Some, None, sym, ap, subst, arith}
-use Rattle.pfc_tree.specs.trees.Stmts.{StmtTree, StmtTrees, BodyTree, ArmTree, ArmTrees, AcceptTree, AltTree, AltTrees, CommTree, empty, null, block, if_then, if_then_else, case_of, while_do, repeat_until, repeat_forever, for_do, cobegin, accepting, requeue, select, select_else, assign, send, receive, call, no_stmts, more_stmts, body, arm, no_arms, more_arms, accept, accept_do, alt, no_alts, more_alts, comm_accept, comm_send, comm_receive, timeout, terminate}
+use Rattle.pfc_tree.specs.trees.Stmts.{StmtTree, StmtTrees, BodyTree, ArmTree, ArmTrees, AcceptTree, AltTree, AltTrees, CommTree, empty, null, block, if_then}
+use Rattle.pfc_tree.specs.trees.Stmts.{if_then_else, case_of, while_do, repeat_until, repeat_forever, for_do, cobegin, accepting, requeue, select, select_else}
+use Rattle.pfc_tree.specs.trees.Stmts.{assign, send, receive, call, no_stmts, more_stmts, body, arm, no_arms, more_arms, accept, accept_do, alt, no_alts}
+use Rattle.pfc_tree.specs.trees.Stmts.{more_alts, comm_accept, comm_send, comm_receive, timeout, terminate}
 use Rattle.pfc_types.specs.Scopes.{Names, Level, here}
 use Rattle.pfc_types.specs.Blocks.{State}
-use Rattle.pfc_types.specs.Visits.{AreCounted, stmt_visits, stmts_visits, inner_visits, arms_visits, arm_visits, accept_visits, alts_visits, alt_visits, comm_visits, body_visits, init_visits}
+use Rattle.pfc_types.specs.Visits.{AreCounted, stmt_visits, stmts_visits, inner_visits, arms_visits, arm_visits, accept_visits, alts_visits, alt_visits}
+use Rattle.pfc_types.specs.Visits.{comm_visits, body_visits, init_visits}
 use Rattle.pfc_types.specs.Stops.{stmt_views, stmts_views, inner_views, arms_views, arm_views, accept_views, alts_views, alt_views, comm_views, body_views}
 use Rattle.pfc_types.proofs.PartViews.{init_views}
-use Rattle.pfc_types.specs.rules.Declarations.{Labels, accepted, labels_noted, stmt_state, stmts_state, body_state, arms_state, arm_state, accept_state, alts_state, alt_state, comm_state, init_state}
+use Rattle.pfc_types.specs.rules.Declarations.{Labels, accepted, labels_noted, stmt_state, stmts_state, body_state, arms_state, arm_state, accept_state}
+use Rattle.pfc_types.specs.rules.Declarations.{alts_state, alt_state, comm_state, init_state}
 use Rattle.pfc_types.proofs.Walking.{held, Opened}
-use Rattle.pfc_types.proofs.WalkStatements.{labels_kept, accepted_opened, stmt_opened, stmts_opened, body_opened, arm_opened, arms_opened, alts_opened, alt_opened, comm_opened}
-use Rattle.pfc_types.proofs.Views.{AllWithin, within_grown, within_here, opened_grown, Finished, finished_later, finished_opened, counted_none, counted_both, counted_one, counted_as}
+use Rattle.pfc_types.proofs.WalkStatements.{labels_kept, accepted_opened, stmt_opened, stmts_opened, body_opened, arm_opened, arms_opened, alts_opened}
+use Rattle.pfc_types.proofs.WalkStatements.{alt_opened, comm_opened}
+use Rattle.pfc_types.proofs.Views.{AllWithin, within_grown, within_here, opened_grown, Finished, finished_later, finished_opened, counted_none, counted_both}
+use Rattle.pfc_types.proofs.Views.{counted_one, counted_as}
 
 -- the rest of a list of statements, behind one
 rest_finished : {s t u : State} {k l : ℕ} {fin : List Names} → Opened s t k → Opened t u l → Finished (length (held s)) (held u) fin → Finished (length (held t)) (held u) fin

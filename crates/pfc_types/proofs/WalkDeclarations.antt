@@ -1,6 +1,7 @@
 -- What each declaration does to the scopes: a type as it is written opens and declares nothing, and a constant, a type, a variable, a
 -- parameter and an entry declare their names in one scope.
-use Rattle.std.proofs.Common.{ℕ, ◌+◌, ◌<◌, Bool, true, false, not, if◌then◌else◌, is_some, List, [], ◌∷◌, ◌++◌, length, Option, Some, None, refl, ap, arith, subst}
+use Rattle.std.proofs.Common.{ℕ, ◌+◌, ◌<◌, Bool, true, false, not, if◌then◌else◌, is_some, List, [], ◌∷◌, ◌++◌, length, Option, Some, None, refl, ap, arith}
+use Rattle.std.proofs.Common.{subst}
 use Rattle.pfc_base.specs.declared.places.Place.{Place}
 use Rattle.pfc_tree.specs.Symbols.{Text}
 use Rattle.pfc_tree.specs.declared.tree.ConstItem.{ConstItem}
@@ -22,11 +23,18 @@ use Rattle.pfc_types.specs.declared.table.TypeFault.TheVariants.{Bounds, Cells, 
 use Rattle.pfc_types.specs.declared.scope.Meaning.{Meaning}
 use Rattle.pfc_types.specs.declared.scope.Meaning.TheVariants.{Constant as AConstant, Named, Variable, Sub, Module, Process, Entry, Predeclared, Faulty}
 use Rattle.pfc_types.specs.rules.Kinds.{type_name_rules, has_object, type_meaning, variable_meaning}
-use Rattle.pfc_types.specs.rules.Constants.{Ordinal, Extent, constant_value, broken_constant, broken_ranges, range_extents, Made, added_unless, added, channel_form, array_of, made_arrays, MadeFields, made_field, made_names, made_group, record_form, fields_begun, made, made_items, made_item, type_place}
-use Rattle.pfc_types.specs.rules.Declarations.{constant_meaning, const_state, consts_state, type_state, types_state, Owner, owner_rules, owned_type, passes_most, populated, brought, var_name_state, var_names_state, var_state, vars_state, group_type, broken_group, Heading, formal_heading, formals_heading, group_viewed, group_heading, groups_heading, accept_groups, EntryHeading, entry_formal, entry_formals, entry_group, entry_groups, entry_meaning, entry_state, entries_state, may_export, export_state, export_list, exports_state, process_named}
+use Rattle.pfc_types.specs.rules.Constants.{Ordinal, Extent, constant_value, broken_constant, broken_ranges, range_extents, Made, added_unless, added}
+use Rattle.pfc_types.specs.rules.Constants.{channel_form, array_of, made_arrays, MadeFields, made_field, made_names, made_group, record_form, fields_begun}
+use Rattle.pfc_types.specs.rules.Constants.{made, made_items, made_item, type_place}
+use Rattle.pfc_types.specs.rules.Declarations.{constant_meaning, const_state, consts_state, type_state, types_state, Owner, owner_rules, owned_type}
+use Rattle.pfc_types.specs.rules.Declarations.{passes_most, populated, brought, var_name_state, var_names_state, var_state, vars_state, group_type}
+use Rattle.pfc_types.specs.rules.Declarations.{broken_group, Heading, formal_heading, formals_heading, group_viewed, group_heading, groups_heading}
+use Rattle.pfc_types.specs.rules.Declarations.{accept_groups, EntryHeading, entry_formal, entry_formals, entry_group, entry_groups, entry_meaning, entry_state}
+use Rattle.pfc_types.specs.rules.Declarations.{entries_state, may_export, export_state, export_list, exports_state, process_named}
 use Rattle.pfc_types.specs.rules.Bodies.{passed, passed_names, passed_consts, passed_types, passed_vars, passed_groups, passed_entries}
 use Rattle.pfc_types.proofs.Prefixes.{begins_same, begins_push}
-use Rattle.pfc_types.proofs.Walking.{held, Kept, Walked, kept_same, kept_trans, kept_walked, kept_then_walked, walked_trans, note_kept, declare_walked, free_walked}
+use Rattle.pfc_types.proofs.Walking.{held, Kept, Walked, kept_same, kept_trans, kept_walked, kept_then_walked, walked_trans, note_kept, declare_walked}
+use Rattle.pfc_types.proofs.Walking.{free_walked}
 
 -- ## Types as they are written
 

@@ -4,7 +4,8 @@ use Rattle.std.proofs.Common.{◌≡◌, ℕ, ◌+◌, ◌<◌, Bool, true, fals
 use Rattle.pfc_base.specs.declared.places.Place.{Place}
 use Rattle.pfc_tree.specs.Symbols.{Text}
 use Rattle.pfc_tree.specs.trees.Types.{GroupTree}
-use Rattle.pfc_tree.specs.trees.Parts.{KindTree, PartTree, PartTrees, SubTree, ModuleTree, ProcessTree, ProgramTree, consts, types, vars, sub_part, monitor, resource, process_part, no_parts, more_parts, sub, the_module, process}
+use Rattle.pfc_tree.specs.trees.Parts.{KindTree, PartTree, PartTrees, SubTree, ModuleTree, ProcessTree, ProgramTree, consts, types, vars, sub_part, monitor}
+use Rattle.pfc_tree.specs.trees.Parts.{resource, process_part, no_parts, more_parts, sub, the_module, process}
 use Rattle.pfc_types.specs.Faulty.{BeginsPredeclared, HoldSimpleConstants}
 use Rattle.pfc_types.specs.Types.{predeclared_forms}
 use Rattle.pfc_types.specs.Scopes.{Names, Level, scope_at, here, found_in, look}
@@ -12,16 +13,21 @@ use Rattle.pfc_types.specs.Blocks.{State, no_blocks, note, open_scope, add_sub, 
 use Rattle.pfc_types.specs.declared.heads.SubHead.{SubHead}
 use Rattle.pfc_types.specs.declared.heads.ProcessHead.{ProcessHead}
 use Rattle.pfc_types.specs.declared.scope.Meaning.TheVariants.{Module}
-use Rattle.pfc_types.specs.rules.Declarations.{Owner, in_program, elsewhere, Heading, heading, broken_sort, sort_of, sub_headed, module_owner, module_closed, exports_state, init_state, body_state, process_headed, process_cells, entries_state, cells_rule, scope_cells, result_cells, part_state, parts_state, sub_state, module_state, process_state}
+use Rattle.pfc_types.specs.rules.Declarations.{Owner, in_program, elsewhere, Heading, heading, broken_sort, sort_of, sub_headed, module_owner, module_closed}
+use Rattle.pfc_types.specs.rules.Declarations.{exports_state, init_state, body_state, process_headed, process_cells, entries_state, cells_rule, scope_cells}
+use Rattle.pfc_types.specs.rules.Declarations.{result_cells, part_state, parts_state, sub_state, module_state, process_state}
 use Rattle.pfc_types.specs.rules.Statements.{body_scopes}
-use Rattle.pfc_types.specs.rules.Bodies.{passed, passed_part, part_scopes, parts_scopes, sub_scopes, module_scopes, process_scopes, sub_name, module_name, process_name}
+use Rattle.pfc_types.specs.rules.Bodies.{passed, passed_part, part_scopes, parts_scopes, sub_scopes, module_scopes, process_scopes, sub_name, module_name}
+use Rattle.pfc_types.specs.rules.Bodies.{process_name}
 use Rattle.pfc_types.specs.rules.Whole.{begun, declared_parts, declared_all, finished, types_of, scopes_of, main_cells}
 use Rattle.pfc_types.proofs.Sound.{sound_simple, sound_faulty, AreSound, subs_same, subs_push}
 use Rattle.pfc_types.proofs.WholeHeads.{heading_subs, heading_typed, sub_sound}
 use Rattle.pfc_types.specs.rules.FaultyNames.{is_faulty_found, stands_faulty}
 use Rattle.pfc_types.proofs.Looks.{look_sound}
 use Rattle.pfc_types.proofs.Prefixes.{begins_same, begins_trans}
-use Rattle.pfc_types.proofs.Walking.{kept_opened, opened_count, held, Kept, Walked, kept_same, kept_trans, opened_trans, kept_walked, walked_count, walked_trans, walked_opened, walked_kept, opened_then_walked, kept_then_walked, opened_inner, walked_inner, note_kept, open_opened, declare_walked}
+use Rattle.pfc_types.proofs.Walking.{kept_opened, opened_count, held, Kept, Walked, kept_same, kept_trans, opened_trans, kept_walked, walked_count}
+use Rattle.pfc_types.proofs.Walking.{walked_trans, walked_opened, walked_kept, opened_then_walked, kept_then_walked, opened_inner, walked_inner, note_kept}
+use Rattle.pfc_types.proofs.Walking.{open_opened, declare_walked}
 use Rattle.pfc_types.proofs.WalkDeclarations.{consts_walked, types_walked, vars_walked, entries_walked, exports_kept, process_named_walked}
 use Rattle.pfc_types.proofs.WalkStatements.{heading_opened, body_opened, init_opened}
 

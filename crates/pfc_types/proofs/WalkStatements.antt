@@ -5,15 +5,20 @@ use Rattle.pfc_base.specs.declared.places.Place.{Place}
 use Rattle.pfc_tree.specs.Symbols.{Text}
 use Rattle.pfc_tree.specs.declared.tree.Constant.{Constant}
 use Rattle.pfc_tree.specs.trees.Types.{GroupTree}
-use Rattle.pfc_tree.specs.trees.Stmts.{StmtTree, StmtTrees, BodyTree, ArmTree, ArmTrees, AcceptTree, AltTree, AltTrees, CommTree, empty, null, block, if_then, if_then_else, case_of, while_do, repeat_until, repeat_forever, for_do, cobegin, accepting, requeue, select, select_else, assign, send, receive, call, no_stmts, more_stmts, body, arm, no_arms, more_arms, accept, accept_do, alt, no_alts, more_alts, comm_accept, comm_send, comm_receive, timeout, terminate}
+use Rattle.pfc_tree.specs.trees.Stmts.{StmtTree, StmtTrees, BodyTree, ArmTree, ArmTrees, AcceptTree, AltTree, AltTrees, CommTree, empty, null, block, if_then}
+use Rattle.pfc_tree.specs.trees.Stmts.{if_then_else, case_of, while_do, repeat_until, repeat_forever, for_do, cobegin, accepting, requeue, select, select_else}
+use Rattle.pfc_tree.specs.trees.Stmts.{assign, send, receive, call, no_stmts, more_stmts, body, arm, no_arms, more_arms, accept, accept_do, alt, no_alts}
+use Rattle.pfc_tree.specs.trees.Stmts.{more_alts, comm_accept, comm_send, comm_receive, timeout, terminate}
 use Rattle.pfc_types.specs.Faults.{unless}
 use Rattle.pfc_types.specs.Scopes.{Level, here, look}
 use Rattle.pfc_types.specs.Blocks.{State, note, open_scope}
 use Rattle.pfc_types.specs.rules.Constants.{Ordinal, same_ordinal, constant_value, constant_place}
-use Rattle.pfc_types.specs.rules.Declarations.{heading, accept_heading, accept_rule, accepted, Labels, label_noted, labels_noted, stmt_state, stmts_state, body_state, arms_state, arm_state, accept_state, alts_state, alt_state, comm_state, init_state}
+use Rattle.pfc_types.specs.rules.Declarations.{heading, accept_heading, accept_rule, accepted, Labels, label_noted, labels_noted, stmt_state, stmts_state}
+use Rattle.pfc_types.specs.rules.Declarations.{body_state, arms_state, arm_state, accept_state, alts_state, alt_state, comm_state, init_state}
 use Rattle.pfc_types.specs.rules.Statements.{scopes_in, stmts_scopes, body_scopes, arms_scopes, arm_scopes, accept_scopes, alts_scopes, alt_scopes, comm_scopes}
 use Rattle.pfc_types.specs.rules.Bodies.{init_scopes}
-use Rattle.pfc_types.proofs.Walking.{Kept, Opened, kept_same, kept_trans, opened_same, opened_trans, opened_kept, kept_then_opened, opened_inner, note_kept, open_opened}
+use Rattle.pfc_types.proofs.Walking.{Kept, Opened, kept_same, kept_trans, opened_same, opened_trans, opened_kept, kept_then_opened, opened_inner, note_kept}
+use Rattle.pfc_types.proofs.Walking.{open_opened}
 use Rattle.pfc_types.proofs.WalkDeclarations.{groups_walked, accept_groups_walked}
 
 -- ## Labels and headings

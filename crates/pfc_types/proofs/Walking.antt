@@ -1,5 +1,6 @@
 -- Steps of the declarations: scopes are opened behind the others, and names are declared at the end of one scope.
-use Rattle.std.proofs.Common.{◌≡◌, ◌≢◌, ℕ, ◌+◌, ◌<◌, Bool, true, false, cond, is_some, List, [], ◌∷◌, ◌++◌, length, refl, sym, ap, ◌∙◌, subst, arith, length-append, length-set, get_or-set_same, get_or-set_other, zero, suc, ◌-◌, ◌≤◌, ◌==◌, nat_lt, get_or, Some}
+use Rattle.std.proofs.Common.{◌≡◌, ◌≢◌, ℕ, ◌+◌, ◌<◌, Bool, true, false, cond, is_some, List, [], ◌∷◌, ◌++◌, length, refl, sym, ap, ◌∙◌, subst, arith}
+use Rattle.std.proofs.Common.{length-append, length-set, get_or-set_same, get_or-set_other, zero, suc, ◌-◌, ◌≤◌, ◌==◌, nat_lt, get_or, Some}
 use Rattle.std.proofs.Math.ListN.{get_or-append}
 use Rattle.std.proofs.lemmas.Bool.Decides.{nat_tests}
 use Rattle.std.proofs.Math.Seq.{get_or-append_seam, get_or-append_right}

@@ -1,5 +1,6 @@
 -- A sub's name is declared as the sub only where its heading is whole: each parameter has a type, and so has a function's result.
-use Rattle.std.proofs.Common.{◌≡◌, ℕ, Bool, true, false, not, ◌&&◌, if◌then◌else◌, is_some, List, [], ◌∷◌, ◌++◌, length, Option, Some, refl, sym, ap, ap₂, ◌∙◌, arith, length-append}
+use Rattle.std.proofs.Common.{◌≡◌, ℕ, Bool, true, false, not, ◌&&◌, if◌then◌else◌, is_some, List, [], ◌∷◌, ◌++◌, length, Option, Some, refl, sym, ap, ap₂, ◌∙◌}
+use Rattle.std.proofs.Common.{arith, length-append}
 use Rattle.std.proofs.Math.Seq.{get_or-append_seam}
 use Rattle.pfc_tree.specs.Symbols.{Text}
 use Rattle.pfc_base.specs.declared.places.Place.{Place}
@@ -12,7 +13,8 @@ use Rattle.pfc_types.specs.declared.scope.Meaning.{Meaning}
 use Rattle.pfc_types.specs.declared.heads.Formal.{Formal}
 use Rattle.pfc_types.specs.declared.heads.SubHead.{SubHead}
 use Rattle.pfc_types.specs.rules.Kinds.{variable_meaning}
-use Rattle.pfc_types.specs.rules.Declarations.{Heading, group_type, broken_group, formal_heading, formals_heading, group_heading, groups_heading, heading, whole_sort, sub_meaning}
+use Rattle.pfc_types.specs.rules.Declarations.{Heading, group_type, broken_group, formal_heading, formals_heading, group_heading, groups_heading, heading}
+use Rattle.pfc_types.specs.rules.Declarations.{whole_sort, sub_meaning}
 use Rattle.pfc_types.specs.rules.FaultyNames.{all_typed, is_whole_head}
 use Rattle.pfc_types.proofs.Clean.{and-left, and-right}
 use Rattle.pfc_types.proofs.Sound.{IsSound}

@@ -13,8 +13,10 @@ use Rattle.pfc_types.specs.Blocks.{State}
 use Rattle.pfc_types.specs.Scopes.{Names, Level, scope_at, meaning_in}
 use Rattle.pfc_types.specs.rules.Constants.{Made, made, constant_value, broken_constant}
 use Rattle.pfc_types.specs.rules.Declarations.{group_type, broken_group}
-use Rattle.pfc_types.specs.rules.Expressions.{Env, expr_type, simple_type, term_type, factor_type, desig_type, broken_expr, broken_simple, broken_term, broken_factor, broken_desig}
-use Rattle.pfc_types.specs.rules.FaultyNames.{constant_uses_faulty, type_uses_faulty, group_uses_faulty, expr_uses_faulty, simple_uses_faulty, term_uses_faulty, factor_uses_faulty, desig_uses_faulty}
+use Rattle.pfc_types.specs.rules.Expressions.{Env, expr_type, simple_type, term_type, factor_type, desig_type, broken_expr, broken_simple, broken_term}
+use Rattle.pfc_types.specs.rules.Expressions.{broken_factor, broken_desig}
+use Rattle.pfc_types.specs.rules.FaultyNames.{constant_uses_faulty, type_uses_faulty, group_uses_faulty, expr_uses_faulty, simple_uses_faulty, term_uses_faulty}
+use Rattle.pfc_types.specs.rules.FaultyNames.{factor_uses_faulty, desig_uses_faulty}
 
 -- a part with this type or value, with these broken rules, that uses a faulty name or not
 abbrev pub IsFaultyExactly : {A : Type 0} → Option A → Faults → Bool → Type 0

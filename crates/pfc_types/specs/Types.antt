@@ -1,5 +1,6 @@
 -- Types, the table of types, and what a variable of a type takes and holds.
-use Rattle.std.specs.Prelude.{ℕ, ◌+◌, ◌*◌, ℤ, pos, ◌-ℤ◌, ◌+ℤ◌, nat_abs, min, Bool, true, false, ◌&&◌, ◌||◌, if◌then◌else◌, nat_lt, nat_le, int_le, ◌==◌, List, [], ◌∷◌, ◌++◌, length, get_or, fold, Option, Some, None}
+use Rattle.std.specs.Prelude.{ℕ, ◌+◌, ◌*◌, ℤ, pos, ◌-ℤ◌, ◌+ℤ◌, nat_abs, min, Bool, true, false, ◌&&◌, ◌||◌, if◌then◌else◌, nat_lt, nat_le, int_le, ◌==◌, List}
+use Rattle.std.specs.Prelude.{[], ◌∷◌, ◌++◌, length, get_or, fold, Option, Some, None}
 use Rattle.pfc_types.specs.Fields.{FieldList, type_named}
 use Rattle.pfc_tree.specs.Symbols.{Text}
 use Rattle.pfc_types.specs.declared.types.TypeId.{TypeId}

@@ -1,5 +1,6 @@
 -- How many alternatives there are.
-use Rattle.std.proofs.Common.{◌≡◌, ◌+◌, ◌+ℤ◌, int_le, pos, ℕ, ℤ, zero, suc, Bool, true, false, [], length, cond, Option, Some, None, refl, ap, ◌∙◌, sym, arith, length-append}
+use Rattle.std.proofs.Common.{◌≡◌, ◌+◌, ◌+ℤ◌, int_le, pos, ℕ, ℤ, zero, suc, Bool, true, false, [], length, cond, Option, Some, None, refl, ap, ◌∙◌, sym, arith}
+use Rattle.std.proofs.Common.{length-append}
 use Rattle.std.proofs.lemmas.List.{length-map}
 use Rattle.pfc_tree.specs.declared.tree.Spread.{Spread}
 use Rattle.pfc_tree.specs.trees.Exprs.{ExprTree}

@@ -3,7 +3,10 @@ use Rattle.std.proofs.Common.{◌≡◌, ◌+◌, ℕ, length, if◌then◌else�
 use Rattle.pfc_code.specs.declared.instructions.Instr.TheVariants.{NOT, JMP, JF, TURN, FORB, FORW, FORT, CERR, COEND, EACC}
 use Rattle.pfc_tree.specs.declared.tree.Spread.{Spread}
 use Rattle.pfc_tree.specs.trees.Exprs.{ExprTree}
-use Rattle.pfc_tree.specs.trees.Stmts.{StmtTree, StmtTrees, ArmTrees, AcceptTree, AltTree, AltTrees, empty, null, block, if_then, if_then_else, case_of, while_do, repeat_until, repeat_forever, for_do, cobegin, accepting, requeue, select, select_else, assign, send, receive, call, no_stmts, more_stmts, body, arm, no_arms, more_arms, accept, accept_do, alt, no_alts, more_alts, comm_accept, terminate}
+use Rattle.pfc_tree.specs.trees.Stmts.{StmtTree, StmtTrees, ArmTrees, AcceptTree, AltTree, AltTrees, empty, null, block, if_then, if_then_else, case_of}
+use Rattle.pfc_tree.specs.trees.Stmts.{while_do, repeat_until, repeat_forever, for_do, cobegin, accepting, requeue, select, select_else, assign, send, receive}
+use Rattle.pfc_tree.specs.trees.Stmts.{call, no_stmts, more_stmts, body, arm, no_arms, more_arms, accept, accept_do, alt, no_alts, more_alts, comm_accept}
+use Rattle.pfc_tree.specs.trees.Stmts.{terminate}
 use Rattle.pfc_types.specs.Scopes.{meaning_of}
 use Rattle.pfc_types.specs.rules.Expressions.{find}
 use Rattle.pfc_types.specs.rules.Statements.{scopes_in, arm_scopes, comm_scopes, alt_scopes, alts_scopes}
@@ -15,14 +18,16 @@ use Rattle.pfc_translation.specs.Addresses.{base_code}
 use Rattle.pfc_translation.specs.Expressions.{expr_code}
 use Rattle.pfc_translation.specs.Calls.{requeue_code}
 use Rattle.pfc_translation.specs.Selects.{send_code, receive_code, accept_code, alternatives_code}
-use Rattle.pfc_translation.specs.Statements.{assign_code, chosen_code, spread_replicas, sel_code, stmt_code, stmts_code, arms_code, tests_code, accepted_code, branch_code, branches_code, distances}
+use Rattle.pfc_translation.specs.Statements.{assign_code, chosen_code, spread_replicas, sel_code, stmt_code, stmts_code, arms_code, tests_code, accepted_code}
+use Rattle.pfc_translation.specs.Statements.{branch_code, branches_code, distances}
 use Rattle.pfc_expression_code.specs.Putting.{Made, IsMade}
 use Rattle.pfc_unseen_code.specs.Counts.{alternative_count, with_select}
 use Rattle.pfc_unseen_code.specs.Statements.{with_stmt, with_stmts, with_case_arms, with_accepted, with_branch, with_branches}
 use Rattle.pfc_unseen_code.proofs.Alternatives.{alternatives_length}
 use Rattle.pfc_unseen_code.proofs.Keeping.{IsQuiet, quiet_both, kept_quiet, kept_both, kept_behind, kept_before, kept_counted}
 use Rattle.pfc_unseen_code.proofs.KeptCalls.{call_kept}
-use Rattle.pfc_unseen_code.proofs.Quiet.{quiet_nothing, quiet_one, quiet_over, quiet_back, quiet_base, quiet_expr, quiet_assign, quiet_send, quiet_receive, quiet_requeue, quiet_tests, quiet_alternatives, quiet_sel, quiet_spread, quiet_three}
+use Rattle.pfc_unseen_code.proofs.Quiet.{quiet_nothing, quiet_one, quiet_over, quiet_back, quiet_base, quiet_expr, quiet_assign, quiet_send, quiet_receive}
+use Rattle.pfc_unseen_code.proofs.Quiet.{quiet_requeue, quiet_tests, quiet_alternatives, quiet_sel, quiet_spread, quiet_three}
 
 -- between what is quiet
 around : (a c b : Code) (x y : Made) → IsQuiet a → IsMade (unseen c) x y → IsQuiet b → IsMade (unseen (a ⨾ c ⨾ b)) x y

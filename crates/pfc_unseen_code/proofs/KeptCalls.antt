@@ -15,11 +15,13 @@ use Rattle.pfc_semantics.specs.Statements.{as_string, expr_of, behind_first}
 use Rattle.pfc_translation.specs.Sites.{Site}
 use Rattle.pfc_translation.specs.Codes.{nothing, one, string, unseen}
 use Rattle.pfc_translation.specs.Expressions.{expr_code, first_value}
-use Rattle.pfc_translation.specs.Calls.{plain_item, wide_item, item_code, writes_code, reads_code, given_code, rank_code, first_object, procedure_code, sub_code, module_code, called_variable, called_process, called_code, found_code, call_code}
+use Rattle.pfc_translation.specs.Calls.{plain_item, wide_item, item_code, writes_code, reads_code, given_code, rank_code, first_object, procedure_code}
+use Rattle.pfc_translation.specs.Calls.{sub_code, module_code, called_variable, called_process, called_code, found_code, call_code}
 use Rattle.pfc_expression_code.specs.Putting.{Made, IsMade}
 use Rattle.pfc_unseen_code.specs.Calls.{with_string, with_item, with_items, with_procedure, with_called, with_call}
 use Rattle.pfc_unseen_code.proofs.Keeping.{IsQuiet, kept_quiet, kept_both, kept_behind, quiet_both}
-use Rattle.pfc_unseen_code.proofs.Quiet.{quiet_nothing, quiet_one, quiet_expr, quiet_reads, quiet_given, quiet_rank, quiet_first, quiet_first_object, quiet_three, quiet_sub, quiet_module, quiet_variable, quiet_called_process}
+use Rattle.pfc_unseen_code.proofs.Quiet.{quiet_nothing, quiet_one, quiet_expr, quiet_reads, quiet_given, quiet_rank, quiet_first, quiet_first_object}
+use Rattle.pfc_unseen_code.proofs.Quiet.{quiet_three, quiet_sub, quiet_module, quiet_variable, quiet_called_process}
 
 -- ## Items
 

@@ -2,7 +2,8 @@
 use Rattle.std.proofs.Common.{◌≡◌, ◌∙◌, Option, Some, None, refl, ap}
 use Rattle.pfc_tree.specs.declared.tree.Actual.{Actual, out-Actual, fold_out-Actual}
 use Rattle.pfc_tree.specs.trees.Exprs.{ExprTree, SimpleTree, TermTree, FactorTree, DesigTree, SelectorTree, ActualTree}
-use Rattle.pfc_tree.specs.views.Exprs.{actual_of, actual_view, expr_view, factor_step, selector_step, actual_step, desig_step, expr_step, simple_step, term_step}
+use Rattle.pfc_tree.specs.views.Exprs.{actual_of, actual_view, expr_view, factor_step, selector_step, actual_step, desig_step, expr_step, simple_step}
+use Rattle.pfc_tree.specs.views.Exprs.{term_step}
 use Rattle.pfc_semantics.specs.Statements.{item_of}
 
 item_of-value : (e : ExprTree) (width : Option ExprTree) → item_of (actual_of e width) ≡ e

@@ -27,8 +27,10 @@ use Rattle.pfc_translation.specs.Sites.{Site, blocks_of, context_of}
 use Rattle.pfc_translation.specs.Codes.{Code, nothing, ◌⨾◌, one, over, back}
 use Rattle.pfc_translation.specs.Addresses.{base_code}
 use Rattle.pfc_translation.specs.Expressions.{expr_code, desig_code, object_code, address_code, args_code, first_value, first_address}
-use Rattle.pfc_translation.specs.Calls.{input_code, reads_code, given_code, rank_code, first_object, sub_code, exported_code, module_code, requeue_code, activation_code, entry_code, process_code, field_code, called_variable, called_process}
-use Rattle.pfc_translation.specs.Selects.{message_code, receiver_code, send_code, receive_code, replica_code, comm_code, guarded_code, alternative_code, alternatives_code, first_of}
+use Rattle.pfc_translation.specs.Calls.{input_code, reads_code, given_code, rank_code, first_object, sub_code, exported_code, module_code, requeue_code}
+use Rattle.pfc_translation.specs.Calls.{activation_code, entry_code, process_code, field_code, called_variable, called_process}
+use Rattle.pfc_translation.specs.Selects.{message_code, receiver_code, send_code, receive_code, replica_code, comm_code, guarded_code, alternative_code}
+use Rattle.pfc_translation.specs.Selects.{alternatives_code, first_of}
 use Rattle.pfc_translation.specs.Statements.{assign_code, labels_code, label_count, tests_code, chosen_code, spread_replicas, sel_code, stmt_code}
 use Rattle.pfc_code_laws.specs.Plain.{IsPlain}
 use Rattle.pfc_code_laws.proofs.Expressions.{plain_expr, plain_selectors, plain_args, plain_first, plain_first_address}

@@ -1,5 +1,6 @@
 -- An integer that prints is read as itself.
-use Rattle.std.proofs.Common.{◌≡◌, ℕ, zero, suc, ◌-◌, ◌<◌, ◌^◌, Bool, true, false, cond, ℤ, pos, negsuc, neg_ℤ, List, [], ◌∷◌, ◌++◌, length, replicate, Option, Some, None, Ok, Err, refl, sym, ap, ◌∙◌, arith}
+use Rattle.std.proofs.Common.{◌≡◌, ℕ, zero, suc, ◌-◌, ◌<◌, ◌^◌, Bool, true, false, cond, ℤ, pos, negsuc, neg_ℤ, List, [], ◌∷◌, ◌++◌, length, replicate, Option}
+use Rattle.std.proofs.Common.{Some, None, Ok, Err, refl, sym, ap, ◌∙◌, arith}
 use Rattle.std.specs.Prelude.{◌==◌, if◌then◌else◌, unsigned_abs}
 use Rattle.std.specs.Fmt.{decimal, signed_decimal}
 use Rattle.std.specs.Int.{IsInRange}
@@ -10,7 +11,8 @@ use Rattle.std.proofs.lemmas.Fmt.{digits_decimal, digits_value-decimal, decimal_
 use Rattle.std.proofs.lemmas.Str.Parse.{IsNumeralModel, numerals_by_fold}
 use Rattle.pfc_base.specs.declared.faults.RunFault.TheVariants.{Overflow, Width}
 use Rattle.pfc_values.specs.declared.simple.Simple.TheVariants.{Integer}
-use Rattle.pfc_values.specs.Inputs.{is_blank, behind_blanks, is_digit, digits, behind_digits, number_behind, read_to, unsigned_item, signed_item, integer_item, item}
+use Rattle.pfc_values.specs.Inputs.{is_blank, behind_blanks, is_digit, digits, behind_digits, number_behind, read_to, unsigned_item, signed_item, integer_item}
+use Rattle.pfc_values.specs.Inputs.{item}
 use Rattle.pfc_values.specs.Numbers.{is_of, fitting}
 use Rattle.pfc_values.specs.Pieces.{is_width, blanks_for, piece, shown}
 

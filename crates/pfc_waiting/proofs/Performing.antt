@@ -1,5 +1,6 @@
 -- What each action comes to.
-use Rattle.std.proofs.Common.{◌≡◌, ℕ, ◌+◌, ◌*◌, Bool, true, false, not, ◌||◌, is_some, ℤ, pos, negsuc, zero, suc, List, [], ◌∷◌, map, reverse, get_or, Option, None, Some, Result, Ok, Err, arith, refl, sym, ap, ◌∙◌, subst}
+use Rattle.std.proofs.Common.{◌≡◌, ℕ, ◌+◌, ◌*◌, Bool, true, false, not, ◌||◌, is_some, ℤ, pos, negsuc, zero, suc, List, [], ◌∷◌, map, reverse, get_or, Option}
+use Rattle.std.proofs.Common.{None, Some, Result, Ok, Err, arith, refl, sym, ap, ◌∙◌, subst}
 use Rattle.std.specs.Prelude.{◌==◌, nat_le, if◌then◌else◌}
 use Rattle.std.specs.List.{list_any}
 use Rattle.std.proofs.lemmas.Bool.{false≢true}

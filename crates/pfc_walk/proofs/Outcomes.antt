@@ -1,5 +1,6 @@
 -- What replies say of the outcomes of a text.
-use Rattle.std.proofs.Common.{◌≡◌, ◌≢◌, ◌⊎◌, inl, inr, ℕ, List, [], ◌++◌, Option, Some, None, Result, Ok, Err, IfOk, IfErr, refl, sym, ap, ap₂, ◌∙◌, subst, arith}
+use Rattle.std.proofs.Common.{◌≡◌, ◌≢◌, ◌⊎◌, inl, inr, ℕ, List, [], ◌++◌, Option, Some, None, Result, Ok, Err, IfOk, IfErr, refl, sym, ap, ap₂, ◌∙◌, subst}
+use Rattle.std.proofs.Common.{arith}
 use Rattle.std.specs.Io.KnownBytes.{Appends}
 use Rattle.std.proofs.KnownBytes.{Appends-nil, Appends-trans}
 use Rattle.std.specs.Prelude.{IsErrOf}
@@ -7,7 +8,8 @@ use Rattle.std.specs.Result.{IsErrAnd}
 use Rattle.pfc_io.specs.Writes.{AppendsFront}
 use Rattle.pfc_io.proofs.Written.{AppendsFront-after, AppendsFront-none}
 use Rattle.pfc_io.specs.Files.{File}
-use Rattle.pfc_outcome.specs.Outcomes.{Outcome, IsOutcomeOf, IsOutcomeOfFiles, IsOutcomeOfText, behind, names_by, request_by, text_by, without_run, listing_written}
+use Rattle.pfc_outcome.specs.Outcomes.{Outcome, IsOutcomeOf, IsOutcomeOfFiles, IsOutcomeOfText, behind, names_by, request_by, text_by, without_run}
+use Rattle.pfc_outcome.specs.Outcomes.{listing_written}
 use Rattle.pfc_outcome.specs.Loaded.{AreLoaded}
 use Rattle.pfc_outcome.specs.Loading.{Lack, Lacks, first_lack, long}
 use Rattle.pfc_outcome.specs.Options.{Asked}

@@ -17,7 +17,8 @@ use Rattle.pfc_types.specs.Blocks.{Blocks}
 use Rattle.pfc_types.specs.rules.Whole.{first_fault}
 use Rattle.pfc_translation.specs.Images.{image_of}
 use Rattle.pfc_outcome.specs.Meanings.{Meaning}
-use Rattle.pfc_outcome.specs.Outcomes.{Outcome, IsLevel, IsOutcomeOfText, IsOutcomeOfTokens, IsOutcomeOfTree, IsUnlisted, behind, code_written, listing_written, large, most_instructions, no_fault, refused, run, run_under, static_fault, syntax_fault, syntax_refusal, too_large}
+use Rattle.pfc_outcome.specs.Outcomes.{Outcome, IsLevel, IsOutcomeOfText, IsOutcomeOfTokens, IsOutcomeOfTree, IsUnlisted, behind, code_written, listing_written}
+use Rattle.pfc_outcome.specs.Outcomes.{large, most_instructions, no_fault, refused, run, run_under, static_fault, syntax_fault, syntax_refusal, too_large}
 use Rattle.pfc_outcome.specs.Requests.{Request, policy_of}
 use Rattle.pfc_walk.specs.Meanings.{whole_meaning}
 use Rattle.pfc_walk.specs.Reading.{IsSound, AreRead, IsRead, RefusedFor, IsUnread, AreUnread, IsWithout, program_outcome}

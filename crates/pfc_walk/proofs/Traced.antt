@@ -15,7 +15,8 @@ use Rattle.pfc_outcome.specs.declared.walk_options.Shown.TheVariants.{Output, Tr
 use Rattle.pfc_walk.specs.Answers.{Gives}
 use Rattle.pfc_walk.specs.Meanings.{whole_meaning}
 use Rattle.pfc_walk.specs.Reading.{program_outcome}
-use Rattle.pfc_walk.specs.Traces.{IsToldAs, IsToldOfText, program_shown, raced, raced_where, races_by, races_shown, run_shown, run_told, told_in, traced, traced_where, under_shown}
+use Rattle.pfc_walk.specs.Traces.{IsToldAs, IsToldOfText, program_shown, raced, raced_where, races_by, races_shown, run_shown, run_told, told_in, traced}
+use Rattle.pfc_walk.specs.Traces.{traced_where, under_shown}
 
 -- an outcome without a run is told as it is
 pub told_without :

@@ -8,7 +8,8 @@ use Rattle.pfc_sched.specs.declared.script_text.ScriptFault.TheVariants.{NotANum
 use Rattle.pfc_tree.specs.trees.Parts.{ProgramTree}
 use Rattle.pfc_grammar.specs.Outcomes.{IsTreeOf}
 use Rattle.pfc_types.specs.rules.Whole.{first_fault}
-use Rattle.pfc_outcome.specs.Outcomes.{Outcome, IsLevel, IsOutcomeOfTokens, IsOutcomeOfTree, IsUnlisted, behind, instruction_count, most_instructions, refused, run_under}
+use Rattle.pfc_outcome.specs.Outcomes.{Outcome, IsLevel, IsOutcomeOfTokens, IsOutcomeOfTree, IsUnlisted, behind, instruction_count, most_instructions, refused}
+use Rattle.pfc_outcome.specs.Outcomes.{run_under}
 use Rattle.pfc_outcome.specs.Requests.{Request, policy_of}
 use Rattle.pfc_walk.specs.Meanings.{whole_meaning}
 use Rattle.pfc_walk.specs.declared.reading.Unread.{Unread}

@@ -1,5 +1,6 @@
 -- Turn after turn: what is held, and what the sink was handed.
-use Rattle.std.proofs.Common.{◌≡◌, ℕ, Bool, not, List, [], ◌∷◌, ◌++◌, take, drop, Option, Some, None, refl, sym, ap, ◌∙◌, subst, append_assoc, append-nil, take-append-drop}
+use Rattle.std.proofs.Common.{◌≡◌, ℕ, Bool, not, List, [], ◌∷◌, ◌++◌, take, drop, Option, Some, None, refl, sym, ap, ◌∙◌, subst, append_assoc, append-nil}
+use Rattle.std.proofs.Common.{take-append-drop}
 use Rattle.std.specs.Io.KnownBytes.{Appends}
 use Rattle.std.proofs.KnownBytes.{Appends-nil, Appends-trans}
 use Rattle.pfc_io.specs.Writes.{AppendsFront}
@@ -16,7 +17,8 @@ use Rattle.pfc_semantics.specs.Runs.{Run, run_from}
 use Rattle.pfc_activities.specs.declared.source.Source.{Source}
 use Rattle.pfc_activities.specs.declared.state.State.{State}
 use Rattle.pfc_activities.specs.Relation.{Stands, Reports}
-use Rattle.pfc_walker.specs.Courses.{GoesOn, IsPassed, last, on_the_way, Completes, IsBrokenOff, IsCourse, Continues, Gathers, IsSent, IsHandedOver, whole, dropped, failed, EndsLine, KnowsLine}
+use Rattle.pfc_walker.specs.Courses.{GoesOn, IsPassed, last, on_the_way, Completes, IsBrokenOff, IsCourse, Continues, Gathers, IsSent, IsHandedOver, whole}
+use Rattle.pfc_walker.specs.Courses.{dropped, failed, EndsLine, KnowsLine}
 use Rattle.pfc_walker.specs.Lines.{open_behind}
 use Rattle.pfc_walker.specs.Telling.{AreTold}
 use Rattle.pfc_walker.specs.declared.telling.Told.{Told}

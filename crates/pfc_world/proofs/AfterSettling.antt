@@ -1,5 +1,6 @@
 -- What settling leaves.
-use Rattle.std.proofs.Common.{◌≡◌, ℕ, ◌≤◌, Bool, true, false, ◌||◌, ◌⊎◌, inl, inr, min, nat_le, Option, None, Some, List, [], ◌∷◌, map, arith, refl, ap, ◌∙◌, cond}
+use Rattle.std.proofs.Common.{◌≡◌, ℕ, ◌≤◌, Bool, true, false, ◌||◌, ◌⊎◌, inl, inr, min, nat_le, Option, None, Some, List, [], ◌∷◌, map, arith, refl, ap, ◌∙◌}
+use Rattle.std.proofs.Common.{cond}
 use Rattle.std.proofs.lemmas.Bool.{cases_lt}
 use Rattle.std.proofs.lemmas.Bool.Decides.{nat_tests}
 use Rattle.pfc_state.specs.Stands.{Stand, Is_ready, is_ready, is_due, due_of, woken}

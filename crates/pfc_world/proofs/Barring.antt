@@ -1,5 +1,6 @@
 -- The next who is barred at a resource, among those that are kept by tickets.
-use Rattle.std.proofs.Common.{◌≡◌, ℕ, ◌<◌, ◌≤◌, ℤ, pos, Bool, true, false, ◌==◌, ◌&&◌, inl, inr, nat_lt, Option, None, Some, List, map, arith, refl, sym, ap, ◌∙◌, cond, subst}
+use Rattle.std.proofs.Common.{◌≡◌, ℕ, ◌<◌, ◌≤◌, ℤ, pos, Bool, true, false, ◌==◌, ◌&&◌, inl, inr, nat_lt, Option, None, Some, List, map, arith, refl, sym, ap}
+use Rattle.std.proofs.Common.{◌∙◌, cond, subst}
 use Rattle.std.specs.Prelude.{MatchOption, int_lt}
 use Rattle.std.proofs.lemmas.Bool.{cases_lt, eq-eqb, eqb-true}
 use Rattle.std.proofs.lemmas.Bool.Decides.{nat_tests}

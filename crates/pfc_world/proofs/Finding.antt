@@ -5,7 +5,8 @@ use Rattle.pfc_state.specs.declared.waits.Why.{Why}
 use Rattle.pfc_state.specs.declared.waits.Why.TheVariants.{Select, Barred}
 use Rattle.pfc_state.specs.declared.waits.Arm.{Arm}
 use Rattle.pfc_state.specs.Waits.{same_why, has_arm}
-use Rattle.pfc_state.specs.Stands.{is_above, IsWaiting, ticket_of, Stand, Is_idle, Is_created, Is_ready, Waits, Is_done, ticket_at, ticket_offering, ticket_barred}
+use Rattle.pfc_state.specs.Stands.{is_above, IsWaiting, ticket_of, Stand, Is_idle, Is_created, Is_ready, Waits, Is_done, ticket_at, ticket_offering}
+use Rattle.pfc_state.specs.Stands.{ticket_barred}
 use Rattle.pfc_world.specs.Tables.{at}
 use Rattle.pfc_world.specs.Tickets.{AreApart}
 use Rattle.pfc_world.specs.Firsts.{IsFirst, IsLast, IsNobody, GivesTickets, first, last}

@@ -1,13 +1,15 @@
 -- A walk along a list of those who wait, in the order of tickets: forward to the first that is sought, and backward
 -- to the last.
-use Rattle.std.proofs.Common.{◌≡◌, ℕ, suc, ◌+◌, ◌-◌, ◌<◌, ◌≤◌, Bool, true, false, ◌==◌, ◌&&◌, inl, inr, is_some, unwrap_or, Option, None, Some, List, arith, refl, sym, ap, ◌∙◌, cond}
+use Rattle.std.proofs.Common.{◌≡◌, ℕ, suc, ◌+◌, ◌-◌, ◌<◌, ◌≤◌, Bool, true, false, ◌==◌, ◌&&◌, inl, inr, is_some, unwrap_or, Option, None, Some, List, arith}
+use Rattle.std.proofs.Common.{refl, sym, ap, ◌∙◌, cond}
 use Rattle.std.specs.Prelude.{MatchOption}
 use Rattle.std.proofs.lemmas.Bool.{cases_eq, eqb-true}
 use Rattle.std.proofs.Math.ListN.{get_or-map}
 use Rattle.pfc_links.specs.Members.{Lists, member_at, in_list, IsEmpty, IsNext, IsNobodyAbove, IsPrevious, IsNobodyBelow}
 use Rattle.pfc_links.specs.Members.{IsFirst as IsFirstIn, IsLast as IsLastIn}
 use Rattle.pfc_state.specs.declared.waits.Why.{Why}
-use Rattle.pfc_state.specs.declared.waits.Why.TheVariants.{Coend, Semaphore, Send, Receive, Call, Meeting, Accept, Select, Enter, Condition, Resumer, Entrant, Barred, Sleep}
+use Rattle.pfc_state.specs.declared.waits.Why.TheVariants.{Coend, Semaphore, Send, Receive, Call, Meeting, Accept, Select, Enter, Condition, Resumer, Entrant}
+use Rattle.pfc_state.specs.declared.waits.Why.TheVariants.{Barred, Sleep}
 use Rattle.pfc_state.specs.Stands.{Stand, Is_idle, Is_created, Is_ready, Waits, Is_done, ticket_of, ticket_at}
 use Rattle.pfc_state.specs.Waits.{same_why}
 use Rattle.pfc_world.specs.Firsts.{IsFirst, IsLast, IsNobody, GivesTickets}

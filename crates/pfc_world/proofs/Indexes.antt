@@ -1,6 +1,8 @@
 -- What is kept beside the rows, as one process stands at something else.
-use Rattle.std.proofs.Common.{◌≡◌, ◌≢◌, ℕ, zero, suc, ◌+◌, ◌-◌, ◌<◌, ◌≤◌, Bool, true, false, Option, None, Some, List, [], ◌∷◌, length, get_or, set, map, replicate, inl, inr, arith, refl, sym, ap, ◌∙◌, subst, is_some}
-use Rattle.std.proofs.lemmas.List.{length-set, length-map, map-set, get_or-set_same, get_or-set_other, get_or-replicate, get_or_past, length-replicate, set-get_or}
+use Rattle.std.proofs.Common.{◌≡◌, ◌≢◌, ℕ, zero, suc, ◌+◌, ◌-◌, ◌<◌, ◌≤◌, Bool, true, false, Option, None, Some, List, [], ◌∷◌, length, get_or, set, map}
+use Rattle.std.proofs.Common.{replicate, inl, inr, arith, refl, sym, ap, ◌∙◌, subst, is_some}
+use Rattle.std.proofs.lemmas.List.{length-set, length-map, map-set, get_or-set_same, get_or-set_other, get_or-replicate, get_or_past, length-replicate}
+use Rattle.std.proofs.lemmas.List.{set-get_or}
 use Rattle.std.proofs.lemmas.Bool.{cases_lt}
 use Rattle.std.proofs.Math.ListN.{get_or-map}
 use Rattle.pfc_links.specs.declared.links.Member.{Member}
@@ -11,7 +13,8 @@ use Rattle.pfc_ranks.specs.Delays.{delay_at}
 use Rattle.pfc_state.specs.declared.waits.Why.{Why}
 use Rattle.pfc_state.specs.declared.waits.Why.TheVariants.{Barred, Condition, Select}
 use Rattle.pfc_state.specs.declared.waits.Arm.{Arm}
-use Rattle.pfc_state.specs.Stands.{Stand, Is_idle, Is_created, Is_ready, Waits, Is_done, IsWaiting, is_ready, is_created, is_unfinished, may_end, due_of, ticket_of, started}
+use Rattle.pfc_state.specs.Stands.{Stand, Is_idle, Is_created, Is_ready, Waits, Is_done, IsWaiting, is_ready, is_created, is_unfinished, may_end, due_of}
+use Rattle.pfc_state.specs.Stands.{ticket_of, started}
 use Rattle.pfc_world.specs.declared.index.Index.{Index}
 use Rattle.pfc_world.specs.Indexes.{IsReadySet, IsIndexed, Admits, BeginsWait, IsListed, EndsWait, number, count_of}
 use Rattle.pfc_world.specs.Delays.{barred_of, delay_of}

@@ -1,5 +1,6 @@
 -- Who waits after a transition that begins no wait has the wait that it had before.
-use Rattle.std.proofs.Common.{◌≡◌, ℕ, ◌+◌, Bool, true, false, ◌⊎◌, inl, inr, Option, None, Some, List, [], ◌∷◌, length, set, map, refl, sym, ap, ◌∙◌, subst, cond}
+use Rattle.std.proofs.Common.{◌≡◌, ℕ, ◌+◌, Bool, true, false, ◌⊎◌, inl, inr, Option, None, Some, List, [], ◌∷◌, length, set, map, refl, sym, ap, ◌∙◌, subst}
+use Rattle.std.proofs.Common.{cond}
 use Rattle.std.proofs.lemmas.List.{get_or-set_same, get_or-set_other, set_past}
 use Rattle.std.proofs.lemmas.Bool.{cases_eq, cases_lt}
 use Rattle.pfc_state.specs.Stands.{Stand, Is_idle, Is_ready, Is_done, IsWaiting, ticket_of, is_due, due_of, woken}

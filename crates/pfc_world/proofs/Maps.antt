@@ -1,5 +1,6 @@
 -- Every standing changes by one rule, and the table with it.
-use Rattle.std.proofs.Common.{◌≡◌, ℕ, ◌+◌, ◌<◌, ◌≤◌, Bool, true, false, Option, Some, List, [], ◌∷◌, ◌++◌, length, get_or, map, take, drop, refl, sym, ap, ◌∙◌, subst, cond}
+use Rattle.std.proofs.Common.{◌≡◌, ℕ, ◌+◌, ◌<◌, ◌≤◌, Bool, true, false, Option, Some, List, [], ◌∷◌, ◌++◌, length, get_or, map, take, drop, refl, sym, ap, ◌∙◌}
+use Rattle.std.proofs.Common.{subst, cond}
 use Rattle.std.proofs.lemmas.List.{length-map, get_or-map, take_at}
 use Rattle.std.proofs.Math.ListN.{get_or-map as at-map}
 use Rattle.pfc_state.specs.Seats.{Seat}

@@ -1,5 +1,6 @@
 -- What a first, a last, and the lack of one say back.
-use Rattle.std.proofs.Common.{◌≡◌, ℕ, zero, suc, Bool, true, false, inl, inr, min, max, Option, None, Some, List, [], ◌∷◌, length, set, arith, refl, sym, ap, ◌∙◌, cond}
+use Rattle.std.proofs.Common.{◌≡◌, ℕ, zero, suc, Bool, true, false, inl, inr, min, max, Option, None, Some, List, [], ◌∷◌, length, set, arith, refl, sym, ap}
+use Rattle.std.proofs.Common.{◌∙◌, cond}
 use Rattle.std.specs.Prelude.{option_map}
 use Rattle.std.proofs.lemmas.Bool.{eq-eqb, eqb-true, cases_eq, cases_lt}
 use Rattle.std.proofs.lemmas.List.{get_or-set_same, get_or-set_other, set_past}

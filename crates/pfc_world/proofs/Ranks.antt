@@ -1,5 +1,6 @@
 -- The first of those that are kept by ranks is the process that waits with the least rank, and of these the one of least ticket.
-use Rattle.std.proofs.Common.{◌≡◌, ℕ, zero, suc, ℤ, ◌≤ℤ◌, Bool, true, false, ◌==◌, ◌&&◌, ◌⊎◌, inl, inr, Option, None, Some, List, [], ◌∷◌, arith, refl, sym, ap, ◌∙◌, cond, subst, map}
+use Rattle.std.proofs.Common.{◌≡◌, ℕ, zero, suc, ℤ, ◌≤ℤ◌, Bool, true, false, ◌==◌, ◌&&◌, ◌⊎◌, inl, inr, Option, None, Some, List, [], ◌∷◌, arith, refl, sym, ap}
+use Rattle.std.proofs.Common.{◌∙◌, cond, subst, map}
 use Rattle.std.specs.Prelude.{MatchOption, IfSome, int_lt}
 use Rattle.std.specs.Int.{int_min}
 use Rattle.std.specs.Ordering.{int_eq}

@@ -1,5 +1,6 @@
 -- The set of ready processes, as the table changes.
-use Rattle.std.proofs.Common.{◌≡◌, ℕ, zero, suc, ◌+◌, ◌<◌, ◌≤◌, Bool, true, false, ◌||◌, nat_lt, nat_le, inl, inr, None, Some, List, [], ◌∷◌, length, get_or, set, take, arith, refl, sym, ap, ◌∙◌, cond, slice_get, slice_index, unwrap_or}
+use Rattle.std.proofs.Common.{◌≡◌, ℕ, zero, suc, ◌+◌, ◌<◌, ◌≤◌, Bool, true, false, ◌||◌, nat_lt, nat_le, inl, inr, None, Some, List, [], ◌∷◌, length, get_or}
+use Rattle.std.proofs.Common.{set, take, arith, refl, sym, ap, ◌∙◌, cond, slice_get, slice_index, unwrap_or}
 use Rattle.std.proofs.lemmas.Bool.{cases_eq, cases_lt}
 use Rattle.std.proofs.lemmas.Bool.Decides.{nat_tests}
 use Rattle.std.proofs.lemmas.List.{length-set, get_or-set_same, get_or-set_other, set_past}

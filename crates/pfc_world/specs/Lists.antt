@@ -4,7 +4,8 @@ use Rattle.std.specs.Prelude.{ℕ, ◌+◌, ◌*◌, ◌%◌, ◌<◌, ◌≤◌
 use Rattle.pfc_links.specs.declared.links.Member.{Member}
 use Rattle.pfc_links.specs.Members.{in_list}
 use Rattle.pfc_state.specs.declared.waits.Why.{Why}
-use Rattle.pfc_state.specs.declared.waits.Why.TheVariants.{Coend, Semaphore, Send, Receive, Call, Meeting, Accept, Select, Enter, Condition, Resumer, Entrant, Barred, Sleep}
+use Rattle.pfc_state.specs.declared.waits.Why.TheVariants.{Coend, Semaphore, Send, Receive, Call, Meeting, Accept, Select, Enter, Condition, Resumer, Entrant}
+use Rattle.pfc_state.specs.declared.waits.Why.TheVariants.{Barred, Sleep}
 use Rattle.pfc_state.specs.Stands.{Stand, Waits}
 use Rattle.pfc_world.specs.declared.lists.Spread.{Spread}
 

@@ -1,5 +1,6 @@
 -- Semaphores. An action on one is a function of the table of processes and the counts.
-use Rattle.std.specs.Prelude.{ℕ, ℤ, pos, negsuc, ◌+◌, ◌-◌, ◌==◌, ◌&&◌, Bool, true, false, not, is_some, if◌then◌else◌, Option, None, Some, List, [], slice_index_or, slice_set}
+use Rattle.std.specs.Prelude.{ℕ, ℤ, pos, negsuc, ◌+◌, ◌-◌, ◌==◌, ◌&&◌, Bool, true, false, not, is_some, if◌then◌else◌, Option, None, Some, List, []}
+use Rattle.std.specs.Prelude.{slice_index_or, slice_set}
 use Rattle.pfc_state.specs.declared.waits.Why.TheVariants.{Semaphore}
 use Rattle.pfc_state.specs.Stands.{Is_ready}
 use Rattle.pfc_world.specs.Partners.{semaphore_waiter}

@@ -1,5 +1,6 @@
 -- What lawful expressions write is read back.
-use Rattle.std.proofs.Common.{◌≡◌, ℕ, zero, suc, ℤ, pos, negsuc, List, [], ◌∷◌, ◌++◌, length, map, Bool, true, false, ◌||◌, Option, Some, None, refl, sym, ap, subst, ◌∙◌, append_assoc, append-nil, arith}
+use Rattle.std.proofs.Common.{◌≡◌, ℕ, zero, suc, ℤ, pos, negsuc, List, [], ◌∷◌, ◌++◌, length, map, Bool, true, false, ◌||◌, Option, Some, None, refl, sym, ap}
+use Rattle.std.proofs.Common.{subst, ◌∙◌, append_assoc, append-nil, arith}
 use Rattle.std.proofs.lemmas.Int.{ints}
 use Rattle.std.proofs.lemmas.List.{length-map}
 use Rattle.pfc_tree.proofs.depths.Exprs.{expr_even, factor_even}
@@ -15,15 +16,25 @@ use Rattle.pfc_tree.specs.declared.tree.AddOp.TheVariants.{Add, Sub, Or}
 use Rattle.pfc_tree.specs.declared.tree.MulOp.{MulOp}
 use Rattle.pfc_tree.specs.declared.tree.MulOp.TheVariants.{Mul, Div, Mod, And}
 use Rattle.pfc_tree.specs.Symbols.{Symbol, Text}
-use Rattle.pfc_tree.specs.shapes.Exprs.{ExprShape, SimpleShape, SummandShapes, TermShape, MultiplierShapes, FactorShape, DesigShape, SelectorShape, SelectorShapes, ExprShapes, ActualShape, ActualShapes, plain, related, sum, no_summands, more_summands, product, no_multipliers, more_multipliers, number, literal, negation, paren, applied, desig, index, field, no_selectors, more_selectors, no_exprs, more_exprs, actual, actual_width, no_actuals, more_actuals}
-use Rattle.pfc_tree.specs.tokens.Exprs.{sign_symbol, relation_symbol, add_symbol, mul_symbol, expr_tokens, simple_tokens, summands_tokens, term_tokens, multipliers_tokens, factor_tokens, desig_tokens, selectors_tokens, exprs_tokens, comma_exprs_tokens, actuals_tokens, comma_actuals_tokens, actual_tokens}
-use Rattle.pfc_tree.specs.lawful.Exprs.{IsWritten, IsLawfulExpr, IsLawfulSimple, AreLawfulSummands, IsLawfulTerm, AreLawfulMultipliers, IsLawfulFactor, IsLawfulDesig, AreLawfulSelectors, AreLawfulIndices, AreLawfulExprs, AreLawfulActuals, IsLawfulActual}
-use Rattle.pfc_tree.specs.depths.Exprs.{deeper, expr_depths, simple_depths, summands_depths, term_depths, multipliers_depths, factor_depths, desig_depths, selectors_depths, exprs_depths, comma_exprs_depths, actuals_depths, comma_actuals_depths, actual_depths}
+use Rattle.pfc_tree.specs.shapes.Exprs.{ExprShape, SimpleShape, SummandShapes, TermShape, MultiplierShapes, FactorShape, DesigShape, SelectorShape}
+use Rattle.pfc_tree.specs.shapes.Exprs.{SelectorShapes, ExprShapes, ActualShape, ActualShapes, plain, related, sum, no_summands, more_summands, product}
+use Rattle.pfc_tree.specs.shapes.Exprs.{no_multipliers, more_multipliers, number, literal, negation, paren, applied, desig, index, field, no_selectors}
+use Rattle.pfc_tree.specs.shapes.Exprs.{more_selectors, no_exprs, more_exprs, actual, actual_width, no_actuals, more_actuals}
+use Rattle.pfc_tree.specs.tokens.Exprs.{sign_symbol, relation_symbol, add_symbol, mul_symbol, expr_tokens, simple_tokens, summands_tokens, term_tokens}
+use Rattle.pfc_tree.specs.tokens.Exprs.{multipliers_tokens, factor_tokens, desig_tokens, selectors_tokens, exprs_tokens, comma_exprs_tokens, actuals_tokens}
+use Rattle.pfc_tree.specs.tokens.Exprs.{comma_actuals_tokens, actual_tokens}
+use Rattle.pfc_tree.specs.lawful.Exprs.{IsWritten, IsLawfulExpr, IsLawfulSimple, AreLawfulSummands, IsLawfulTerm, AreLawfulMultipliers, IsLawfulFactor}
+use Rattle.pfc_tree.specs.lawful.Exprs.{IsLawfulDesig, AreLawfulSelectors, AreLawfulIndices, AreLawfulExprs, AreLawfulActuals, IsLawfulActual}
+use Rattle.pfc_tree.specs.depths.Exprs.{deeper, expr_depths, simple_depths, summands_depths, term_depths, multipliers_depths, factor_depths, desig_depths}
+use Rattle.pfc_tree.specs.depths.Exprs.{selectors_depths, exprs_depths, comma_exprs_depths, actuals_depths, comma_actuals_depths, actual_depths}
 use Rattle.pfc_grammar.specs.Reading.{Reader, stop, stop_deep, choose}
 use Rattle.pfc_grammar.specs.Heads.{as_sign, as_plus_minus, as_relation, as_add_op, as_mul_op, as_selector, takes, is_word, begins_expr}
-use Rattle.pfc_grammar.specs.grammar.Exprs.{exprs_of, selectors_of, actuals_of, multipliers_of, summands_of, selector_behind, desig_behind, desig_with, actual_with, actuals_with, paren_behind, applied_behind, plain_factor, factor_with, multiplier_behind, term_with, summand_behind, simple_behind, simple_with, expr_with, no_expr, factor_at, expr_at}
+use Rattle.pfc_grammar.specs.grammar.Exprs.{exprs_of, selectors_of, actuals_of, multipliers_of, summands_of, selector_behind, desig_behind, desig_with}
+use Rattle.pfc_grammar.specs.grammar.Exprs.{actual_with, actuals_with, paren_behind, applied_behind, plain_factor, factor_with, multiplier_behind, term_with}
+use Rattle.pfc_grammar.specs.grammar.Exprs.{summand_behind, simple_behind, simple_with, expr_with, no_expr, factor_at, expr_at}
 use Rattle.pfc_grammar.proofs.Lists.{or-left, or-right}
-use Rattle.pfc_grammar.proofs.Complete.{Complete, Skips, Lacks, Any, complete_pure, complete_less, complete_bind, complete_last, complete_take, complete_skip, complete_pass, complete_next, complete_up, complete_deep, complete_same, complete_value, lacks_less, skips}
+use Rattle.pfc_grammar.proofs.Complete.{Complete, Skips, Lacks, Any, complete_pure, complete_less, complete_bind, complete_last, complete_take, complete_skip}
+use Rattle.pfc_grammar.proofs.Complete.{complete_pass, complete_next, complete_up, complete_deep, complete_same, complete_value, lacks_less, skips}
 use Rattle.pfc_grammar.proofs.CompleteLoops.{Run, run_end, run_item, complete_many, complete_list}
 
 -- What does not follow a designator, a factor, a term, a sum and an expression.

@@ -1,21 +1,26 @@
 -- What lawful parts and programs write is read back.
-use Rattle.std.proofs.Common.{◌≡◌, ℕ, zero, suc, List, [], ◌∷◌, ◌++◌, Bool, true, false, Option, Some, None, refl, sym, ap, subst, ◌∙◌, append_assoc, append-nil}
+use Rattle.std.proofs.Common.{◌≡◌, ℕ, zero, suc, List, [], ◌∷◌, ◌++◌, Bool, true, false, Option, Some, None, refl, sym, ap, subst, ◌∙◌, append_assoc}
+use Rattle.std.proofs.Common.{append-nil}
 use Rattle.pfc_base.specs.declared.tokens.Kind.TheVariants.{Word, Sign, Name}
-use Rattle.pfc_base.specs.declared.word.TheConstants.{BEGIN, CONST, END, ENTRY, EXPORT, FUNCTION, GUARDED, MONITOR, PROCEDURE, PROCESS, PROGRAM, RESOURCE, TYPE, VAR, WHEN}
+use Rattle.pfc_base.specs.declared.word.TheConstants.{BEGIN, CONST, END, ENTRY, EXPORT, FUNCTION, GUARDED, MONITOR, PROCEDURE, PROCESS, PROGRAM, RESOURCE, TYPE}
+use Rattle.pfc_base.specs.declared.word.TheConstants.{VAR, WHEN}
 use Rattle.pfc_base.specs.declared.sign.TheConstants.{OPEN_PAREN, DOT, SEMICOLON, COLON}
 use Rattle.pfc_tree.specs.Symbols.{Symbol, Text}
 use Rattle.pfc_tree.specs.shapes.Exprs.{ExprShape}
 use Rattle.pfc_tree.specs.shapes.Types.{GroupShape, TypeShape}
 use Rattle.pfc_tree.specs.shapes.Stmts.{StmtShape, BodyShape, body}
-use Rattle.pfc_tree.specs.shapes.Parts.{KindShape, EntryShape, PartShape, PartShapes, ModuleShape, ProgramShape, procedure, function, guarded, consts, types, vars, sub_part, monitor, resource, process_part, no_parts, more_parts, sub, the_module, process}
+use Rattle.pfc_tree.specs.shapes.Parts.{KindShape, EntryShape, PartShape, PartShapes, ModuleShape, ProgramShape, procedure, function, guarded, consts, types}
+use Rattle.pfc_tree.specs.shapes.Parts.{vars, sub_part, monitor, resource, process_part, no_parts, more_parts, sub, the_module, process}
 use Rattle.pfc_tree.specs.tokens.Exprs.{expr_tokens}
 use Rattle.pfc_tree.specs.tokens.Types.{names_tokens, formals_tokens}
 use Rattle.pfc_tree.specs.tokens.Stmts.{body_tokens}
-use Rattle.pfc_tree.specs.tokens.Parts.{exports_tokens, entries_tokens, ending_tokens, many_tokens, part_tokens, parts_tokens, module_tokens, params_tokens, tokens_of}
+use Rattle.pfc_tree.specs.tokens.Parts.{exports_tokens, entries_tokens, ending_tokens, many_tokens, part_tokens, parts_tokens, module_tokens, params_tokens}
+use Rattle.pfc_tree.specs.tokens.Parts.{tokens_of}
 use Rattle.pfc_tree.specs.lawful.Exprs.{IsLawfulExpr}
 use Rattle.pfc_tree.specs.lawful.Types.{IsFilled, AreLawfulFormals}
 use Rattle.pfc_tree.specs.lawful.Stmts.{IsLawfulBody}
-use Rattle.pfc_tree.specs.lawful.Parts.{Home, of_program, of_resource, of_other, AreLawfulExports, AreLawfulEntries, IsLawfulEnding, IsLawfulPart, AreLawfulParts, IsLawfulModule, IsLawful}
+use Rattle.pfc_tree.specs.lawful.Parts.{Home, of_program, of_resource, of_other, AreLawfulExports, AreLawfulEntries, IsLawfulEnding, IsLawfulPart}
+use Rattle.pfc_tree.specs.lawful.Parts.{AreLawfulParts, IsLawfulModule, IsLawful}
 use Rattle.pfc_tree.specs.depths.Exprs.{level, expr_depths}
 use Rattle.pfc_tree.specs.depths.Stmts.{body_depths}
 use Rattle.pfc_tree.specs.depths.Parts.{ending_depths, heading_depths, part_depths, parts_depths, module_depths, depths_of}
@@ -25,14 +30,18 @@ use Rattle.pfc_grammar.specs.Heads.{as_word, as_sign, as_name, takes, is_word, b
 use Rattle.pfc_grammar.specs.grammar.Exprs.{expr_at}
 use Rattle.pfc_grammar.specs.grammar.Types.{type_at, vars_of}
 use Rattle.pfc_grammar.specs.grammar.Stmts.{stmt_at}
-use Rattle.pfc_grammar.specs.grammar.Parts.{parts_of, SubHead, procedure_head, function_head, guarded_head, sub_behind, export_behind, ending, module_behind, entry_behind, type_word, process_behind, block_with, part_with, parts_at, params, program_behind, program_at, whole_at}
+use Rattle.pfc_grammar.specs.grammar.Parts.{parts_of, SubHead, procedure_head, function_head, guarded_head, sub_behind, export_behind, ending, module_behind}
+use Rattle.pfc_grammar.specs.grammar.Parts.{entry_behind, type_word, process_behind, block_with, part_with, parts_at, params, program_behind, program_at}
+use Rattle.pfc_grammar.specs.grammar.Parts.{whole_at}
 use Rattle.pfc_grammar.proofs.Lists.{flat, regroup4, regroup6}
-use Rattle.pfc_grammar.proofs.Complete.{over, limited, limited_at, Complete, Skips, Lacks, Heads, Any, complete_pure, complete_less, complete_bind, complete_last, complete_take, complete_skip, complete_next, complete_up, complete_same, complete_value, skips}
+use Rattle.pfc_grammar.proofs.Complete.{over, limited, limited_at, Complete, Skips, Lacks, Heads, Any, complete_pure, complete_less, complete_bind}
+use Rattle.pfc_grammar.proofs.Complete.{complete_last, complete_take, complete_skip, complete_next, complete_up, complete_same, complete_value, skips}
 use Rattle.pfc_grammar.proofs.CompleteLoops.{Run, run_end, WhileRun, while_end, while_item, complete_many, complete_while}
 use Rattle.pfc_grammar.proofs.sound_rules.Parts.{export_tokens, exports_written, entry_tokens, entries_written}
 use Rattle.pfc_grammar.proofs.complete_rules.Levels.{flat_bind, flat_item}
 use Rattle.pfc_grammar.proofs.complete_rules.Exprs.{ReadsExprs, complete_expr_at, starts, complete_none}
-use Rattle.pfc_grammar.proofs.complete_rules.Types.{vars_same, no_more_name, ReadsTypes, complete_names, complete_formals, complete_const_items, complete_type_items, complete_var_items, complete_type_at}
+use Rattle.pfc_grammar.proofs.complete_rules.Types.{vars_same, no_more_name, ReadsTypes, complete_names, complete_formals, complete_const_items}
+use Rattle.pfc_grammar.proofs.complete_rules.Types.{complete_type_items, complete_var_items, complete_type_at}
 use Rattle.pfc_grammar.proofs.complete_rules.Stmts.{ReadsStmts, complete_body, complete_stmt_at}
 
 abbrev parts_list : PartShapes → List PartShape

@@ -1,5 +1,6 @@
 -- What lawful statements write is read back.
-use Rattle.std.proofs.Common.{◌≡◌, ℕ, zero, suc, List, [], ◌∷◌, ◌++◌, length, Bool, true, false, ◌||◌, ◌&&◌, Option, Some, None, is_some, refl, sym, ap, subst, ◌∙◌, append_assoc, append-nil}
+use Rattle.std.proofs.Common.{◌≡◌, ℕ, zero, suc, List, [], ◌∷◌, ◌++◌, length, Bool, true, false, ◌||◌, ◌&&◌, Option, Some, None, is_some, refl, sym, ap, subst}
+use Rattle.std.proofs.Common.{◌∙◌, append_assoc, append-nil}
 use Rattle.pfc_base.specs.declared.tokens.Kind.TheVariants.{Word, Sign, Name}
 use Rattle.pfc_base.specs.declared.word.TheConstants.{COEND, DO, ELSE, END, FOR, FOREVER, OF, OR, REPLICATE, THEN, TO, UNTIL, WHEN}
 use Rattle.pfc_tree.specs.declared.tree.Sign.TheVariants.{Plus, Minus}
@@ -8,26 +9,40 @@ use Rattle.pfc_tree.specs.Symbols.{Symbol, Text}
 use Rattle.pfc_tree.specs.shapes.Exprs.{ExprShape, DesigShape, SelectorShapes, ActualShapes, desig, no_actuals, more_actuals}
 use Rattle.pfc_tree.specs.shapes.Types as type_shape
 use Rattle.pfc_tree.specs.shapes.Types.{ConstantShape, GroupShape}
-use Rattle.pfc_tree.specs.shapes.Stmts.{SpreadShape, StmtShape, StmtShapes, BodyShape, ArmShape, ArmShapes, AcceptShape, AltShape, AltShapes, CommShape, empty, null, block, if_then, if_then_else, case_of, while_do, repeat_until, repeat_forever, for_do, cobegin, accepting, requeue, select, select_else, assign, send, receive, call, no_stmts, more_stmts, body, arm, no_arms, more_arms, accept, accept_do, alt, no_alts, more_alts, comm_accept, comm_send, comm_receive, timeout, terminate}
+use Rattle.pfc_tree.specs.shapes.Stmts.{SpreadShape, StmtShape, StmtShapes, BodyShape, ArmShape, ArmShapes, AcceptShape, AltShape, AltShapes, CommShape, empty}
+use Rattle.pfc_tree.specs.shapes.Stmts.{null, block, if_then, if_then_else, case_of, while_do, repeat_until, repeat_forever, for_do, cobegin, accepting}
+use Rattle.pfc_tree.specs.shapes.Stmts.{requeue, select, select_else, assign, send, receive, call, no_stmts, more_stmts, body, arm, no_arms, more_arms, accept}
+use Rattle.pfc_tree.specs.shapes.Stmts.{accept_do, alt, no_alts, more_alts, comm_accept, comm_send, comm_receive, timeout, terminate}
 use Rattle.pfc_tree.specs.tokens.Exprs.{expr_tokens, desig_tokens, selectors_tokens, actuals_tokens}
 use Rattle.pfc_tree.specs.tokens.Types.{constant_tokens, comma_constants_tokens, constants_tokens, last_tokens, formals_tokens}
-use Rattle.pfc_tree.specs.tokens.Stmts.{direction_symbol, pri_tokens, spread_tokens, replication_tokens, guard_tokens, stmt_tokens, stmts_tokens, semicolon_stmts_tokens, body_tokens, arm_tokens, arms_tokens, semicolon_arms_tokens, accept_tokens, alt_tokens, comm_tokens, alts_tokens, or_alts_tokens}
+use Rattle.pfc_tree.specs.tokens.Stmts.{direction_symbol, pri_tokens, spread_tokens, replication_tokens, guard_tokens, stmt_tokens, stmts_tokens}
+use Rattle.pfc_tree.specs.tokens.Stmts.{semicolon_stmts_tokens, body_tokens, arm_tokens, arms_tokens, semicolon_arms_tokens, accept_tokens, alt_tokens}
+use Rattle.pfc_tree.specs.tokens.Stmts.{comm_tokens, alts_tokens, or_alts_tokens}
 use Rattle.pfc_tree.specs.lawful.Exprs.{IsLawfulExpr, IsLawfulDesig, AreLawfulSelectors, AreLawfulActuals}
 use Rattle.pfc_tree.specs.lawful.Types.{IsFilled, IsLawfulConstant, AreLawfulConstants, AreLawfulFormals}
-use Rattle.pfc_tree.specs.lawful.Stmts.{ends_in_if, accept_ends_in_if, ends_in_expr, accept_ends_in_expr, comm_ends_in_if, comm_ends_in_expr, last_ends_in_if, last_ends_in_expr, alt_ends_in_if, alt_ends_in_expr, alts_end_in_if, OrMayFollow, IsLawfulSpread, MayStandBehind, IsLawfulGuard, IsLawfulStmt, HasLawfulStmts, AreLawfulStmts, IsLawfulBody, IsLawfulArm, HasLawfulArms, AreLawfulArms, IsLawfulAccept, IsLawfulAlt, IsLawfulComm, HasLawfulAlts, AreLawfulAlts}
+use Rattle.pfc_tree.specs.lawful.Stmts.{ends_in_if, accept_ends_in_if, ends_in_expr, accept_ends_in_expr, comm_ends_in_if, comm_ends_in_expr, last_ends_in_if}
+use Rattle.pfc_tree.specs.lawful.Stmts.{last_ends_in_expr, alt_ends_in_if, alt_ends_in_expr, alts_end_in_if, OrMayFollow, IsLawfulSpread, MayStandBehind}
+use Rattle.pfc_tree.specs.lawful.Stmts.{IsLawfulGuard, IsLawfulStmt, HasLawfulStmts, AreLawfulStmts, IsLawfulBody, IsLawfulArm, HasLawfulArms, AreLawfulArms}
+use Rattle.pfc_tree.specs.lawful.Stmts.{IsLawfulAccept, IsLawfulAlt, IsLawfulComm, HasLawfulAlts, AreLawfulAlts}
 use Rattle.pfc_grammar.specs.Reading.{Reader, pure, stop_deep, branch, choose}
 use Rattle.pfc_grammar.specs.Heads.{as_word, as_sign, as_direction, takes, is_word, begins_stmt}
 use Rattle.pfc_grammar.specs.grammar.Exprs.{expr_at}
-use Rattle.pfc_grammar.specs.grammar.Stmts.{stmts_of, arms_of, alts_of, test_before, for_head, accept_head, labels, spread_behind, replication, guard, alt_head, requeue_behind, action_behind, comm_behind, message, message_or_wait, comm_plain, stmts_with, body_behind, body_with, if_behind, arm_with, case_behind, while_behind, repeat_behind, for_behind, cobegin_behind, accept_behind, comm_with, alt_with, select_behind, stmt_second, stmt_with, stmt_at}
+use Rattle.pfc_grammar.specs.grammar.Stmts.{stmts_of, arms_of, alts_of, test_before, for_head, accept_head, labels, spread_behind, replication, guard, alt_head}
+use Rattle.pfc_grammar.specs.grammar.Stmts.{requeue_behind, action_behind, comm_behind, message, message_or_wait, comm_plain, stmts_with, body_behind}
+use Rattle.pfc_grammar.specs.grammar.Stmts.{body_with, if_behind, arm_with, case_behind, while_behind, repeat_behind, for_behind, cobegin_behind, accept_behind}
+use Rattle.pfc_grammar.specs.grammar.Stmts.{comm_with, alt_with, select_behind, stmt_second, stmt_with, stmt_at}
 use Rattle.pfc_tree.specs.depths.Exprs.{deeper, level, expr_depths, desig_depths, selectors_depths, actuals_depths}
-use Rattle.pfc_tree.specs.depths.Stmts.{guard_depths, stmt_depths, stmts_depths, semicolon_stmts_depths, body_depths, arm_depths, arms_depths, semicolon_arms_depths, accept_depths, alt_depths, comm_depths, alts_depths, or_alts_depths}
+use Rattle.pfc_tree.specs.depths.Stmts.{guard_depths, stmt_depths, stmts_depths, semicolon_stmts_depths, body_depths, arm_depths, arms_depths}
+use Rattle.pfc_tree.specs.depths.Stmts.{semicolon_arms_depths, accept_depths, alt_depths, comm_depths, alts_depths, or_alts_depths}
 use Rattle.pfc_tree.proofs.depths.Stmts.{stmt_even}
 use Rattle.pfc_grammar.proofs.Lists.{or-left, or-right, or-both, shift}
-use Rattle.pfc_grammar.proofs.Complete.{Complete, Skips, Lacks, Any, complete_pure, complete_less, complete_bind, complete_last, complete_take, complete_skip, complete_pass, complete_next, complete_up, complete_same, complete_value, lacks_less, skips}
+use Rattle.pfc_grammar.proofs.Complete.{Complete, Skips, Lacks, Any, complete_pure, complete_less, complete_bind, complete_last, complete_take, complete_skip}
+use Rattle.pfc_grammar.proofs.Complete.{complete_pass, complete_next, complete_up, complete_same, complete_value, lacks_less, skips}
 use Rattle.pfc_grammar.proofs.CompleteLoops.{Run, run_end, run_item, EndRun, end_none, end_last, end_item, complete_many, complete_list, complete_list_end}
 use Rattle.pfc_grammar.proofs.sound_rules.Stmts.{behind, stmt_behind, alt_tail}
 use Rattle.pfc_grammar.proofs.complete_rules.Levels.{flat_bind, AtWord, at_word}
-use Rattle.pfc_grammar.proofs.complete_rules.Exprs.{after_desig, after_expr, ReadsExprs, complete_desig_behind, complete_desig, complete_actuals, complete_expr_at, Starts, starts, complete_none}
+use Rattle.pfc_grammar.proofs.complete_rules.Exprs.{after_desig, after_expr, ReadsExprs, complete_desig_behind, complete_desig, complete_actuals}
+use Rattle.pfc_grammar.proofs.complete_rules.Exprs.{complete_expr_at, Starts, starts, complete_none}
 use Rattle.pfc_grammar.proofs.complete_rules.Types.{complete_constant, complete_constants, complete_formals, at_end, heads_end}
 
 abbrev stmts_list : StmtShapes → List StmtShape

@@ -1,5 +1,6 @@
 -- What lawful constants, types and groups of parameters write is read back.
-use Rattle.std.proofs.Common.{◌≡◌, ℕ, zero, suc, ℤ, pos, negsuc, List, [], ◌∷◌, ◌++◌, Bool, true, false, Option, Some, None, refl, sym, ap, subst, ◌∙◌, append_assoc, arith}
+use Rattle.std.proofs.Common.{◌≡◌, ℕ, zero, suc, ℤ, pos, negsuc, List, [], ◌∷◌, ◌++◌, Bool, true, false, Option, Some, None, refl, sym, ap, subst, ◌∙◌}
+use Rattle.std.proofs.Common.{append_assoc, arith}
 use Rattle.std.proofs.lemmas.Int.{ints}
 use Rattle.pfc_base.specs.declared.tokens.Kind.TheVariants.{Word, Sign, Name, Number}
 use Rattle.pfc_base.specs.declared.word.TheConstants.{END, VAR}
@@ -7,20 +8,29 @@ use Rattle.pfc_base.specs.declared.sign.TheConstants.{EQUAL, OPEN_PAREN, CLOSE_P
 use Rattle.pfc_tree.specs.declared.tree.Sign as plus_or_minus
 use Rattle.pfc_tree.specs.declared.tree.Sign.TheVariants.{Plus, Minus}
 use Rattle.pfc_tree.specs.Symbols.{Symbol, Text}
-use Rattle.pfc_tree.specs.shapes.Types.{ConstantShape, RangeShape, ConstItemShape, TypeItemShape, GroupShape, TypeShape, VarShape, VarShapes, number, constant, literal, named, channel, array, fields, var_item, no_vars, more_vars}
+use Rattle.pfc_tree.specs.shapes.Types.{ConstantShape, RangeShape, ConstItemShape, TypeItemShape, GroupShape, TypeShape, VarShape, VarShapes, number, constant}
+use Rattle.pfc_tree.specs.shapes.Types.{literal, named, channel, array, fields, var_item, no_vars, more_vars}
 use Rattle.pfc_tree.specs.tokens.Exprs.{sign_symbol}
-use Rattle.pfc_tree.specs.tokens.Types.{comma_names_tokens, names_tokens, constant_tokens, comma_constants_tokens, constants_tokens, range_tokens, comma_ranges_tokens, ranges_tokens, last_tokens, type_tokens, var_tokens, fields_tokens, semicolon_fields_tokens, vars_tokens, const_items_tokens, type_items_tokens, reference_tokens, group_tokens, semicolon_groups_tokens, formals_tokens}
+use Rattle.pfc_tree.specs.tokens.Types.{comma_names_tokens, names_tokens, constant_tokens, comma_constants_tokens, constants_tokens, range_tokens}
+use Rattle.pfc_tree.specs.tokens.Types.{comma_ranges_tokens, ranges_tokens, last_tokens, type_tokens, var_tokens, fields_tokens, semicolon_fields_tokens}
+use Rattle.pfc_tree.specs.tokens.Types.{vars_tokens, const_items_tokens, type_items_tokens, reference_tokens, group_tokens, semicolon_groups_tokens}
+use Rattle.pfc_tree.specs.tokens.Types.{formals_tokens}
 use Rattle.pfc_tree.specs.lawful.Exprs.{IsWritten}
-use Rattle.pfc_tree.specs.lawful.Types.{IsFilled, IsLawfulConstant, AreLawfulConstants, IsLawfulRange, AreLawfulRanges, IsLawfulType, IsLawfulVar, AreLawfulFields, AreLawfulVars, AreLawfulConstItems, AreLawfulTypeItems, AreLawfulFormals}
+use Rattle.pfc_tree.specs.lawful.Types.{IsFilled, IsLawfulConstant, AreLawfulConstants, IsLawfulRange, AreLawfulRanges, IsLawfulType, IsLawfulVar}
+use Rattle.pfc_tree.specs.lawful.Types.{AreLawfulFields, AreLawfulVars, AreLawfulConstItems, AreLawfulTypeItems, AreLawfulFormals}
 use Rattle.pfc_tree.specs.depths.Exprs.{level}
 use Rattle.pfc_tree.specs.depths.Types.{type_depths, var_depths, fields_depths, semicolon_fields_depths, vars_depths, const_items_depths, type_items_depths}
 use Rattle.pfc_tree.proofs.depths.Types.{type_even}
 use Rattle.pfc_grammar.specs.Reading.{Reader, stop, take_as, list_of}
 use Rattle.pfc_grammar.specs.Heads.{as_word, as_sign, as_name, as_literal, as_plus_minus, takes, is_word, begins_type}
-use Rattle.pfc_grammar.specs.grammar.Types.{vars_of, names_behind, names, constant_behind, constant_reader, range, var_behind, var_with, channel_behind, array_behind, record_behind, type_with, type_at, const_item_behind, const_items, type_item_behind, type_items, var_item_behind, var_items, group_behind, group, formals}
+use Rattle.pfc_grammar.specs.grammar.Types.{vars_of, names_behind, names, constant_behind, constant_reader, range, var_behind, var_with, channel_behind}
+use Rattle.pfc_grammar.specs.grammar.Types.{array_behind, record_behind, type_with, type_at, const_item_behind, const_items, type_item_behind, type_items}
+use Rattle.pfc_grammar.specs.grammar.Types.{var_item_behind, var_items, group_behind, group, formals}
 use Rattle.pfc_grammar.proofs.Lists.{flat}
-use Rattle.pfc_grammar.proofs.Complete.{Complete, Skips, Lacks, Heads, Any, complete_pure, complete_bind, complete_last, complete_take, complete_skip, complete_symbol, complete_next, complete_up, complete_same, skips}
-use Rattle.pfc_grammar.proofs.CompleteLoops.{Run, run_end, run_item, EndRun, end_none, end_last, end_item, complete_onto, complete_list, complete_some, complete_list_end}
+use Rattle.pfc_grammar.proofs.Complete.{Complete, Skips, Lacks, Heads, Any, complete_pure, complete_bind, complete_last, complete_take, complete_skip}
+use Rattle.pfc_grammar.proofs.Complete.{complete_symbol, complete_next, complete_up, complete_same, skips}
+use Rattle.pfc_grammar.proofs.CompleteLoops.{Run, run_end, run_item, EndRun, end_none, end_last, end_item, complete_onto, complete_list, complete_some}
+use Rattle.pfc_grammar.proofs.CompleteLoops.{complete_list_end}
 use Rattle.pfc_grammar.proofs.sound_rules.Types.{const_item_tokens, const_items_written, type_item_tokens, type_items_written, var_item_tokens}
 use Rattle.pfc_grammar.proofs.complete_rules.Levels.{level-append, flat_bind, flat_item, AtWord, at_word}
 use Rattle.pfc_grammar.proofs.complete_rules.Exprs.{starts, complete_none}

@@ -10,7 +10,9 @@ use Rattle.pfc_tree.specs.declared.tree.AddOp.{AddOp}
 use Rattle.pfc_tree.specs.declared.tree.MulOp.{MulOp}
 use Rattle.pfc_tree.specs.shapes.Exprs.{ExprShape, FactorShape}
 use Rattle.pfc_grammar.specs.Heads.{as_word, is_word, begins_expr}
-use Rattle.pfc_grammar.specs.grammar.Exprs.{selector_behind, desig_behind, desig_with, actual_with, actuals_with, paren_behind, applied_behind, plain_factor, factor_with, multiplier_behind, term_with, summand_behind, simple_behind, simple_with, expr_with, no_expr, factor_at, expr_at}
+use Rattle.pfc_grammar.specs.grammar.Exprs.{selector_behind, desig_behind, desig_with, actual_with, actuals_with, paren_behind, applied_behind, plain_factor}
+use Rattle.pfc_grammar.specs.grammar.Exprs.{factor_with, multiplier_behind, term_with, summand_behind, simple_behind, simple_with, expr_with, no_expr}
+use Rattle.pfc_grammar.specs.grammar.Exprs.{factor_at, expr_at}
 
 pub ruleset localities = (local_pure, local_stop, local_bind, local_branch, local_choose, local_take, local_many, local_list, local_some, local_list_end)
 

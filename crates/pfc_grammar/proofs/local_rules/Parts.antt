@@ -15,7 +15,9 @@ use Rattle.pfc_grammar.specs.Heads.{as_word, is_word, begins_block, begins_part}
 use Rattle.pfc_grammar.specs.grammar.Exprs.{expr_at}
 use Rattle.pfc_grammar.specs.grammar.Types.{type_at, type_items, var_items}
 use Rattle.pfc_grammar.specs.grammar.Stmts.{body_with, stmt_at}
-use Rattle.pfc_grammar.specs.grammar.Parts.{SubHead, procedure_head, function_head, guarded_head, sub_behind, export_behind, ending, module_behind, entry_behind, type_word, process_behind, block_with, part_with, parts_at, params, program_behind, program_at, whole_at}
+use Rattle.pfc_grammar.specs.grammar.Parts.{SubHead, procedure_head, function_head, guarded_head, sub_behind, export_behind, ending, module_behind}
+use Rattle.pfc_grammar.specs.grammar.Parts.{entry_behind, type_word, process_behind, block_with, part_with, parts_at, params, program_behind, program_at}
+use Rattle.pfc_grammar.specs.grammar.Parts.{whole_at}
 use Rattle.pfc_grammar.proofs.Lists.{apart_none}
 use Rattle.pfc_grammar.proofs.Sound.{When, Took, Halts, here}
 use Rattle.pfc_grammar.proofs.sound_rules.Exprs.{free}

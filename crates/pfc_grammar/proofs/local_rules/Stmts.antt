@@ -10,7 +10,10 @@ use Rattle.pfc_tree.specs.shapes.Exprs.{ExprShape}
 use Rattle.pfc_tree.specs.shapes.Stmts.{StmtShape, empty}
 use Rattle.pfc_grammar.specs.Heads.{as_word, as_sign, is_word, begins_stmt}
 use Rattle.pfc_grammar.specs.grammar.Exprs.{desig_behind, desig_with, actuals_with, expr_at}
-use Rattle.pfc_grammar.specs.grammar.Stmts.{test_before, for_head, accept_head, labels, spread_behind, replication, guard, alt_head, requeue_behind, action_behind, comm_behind, message, message_or_wait, comm_plain, stmts_with, body_behind, body_with, if_behind, arm_with, case_behind, while_behind, repeat_behind, for_behind, cobegin_behind, accept_behind, comm_with, alt_with, select_behind, stmt_second, stmt_with, stmt_at}
+use Rattle.pfc_grammar.specs.grammar.Stmts.{test_before, for_head, accept_head, labels, spread_behind, replication, guard, alt_head, requeue_behind}
+use Rattle.pfc_grammar.specs.grammar.Stmts.{action_behind, comm_behind, message, message_or_wait, comm_plain, stmts_with, body_behind, body_with, if_behind}
+use Rattle.pfc_grammar.specs.grammar.Stmts.{arm_with, case_behind, while_behind, repeat_behind, for_behind, cobegin_behind, accept_behind, comm_with, alt_with}
+use Rattle.pfc_grammar.specs.grammar.Stmts.{select_behind, stmt_second, stmt_with, stmt_at}
 use Rattle.pfc_grammar.proofs.local_rules.Exprs.{localities, local_desig_behind, local_desig, local_actuals, local_expr_at}
 use Rattle.pfc_grammar.proofs.local_rules.Types.{local_constant, local_formals}
 

@@ -9,7 +9,9 @@ use Rattle.pfc_base.specs.declared.sign.TheConstants.{COMMA, SEMICOLON}
 use Rattle.pfc_tree.specs.declared.tree.Sign as plus_or_minus
 use Rattle.pfc_tree.specs.shapes.Types.{TypeShape}
 use Rattle.pfc_grammar.specs.Heads.{as_word, as_sign, as_name, is_word, begins_type}
-use Rattle.pfc_grammar.specs.grammar.Types.{names_behind, names, constant_behind, constant_reader, range, var_behind, var_with, channel_behind, array_behind, record_behind, type_with, type_at, const_item_behind, const_items, type_item_behind, type_items, var_item_behind, var_items, group_behind, group, formals}
+use Rattle.pfc_grammar.specs.grammar.Types.{names_behind, names, constant_behind, constant_reader, range, var_behind, var_with, channel_behind, array_behind}
+use Rattle.pfc_grammar.specs.grammar.Types.{record_behind, type_with, type_at, const_item_behind, const_items, type_item_behind, type_items, var_item_behind}
+use Rattle.pfc_grammar.specs.grammar.Types.{var_items, group_behind, group, formals}
 use Rattle.pfc_grammar.proofs.local_rules.Exprs.{localities}
 
 pub local_names_behind : (x : Text) → Local (names_behind x)

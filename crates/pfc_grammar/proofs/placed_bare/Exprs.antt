@@ -5,15 +5,19 @@ use Rattle.pfc_tree.specs.declared.tree.Sign as plus_or_minus
 use Rattle.pfc_tree.specs.declared.tree.AddOp.{AddOp}
 use Rattle.pfc_tree.specs.declared.tree.MulOp.{MulOp}
 use Rattle.pfc_tree.specs.Symbols.{Text}
-use Rattle.pfc_tree.specs.shapes.Exprs.{ExprShape, TermShape, FactorShape, sum, more_summands, product, more_multipliers, desig, index, more_selectors, more_exprs, more_actuals}
+use Rattle.pfc_tree.specs.shapes.Exprs.{ExprShape, TermShape, FactorShape, sum, more_summands, product, more_multipliers, desig, index, more_selectors}
+use Rattle.pfc_tree.specs.shapes.Exprs.{more_exprs, more_actuals}
 use Rattle.pfc_tree.specs.trees.Exprs.{ExprTree, TermTree, FactorTree, SelectorTree, ActualTree}
 use Rattle.pfc_tree.specs.views.Exprs.{exprs_of, selectors_of, actuals_of, multipliers_of, summands_of}
-use Rattle.pfc_tree.specs.forget.Exprs.{forget_expr, forget_exprs, forget_simple, forget_summands, forget_term, forget_multipliers, forget_factor, forget_desig, forget_selector, forget_selectors, forget_actual, forget_actuals}
+use Rattle.pfc_tree.specs.forget.Exprs.{forget_expr, forget_exprs, forget_simple, forget_summands, forget_term, forget_multipliers, forget_factor, forget_desig}
+use Rattle.pfc_tree.specs.forget.Exprs.{forget_selector, forget_selectors, forget_actual, forget_actuals}
 use Rattle.pfc_grammar.specs.Heads.{as_selector}
 use Rattle.pfc_grammar.specs.Reading.{Reader as KindReader}
 use Rattle.pfc_grammar.specs.grammar.Exprs as kinds
 use Rattle.pfc_grammar.specs.placed.Reading.{Reader}
-use Rattle.pfc_grammar.specs.placed.Exprs.{selector_behind, desig_behind, desig_with, actual_with, actuals_with, paren_behind, applied_behind, plain_factor, factor_with, multiplier_behind, term_with, summand_behind, simple_behind, simple_with, expr_from, expr_with, no_expr, factor_at, expr_at}
+use Rattle.pfc_grammar.specs.placed.Exprs.{selector_behind, desig_behind, desig_with, actual_with, actuals_with, paren_behind, applied_behind, plain_factor}
+use Rattle.pfc_grammar.specs.placed.Exprs.{factor_with, multiplier_behind, term_with, summand_behind, simple_behind, simple_with, expr_from, expr_with, no_expr}
+use Rattle.pfc_grammar.specs.placed.Exprs.{factor_at, expr_at}
 use Rattle.pfc_grammar.proofs.placed_bare.Readers.{Bares, bare_pure, bare_stop, bare_stop_deep, bare_bind, bare_branch, bare_choose, bare_take, bare_peek}
 use Rattle.pfc_grammar.proofs.placed_bare.Loops.{bare_many, bare_list}
 

@@ -3,7 +3,8 @@ use Rattle.std.proofs.Common.{◌≡◌, ℕ, zero, suc, List, [], ◌∷◌, �
 use Rattle.pfc_base.specs.declared.places.Place.{Place}
 use Rattle.pfc_tree.specs.Symbols.{Symbol, symbols}
 use Rattle.pfc_grammar.specs.Reading as kinds
-use Rattle.pfc_grammar.specs.placed.Reading.{Reader, many_turns, many_onto, many, some_of, list_of, end_turns, end_onto, list_end, while_turns, while_onto, many_while}
+use Rattle.pfc_grammar.specs.placed.Reading.{Reader, many_turns, many_onto, many, some_of, list_of, end_turns, end_onto, list_end, while_turns, while_onto}
+use Rattle.pfc_grammar.specs.placed.Reading.{many_while}
 use Rattle.pfc_grammar.proofs.placed_bare.Readers.{Bares, counted, bare_pure, bare_stop, bare_bind, bare_branch, bare_choose}
 
 map-snoc : {A B : Type 0} (f : A → B) (xs : List A) (x : A) → map f (xs ++ x ∷ []) ≡ map f xs ++ f x ∷ []

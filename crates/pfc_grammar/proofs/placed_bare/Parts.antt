@@ -22,8 +22,11 @@ use Rattle.pfc_grammar.specs.Outcomes.{bare_outcome}
 use Rattle.pfc_grammar.specs.Reading.{Reader as KindReader}
 use Rattle.pfc_grammar.specs.grammar.Parts as kinds
 use Rattle.pfc_grammar.specs.placed.Reading.{Outcome, Reader}
-use Rattle.pfc_grammar.specs.placed.Parts.{SubHead, procedure_head, function_head, guarded_head, sub_behind, export_behind, ending, module_behind, entry_behind, type_word, process_behind, block_with, part_with, parts_at, params, program_behind, program_at, whole_at, read_tokens}
-use Rattle.pfc_grammar.proofs.placed_bare.Readers.{bare_by, Bares, bare_pure, bare_stop, bare_stop_deep, bare_bind, bare_branch, bare_choose, bare_take, bare_finish}
+use Rattle.pfc_grammar.specs.placed.Parts.{SubHead, procedure_head, function_head, guarded_head, sub_behind, export_behind, ending, module_behind, entry_behind}
+use Rattle.pfc_grammar.specs.placed.Parts.{type_word, process_behind, block_with, part_with, parts_at, params, program_behind, program_at, whole_at}
+use Rattle.pfc_grammar.specs.placed.Parts.{read_tokens}
+use Rattle.pfc_grammar.proofs.placed_bare.Readers.{bare_by, Bares, bare_pure, bare_stop, bare_stop_deep, bare_bind, bare_branch, bare_choose, bare_take}
+use Rattle.pfc_grammar.proofs.placed_bare.Readers.{bare_finish}
 use Rattle.pfc_grammar.proofs.placed_bare.Loops.{bare_many, bare_while}
 use Rattle.pfc_grammar.proofs.placed_bare.Exprs.{bare_expr_at}
 use Rattle.pfc_grammar.proofs.placed_bare.Types.{bare_vars, bare_names, bare_formals, bare_type_at, bare_const_items, bare_type_items, bare_var_items}

@@ -5,7 +5,8 @@ use Rattle.pfc_base.specs.declared.tokens.Token.{Token}
 use Rattle.pfc_tree.specs.Symbols.{Symbol, symbols}
 use Rattle.pfc_grammar.specs.Reading.{bad, deep}
 use Rattle.pfc_grammar.specs.Reading as kinds
-use Rattle.pfc_grammar.specs.placed.Reading.{Outcome, Reader, pure, then_read, bind, stop, stop_deep, first_place, peek, branch_at, branch, choose_at, choose, take_as, finish}
+use Rattle.pfc_grammar.specs.placed.Reading.{Outcome, Reader, pure, then_read, bind, stop, stop_deep, first_place, peek, branch_at, branch, choose_at, choose}
+use Rattle.pfc_grammar.specs.placed.Reading.{take_as, finish}
 
 -- an outcome without places: the value by f, and the kinds that are left
 abbrev pub bare_by : {A B : Type 0} → (A → B) → Outcome A → kinds.Outcome B

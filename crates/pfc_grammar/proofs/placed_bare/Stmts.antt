@@ -5,18 +5,23 @@ use Rattle.pfc_tree.specs.Symbols.{Text}
 use Rattle.pfc_tree.specs.shapes.Exprs.{ExprShape}
 use Rattle.pfc_tree.specs.shapes.Types.{GroupShape}
 use Rattle.pfc_tree.specs.declared.tree.Spread.{Spread}
-use Rattle.pfc_tree.specs.shapes.Stmts.{SpreadShape, StmtShape, case_of, repeat_until, repeat_forever, cobegin, select, select_else, more_stmts, body, more_arms, alt, more_alts}
+use Rattle.pfc_tree.specs.shapes.Stmts.{SpreadShape, StmtShape, case_of, repeat_until, repeat_forever, cobegin, select, select_else, more_stmts, body}
+use Rattle.pfc_tree.specs.shapes.Stmts.{more_arms, alt, more_alts}
 use Rattle.pfc_tree.specs.trees.Exprs.{ExprTree}
 use Rattle.pfc_tree.specs.trees.Types.{GroupTree}
 use Rattle.pfc_tree.specs.trees.Stmts.{StmtTree, ArmTree, AltTree}
 use Rattle.pfc_tree.specs.views.Stmts.{stmts_of, arms_of, alts_of}
 use Rattle.pfc_tree.specs.forget.Exprs.{forget_expr}
 use Rattle.pfc_tree.specs.forget.Types.{forget_constant, forget_group}
-use Rattle.pfc_tree.specs.forget.Stmts.{forget_spread, forget_stmt, forget_stmts, forget_body, forget_arm, forget_arms, forget_accept, forget_alt, forget_alts, forget_comm}
+use Rattle.pfc_tree.specs.forget.Stmts.{forget_spread, forget_stmt, forget_stmts, forget_body, forget_arm, forget_arms, forget_accept, forget_alt, forget_alts}
+use Rattle.pfc_tree.specs.forget.Stmts.{forget_comm}
 use Rattle.pfc_grammar.specs.Reading.{Reader as KindReader}
 use Rattle.pfc_grammar.specs.grammar.Stmts as kinds
 use Rattle.pfc_grammar.specs.placed.Reading.{Reader}
-use Rattle.pfc_grammar.specs.placed.Stmts.{test_before, for_head, accept_head, labels, spread_behind, replication, guard, alt_head, requeue_behind, action_behind, comm_behind, message, message_or_wait, comm_plain, stmts_with, body_behind, body_with, block_behind, if_behind, arm_with, case_behind, while_behind, repeat_behind, for_behind, cobegin_behind, accept_behind, accepting_behind, comm_with, alt_with, select_behind, pri_behind, stmt_second, stmt_with, stmt_at}
+use Rattle.pfc_grammar.specs.placed.Stmts.{test_before, for_head, accept_head, labels, spread_behind, replication, guard, alt_head, requeue_behind}
+use Rattle.pfc_grammar.specs.placed.Stmts.{action_behind, comm_behind, message, message_or_wait, comm_plain, stmts_with, body_behind, body_with, block_behind}
+use Rattle.pfc_grammar.specs.placed.Stmts.{if_behind, arm_with, case_behind, while_behind, repeat_behind, for_behind, cobegin_behind, accept_behind}
+use Rattle.pfc_grammar.specs.placed.Stmts.{accepting_behind, comm_with, alt_with, select_behind, pri_behind, stmt_second, stmt_with, stmt_at}
 use Rattle.pfc_grammar.proofs.placed_bare.Readers.{Bares, bare_pure, bare_stop, bare_stop_deep, bare_bind, bare_branch, bare_choose, bare_take}
 use Rattle.pfc_grammar.proofs.placed_bare.Loops.{bare_many, bare_list, bare_list_end}
 use Rattle.pfc_grammar.proofs.placed_bare.Exprs.{bare_desig_behind, bare_desig, bare_actuals, bare_expr_at}

@@ -6,11 +6,14 @@ use Rattle.pfc_tree.specs.Symbols.{Text}
 use Rattle.pfc_tree.specs.shapes.Types.{TypeShape, fields, more_vars}
 use Rattle.pfc_tree.specs.trees.Types.{TypeTree, VarTree}
 use Rattle.pfc_tree.specs.views.Types.{vars_of}
-use Rattle.pfc_tree.specs.forget.Types.{bare, forget_constant, forget_range, forget_const_item, forget_type, forget_var, forget_vars, forget_type_item, forget_group}
+use Rattle.pfc_tree.specs.forget.Types.{bare, forget_constant, forget_range, forget_const_item, forget_type, forget_var, forget_vars, forget_type_item}
+use Rattle.pfc_tree.specs.forget.Types.{forget_group}
 use Rattle.pfc_grammar.specs.Reading.{Reader as KindReader}
 use Rattle.pfc_grammar.specs.grammar.Types as kinds
 use Rattle.pfc_grammar.specs.placed.Reading.{Reader}
-use Rattle.pfc_grammar.specs.placed.Types.{names_behind, names, constant_behind, constant_reader, range, var_behind, var_with, channel_behind, array_behind, record_behind, type_with, type_at, const_item_behind, const_items, type_item_behind, type_items, var_item_behind, var_items, group_behind, group, formals}
+use Rattle.pfc_grammar.specs.placed.Types.{names_behind, names, constant_behind, constant_reader, range, var_behind, var_with, channel_behind, array_behind}
+use Rattle.pfc_grammar.specs.placed.Types.{record_behind, type_with, type_at, const_item_behind, const_items, type_item_behind, type_items, var_item_behind}
+use Rattle.pfc_grammar.specs.placed.Types.{var_items, group_behind, group, formals}
 use Rattle.pfc_grammar.proofs.placed_bare.Readers.{Bares, bare_pure, bare_stop, bare_stop_deep, bare_bind, bare_branch, bare_choose, bare_take}
 use Rattle.pfc_grammar.proofs.placed_bare.Loops.{bare_onto, bare_some, bare_list, bare_list_end}
 

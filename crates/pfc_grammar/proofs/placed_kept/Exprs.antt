@@ -8,10 +8,16 @@ use Rattle.pfc_tree.specs.declared.tree.MulOp.{MulOp}
 use Rattle.pfc_tree.specs.Symbols.{Text}
 use Rattle.pfc_tree.specs.trees.Exprs.{ExprTree, SimpleTree, TermTree, FactorTree, ActualTree, sum, product, number, literal, negation, paren, applied}
 use Rattle.pfc_tree.specs.views.Exprs.{exprs_of, selectors_of, actuals_of, multipliers_of, summands_of}
-use Rattle.pfc_tree.specs.kept.Exprs.{Step, here, next, AreKept, sign_trace, expr_trace, simple_trace, summands_trace, term_trace, multipliers_trace, factor_trace, desig_trace, selectors_trace, selector_trace, exprs_trace, comma_exprs_trace, actuals_trace, comma_actuals_trace, actual_trace}
+use Rattle.pfc_tree.specs.kept.Exprs.{Step, here, next, AreKept, sign_trace, expr_trace, simple_trace, summands_trace, term_trace, multipliers_trace}
+use Rattle.pfc_tree.specs.kept.Exprs.{factor_trace, desig_trace, selectors_trace, selector_trace, exprs_trace, comma_exprs_trace, actuals_trace}
+use Rattle.pfc_tree.specs.kept.Exprs.{comma_actuals_trace, actual_trace}
 use Rattle.pfc_grammar.specs.placed.Reading.{Outcome, Reader, bind, then_read, peek}
-use Rattle.pfc_grammar.specs.placed.Exprs.{selector_behind, desig_behind, desig_with, actual_with, actuals_with, paren_behind, applied_behind, plain_factor, factor_with, multiplier_behind, term_with, summand_behind, simple_behind, simple_with, expr_from, expr_with, no_expr, factor_at, expr_at}
-use Rattle.pfc_grammar.proofs.placed_kept.Readers.{same_traces, Reaches, Leads, Traced, Leading, Keeps, Whole, led, keeps_pure, leads_pure, keeps_stop, keeps_stop_deep, keeps_bind, keeps_then, pass_branch, keep_branch, keep_branch_twice, pass_then, keep_then, keeps_choose}
+use Rattle.pfc_grammar.specs.placed.Exprs.{selector_behind, desig_behind, desig_with, actual_with, actuals_with, paren_behind, applied_behind, plain_factor}
+use Rattle.pfc_grammar.specs.placed.Exprs.{factor_with, multiplier_behind, term_with, summand_behind, simple_behind, simple_with, expr_from, expr_with, no_expr}
+use Rattle.pfc_grammar.specs.placed.Exprs.{factor_at, expr_at}
+use Rattle.pfc_grammar.proofs.placed_kept.Readers.{same_traces, Reaches, Leads, Traced, Leading, Keeps, Whole, led, keeps_pure, leads_pure, keeps_stop}
+use Rattle.pfc_grammar.proofs.placed_kept.Readers.{keeps_stop_deep, keeps_bind, keeps_then, pass_branch, keep_branch, keep_branch_twice, pass_then, keep_then}
+use Rattle.pfc_grammar.proofs.placed_kept.Readers.{keeps_choose}
 use Rattle.pfc_grammar.proofs.placed_kept.Loops.{behind_next, between_next, closed, Items, keep_items, keeps_many, list_then, keeps_list}
 
 module _ {e : Reader ExprTree} (h : Whole expr_trace e) where

@@ -1,11 +1,13 @@
 -- The places that a loop over tokens keeps are those of the tokens that it takes.
-use Rattle.std.proofs.Common.{◌≡◌, ℕ, zero, suc, List, [], ◌∷◌, ◌++◌, length, Bool, true, false, Option, Some, None, Ok, Err, refl, sym, ap, subst, ◌∙◌, append_assoc, append-nil}
+use Rattle.std.proofs.Common.{◌≡◌, ℕ, zero, suc, List, [], ◌∷◌, ◌++◌, length, Bool, true, false, Option, Some, None, Ok, Err, refl, sym, ap, subst, ◌∙◌}
+use Rattle.std.proofs.Common.{append_assoc, append-nil}
 use Rattle.pfc_base.specs.declared.places.Place.{Place}
 use Rattle.pfc_base.specs.declared.tokens.Token.{Token}
 use Rattle.pfc_tree.specs.Symbols.{Symbol}
 use Rattle.pfc_tree.specs.kept.Exprs.{Step, here, next, AreKept}
 use Rattle.pfc_tree.specs.kept.Types.{flag_trace}
-use Rattle.pfc_grammar.specs.placed.Reading.{Outcome, Reader, pure, then_read, bind, stop, branch_at, branch, choose_at, choose, many_turns, many_onto, many, some_of, list_of, end_turns, end_onto, list_end, while_turns, while_onto, many_while}
+use Rattle.pfc_grammar.specs.placed.Reading.{Outcome, Reader, pure, then_read, bind, stop, branch_at, branch, choose_at, choose, many_turns, many_onto, many}
+use Rattle.pfc_grammar.specs.placed.Reading.{some_of, list_of, end_turns, end_onto, list_end, while_turns, while_onto, many_while}
 use Rattle.pfc_grammar.proofs.placed_kept.Readers.{kept_both, Reaches, Leads, Traced, Leading, Keeps, Whole, led}
 
 -- the trace of a list goes through its items by T

@@ -13,11 +13,16 @@ use Rattle.pfc_tree.specs.views.Parts.{parts_of}
 use Rattle.pfc_tree.specs.kept.Exprs.{Step, here, next, AreKept, expr_trace}
 use Rattle.pfc_tree.specs.kept.Types.{names_trace, comma_names_trace, flag_trace, formals_trace, type_trace}
 use Rattle.pfc_tree.specs.kept.Stmts.{stmt_trace, stmts_trace, body_trace}
-use Rattle.pfc_tree.specs.kept.Parts.{exports_trace, entries_trace, ending_trace, heading_trace, part_trace, parts_trace, sub_trace, module_trace, process_trace, params_trace, trace_of, ArePlacesOf}
+use Rattle.pfc_tree.specs.kept.Parts.{exports_trace, entries_trace, ending_trace, heading_trace, part_trace, parts_trace, sub_trace, module_trace}
+use Rattle.pfc_tree.specs.kept.Parts.{process_trace, params_trace, trace_of, ArePlacesOf}
 use Rattle.pfc_grammar.specs.placed.Reading.{Reader, finish}
 use Rattle.pfc_grammar.specs.placed.Types.{names_behind, names}
-use Rattle.pfc_grammar.specs.placed.Parts.{SubHead, procedure_head, function_head, guarded_head, sub_behind, export_behind, body_end, ending, module_behind, entry_behind, type_word, process_behind, block_with, part_with, parts_at, params, program_behind, program_at, whole_at, read_tokens}
-use Rattle.pfc_grammar.proofs.placed_kept.Readers.{same_traces, Reaches, Leads, Traced, Leading, Keeps, Whole, led, keeps_pure, leads_pure, keeps_stop, keeps_stop_deep, keeps_bind, keeps_then, pass_branch, keep_branch, pass_then, keep_then, keeps_choose, keeps_take, keeps_made}
+use Rattle.pfc_grammar.specs.placed.Parts.{SubHead, procedure_head, function_head, guarded_head, sub_behind, export_behind, body_end, ending, module_behind}
+use Rattle.pfc_grammar.specs.placed.Parts.{entry_behind, type_word, process_behind, block_with, part_with, parts_at, params, program_behind, program_at}
+use Rattle.pfc_grammar.specs.placed.Parts.{whole_at, read_tokens}
+use Rattle.pfc_grammar.proofs.placed_kept.Readers.{same_traces, Reaches, Leads, Traced, Leading, Keeps, Whole, led, keeps_pure, leads_pure, keeps_stop}
+use Rattle.pfc_grammar.proofs.placed_kept.Readers.{keeps_stop_deep, keeps_bind, keeps_then, pass_branch, keep_branch, pass_then, keep_then, keeps_choose}
+use Rattle.pfc_grammar.proofs.placed_kept.Readers.{keeps_take, keeps_made}
 use Rattle.pfc_grammar.proofs.placed_kept.Loops.{pass_items, separate, leads_onto, keeps_many, keeps_while}
 use Rattle.pfc_grammar.proofs.placed_kept.Exprs.{keeps_expr_at}
 use Rattle.pfc_grammar.proofs.placed_kept.Types.{keeps_names, keeps_formals, keeps_const_items, keeps_type_items, keeps_var_items, keeps_type_at}

@@ -8,10 +8,15 @@ use Rattle.pfc_tree.specs.trees.Stmts.{StmtTree}
 use Rattle.pfc_tree.specs.views.Stmts.{stmts_of, arms_of, alts_of}
 use Rattle.pfc_tree.specs.kept.Exprs.{Step, here, next, expr_trace}
 use Rattle.pfc_tree.specs.kept.Types.{constant_trace, comma_constants_trace, constants_trace, formals_trace}
-use Rattle.pfc_tree.specs.kept.Stmts.{replication_trace, guard_trace, pri_trace, stmt_trace, stmts_trace, semicolon_stmts_trace, body_trace, arm_trace, arms_trace, semicolon_arms_trace, accept_trace, alt_trace, comm_trace, alts_trace, or_alts_trace}
+use Rattle.pfc_tree.specs.kept.Stmts.{replication_trace, guard_trace, pri_trace, stmt_trace, stmts_trace, semicolon_stmts_trace, body_trace, arm_trace}
+use Rattle.pfc_tree.specs.kept.Stmts.{arms_trace, semicolon_arms_trace, accept_trace, alt_trace, comm_trace, alts_trace, or_alts_trace}
 use Rattle.pfc_grammar.specs.placed.Reading.{Reader}
-use Rattle.pfc_grammar.specs.placed.Stmts.{test_before, for_head, accept_head, labels, spread_behind, replication, guard, alt_head, requeue_behind, action_behind, comm_behind, message, message_or_wait, comm_plain, stmts_with, body_behind, body_with, block_behind, if_behind, arm_with, case_behind, while_behind, repeat_behind, for_behind, cobegin_behind, accept_behind, accepting_behind, comm_with, alt_with, select_behind, pri_behind, stmt_second, stmt_with, stmt_at}
-use Rattle.pfc_grammar.proofs.placed_kept.Readers.{same_traces, Traced, Leading, Keeps, Whole, keeps_pure, leads_pure, keeps_stop, keeps_stop_deep, keeps_bind, keeps_then, pass_branch, keep_branch, keep_branch_twice, pass_then, keep_then, keeps_choose, keeps_end}
+use Rattle.pfc_grammar.specs.placed.Stmts.{test_before, for_head, accept_head, labels, spread_behind, replication, guard, alt_head, requeue_behind}
+use Rattle.pfc_grammar.specs.placed.Stmts.{action_behind, comm_behind, message, message_or_wait, comm_plain, stmts_with, body_behind, body_with, block_behind}
+use Rattle.pfc_grammar.specs.placed.Stmts.{if_behind, arm_with, case_behind, while_behind, repeat_behind, for_behind, cobegin_behind, accept_behind}
+use Rattle.pfc_grammar.specs.placed.Stmts.{accepting_behind, comm_with, alt_with, select_behind, pri_behind, stmt_second, stmt_with, stmt_at}
+use Rattle.pfc_grammar.proofs.placed_kept.Readers.{same_traces, Traced, Leading, Keeps, Whole, keeps_pure, leads_pure, keeps_stop, keeps_stop_deep, keeps_bind}
+use Rattle.pfc_grammar.proofs.placed_kept.Readers.{keeps_then, pass_branch, keep_branch, keep_branch_twice, pass_then, keep_then, keeps_choose, keeps_end}
 use Rattle.pfc_grammar.proofs.placed_kept.Loops.{separate, keeps_many, keeps_list, leads_list_end}
 use Rattle.pfc_grammar.proofs.placed_kept.Exprs.{leads_desig_behind, keeps_desig, keeps_actuals, keeps_expr_at}
 use Rattle.pfc_grammar.proofs.placed_kept.Types.{keeps_constant, keeps_formals}

@@ -7,11 +7,17 @@ use Rattle.pfc_tree.specs.Symbols.{Text}
 use Rattle.pfc_tree.specs.trees.Types.{TypeTree, VarTree, TypeItemTree, GroupTree}
 use Rattle.pfc_tree.specs.views.Types.{vars_of}
 use Rattle.pfc_tree.specs.kept.Exprs.{Step, here, next, sign_trace}
-use Rattle.pfc_tree.specs.kept.Types.{names_trace, comma_names_trace, constant_trace, range_trace, ranges_trace, comma_ranges_trace, flag_trace, type_trace, var_trace, fields_trace, semicolon_fields_trace, vars_trace, const_items_trace, type_items_trace, group_trace, semicolon_groups_trace, formals_trace}
+use Rattle.pfc_tree.specs.kept.Types.{names_trace, comma_names_trace, constant_trace, range_trace, ranges_trace, comma_ranges_trace, flag_trace, type_trace}
+use Rattle.pfc_tree.specs.kept.Types.{var_trace, fields_trace, semicolon_fields_trace, vars_trace, const_items_trace, type_items_trace, group_trace}
+use Rattle.pfc_tree.specs.kept.Types.{semicolon_groups_trace, formals_trace}
 use Rattle.pfc_grammar.specs.placed.Reading.{Reader}
-use Rattle.pfc_grammar.specs.placed.Types.{names_behind, names, constant_behind, constant_reader, range, var_behind, var_with, channel_behind, array_behind, record_behind, type_with, type_at, const_item_behind, const_items, type_item_behind, type_items, var_item_behind, var_items, group_behind, group, formals}
-use Rattle.pfc_grammar.proofs.placed_kept.Readers.{same_traces, Traced, Leading, Keeps, Whole, keeps_pure, leads_pure, keeps_stop, keeps_stop_deep, keeps_bind, keeps_then, pass_branch, keep_branch, pass_then, keep_then, keeps_choose, keeps_take, keeps_end}
-use Rattle.pfc_grammar.proofs.placed_kept.Loops.{behind_next, between_next, closed, keep_items, separate, leads_onto, keeps_some, list_then, keeps_list, leads_list_end}
+use Rattle.pfc_grammar.specs.placed.Types.{names_behind, names, constant_behind, constant_reader, range, var_behind, var_with, channel_behind, array_behind}
+use Rattle.pfc_grammar.specs.placed.Types.{record_behind, type_with, type_at, const_item_behind, const_items, type_item_behind, type_items, var_item_behind}
+use Rattle.pfc_grammar.specs.placed.Types.{var_items, group_behind, group, formals}
+use Rattle.pfc_grammar.proofs.placed_kept.Readers.{same_traces, Traced, Leading, Keeps, Whole, keeps_pure, leads_pure, keeps_stop, keeps_stop_deep, keeps_bind}
+use Rattle.pfc_grammar.proofs.placed_kept.Readers.{keeps_then, pass_branch, keep_branch, pass_then, keep_then, keeps_choose, keeps_take, keeps_end}
+use Rattle.pfc_grammar.proofs.placed_kept.Loops.{behind_next, between_next, closed, keep_items, separate, leads_onto, keeps_some, list_then, keeps_list}
+use Rattle.pfc_grammar.proofs.placed_kept.Loops.{leads_list_end}
 
 -- behind the first name
 pub leads_names_behind : (F : List Step → List Step) (x : Text × Place) → Keeps (λ steps. F (here x.1 ∷ next ∷ steps)) (Leading (λ xs steps. F (names_trace xs ++ steps))) (names_behind x)

@@ -2,12 +2,19 @@
 use Rattle.std.proofs.Common.{refl, Option, Some, None, option_map}
 use Rattle.pfc_base.specs.declared.places.Place.{Place}
 use Rattle.pfc_tree.specs.declared.tree.Sign.{Sign}
-use Rattle.pfc_tree.specs.shapes.Exprs.{ExprShape, SimpleShape, SummandShapes, TermShape, MultiplierShapes, FactorShape, DesigShape, SelectorShape, SelectorShapes, ExprShapes, ActualShape, ActualShapes}
+use Rattle.pfc_tree.specs.shapes.Exprs.{ExprShape, SimpleShape, SummandShapes, TermShape, MultiplierShapes, FactorShape, DesigShape, SelectorShape}
+use Rattle.pfc_tree.specs.shapes.Exprs.{SelectorShapes, ExprShapes, ActualShape, ActualShapes}
 use Rattle.pfc_tree.specs.shapes.Exprs as shape
-use Rattle.pfc_tree.specs.trees.Exprs.{ExprTree, SimpleTree, SummandTrees, TermTree, MultiplierTrees, FactorTree, DesigTree, SelectorTree, SelectorTrees, ExprTrees, ActualTree, ActualTrees, plain, related, sum, no_summands, more_summands, product, no_multipliers, more_multipliers, number, literal, negation, paren, applied, desig, index, field, no_selectors, more_selectors, no_exprs, more_exprs, actual, actual_width, no_actuals, more_actuals}
-use Rattle.pfc_tree.specs.forget.Exprs.{forget_expr, forget_simple, forget_summands, forget_term, forget_multipliers, forget_factor, forget_desig, forget_selector, forget_selectors, forget_exprs, forget_actual, forget_actuals}
-use Rattle.pfc_tree.specs.kept.Exprs.{sign_trace, expr_trace, simple_trace, summands_trace, term_trace, multipliers_trace, factor_trace, desig_trace, selector_trace, selectors_trace, exprs_trace, comma_exprs_trace, actual_trace, actuals_trace, comma_actuals_trace}
-use Rattle.pfc_grammar.proofs.placed_one.Filling.{Filler, fill_done, fill_here, fill_next, fill_part, fill_last, Fills, fills_done, fills_here, fills_next, fills_part, fills_last, fills_three}
+use Rattle.pfc_tree.specs.trees.Exprs.{ExprTree, SimpleTree, SummandTrees, TermTree, MultiplierTrees, FactorTree, DesigTree, SelectorTree, SelectorTrees}
+use Rattle.pfc_tree.specs.trees.Exprs.{ExprTrees, ActualTree, ActualTrees, plain, related, sum, no_summands, more_summands, product, no_multipliers}
+use Rattle.pfc_tree.specs.trees.Exprs.{more_multipliers, number, literal, negation, paren, applied, desig, index, field, no_selectors, more_selectors, no_exprs}
+use Rattle.pfc_tree.specs.trees.Exprs.{more_exprs, actual, actual_width, no_actuals, more_actuals}
+use Rattle.pfc_tree.specs.forget.Exprs.{forget_expr, forget_simple, forget_summands, forget_term, forget_multipliers, forget_factor, forget_desig}
+use Rattle.pfc_tree.specs.forget.Exprs.{forget_selector, forget_selectors, forget_exprs, forget_actual, forget_actuals}
+use Rattle.pfc_tree.specs.kept.Exprs.{sign_trace, expr_trace, simple_trace, summands_trace, term_trace, multipliers_trace, factor_trace, desig_trace}
+use Rattle.pfc_tree.specs.kept.Exprs.{selector_trace, selectors_trace, exprs_trace, comma_exprs_trace, actual_trace, actuals_trace, comma_actuals_trace}
+use Rattle.pfc_grammar.proofs.placed_one.Filling.{Filler, fill_done, fill_here, fill_next, fill_part, fill_last, Fills, fills_done, fills_here, fills_next}
+use Rattle.pfc_grammar.proofs.placed_one.Filling.{fills_part, fills_last, fills_three}
 
 abbrev pub fill_sign : Option Sign → Filler (Option (Sign × Place))
 fill_sign None = fill_done None

@@ -10,19 +10,23 @@ use Rattle.pfc_tree.specs.shapes.Parts.{KindShape, EntryShape, PartShape, PartSh
 use Rattle.pfc_tree.specs.shapes.Parts as shape
 use Rattle.pfc_tree.specs.trees.Types.{GroupTree}
 use Rattle.pfc_tree.specs.trees.Stmts.{BodyTree, body}
-use Rattle.pfc_tree.specs.trees.Parts.{KindTree, EntryTree, PartTree, PartTrees, SubTree, ModuleTree, ProcessTree, ProgramTree, procedure, function, guarded, consts, types, vars, sub_part, monitor, resource, process_part, no_parts, more_parts, sub, the_module, process}
+use Rattle.pfc_tree.specs.trees.Parts.{KindTree, EntryTree, PartTree, PartTrees, SubTree, ModuleTree, ProcessTree, ProgramTree, procedure, function, guarded}
+use Rattle.pfc_tree.specs.trees.Parts.{consts, types, vars, sub_part, monitor, resource, process_part, no_parts, more_parts, sub, the_module, process}
 use Rattle.pfc_tree.specs.forget.Types.{bare, forget_group}
 use Rattle.pfc_tree.specs.forget.Stmts.{forget_body}
 use Rattle.pfc_tree.specs.forget.Parts.{forget_kind, forget_entry, forget_part, forget_parts, forget_sub, forget_module, forget_process, forget_program}
 use Rattle.pfc_tree.specs.kept.Exprs.{here, next, expr_trace}
 use Rattle.pfc_tree.specs.kept.Types.{flag_trace, formals_trace}
 use Rattle.pfc_tree.specs.kept.Stmts.{body_trace}
-use Rattle.pfc_tree.specs.kept.Parts.{exports_trace, entries_trace, ending_trace, heading_trace, part_trace, parts_trace, sub_trace, module_trace, process_trace, params_trace, trace_of}
+use Rattle.pfc_tree.specs.kept.Parts.{exports_trace, entries_trace, ending_trace, heading_trace, part_trace, parts_trace, sub_trace, module_trace}
+use Rattle.pfc_tree.specs.kept.Parts.{process_trace, params_trace, trace_of}
 use Rattle.pfc_grammar.specs.Outcomes.{IsTreeOf}
 use Rattle.pfc_grammar.proofs.Exact.{one_tree}
-use Rattle.pfc_grammar.proofs.placed_one.Filling.{Filler, fill_done, fill_here, fill_next, fill_part, fill_last, fill_flag, Fills, fills_done, fills_here, fills_next, fills_part, fills_last, fills_three, fills_four, fills_six, fills_flag}
+use Rattle.pfc_grammar.proofs.placed_one.Filling.{Filler, fill_done, fill_here, fill_next, fill_part, fill_last, fill_flag, Fills, fills_done, fills_here}
+use Rattle.pfc_grammar.proofs.placed_one.Filling.{fills_next, fills_part, fills_last, fills_three, fills_four, fills_six, fills_flag}
 use Rattle.pfc_grammar.proofs.placed_one.Exprs.{fill_expr, fills_expr}
-use Rattle.pfc_grammar.proofs.placed_one.Types.{fill_comma_names, fill_names, fill_vars, fill_const_items, fill_type_items, fill_formals, fills_comma_names, fills_names, fills_vars, fills_const_items, fills_type_items, fills_formals}
+use Rattle.pfc_grammar.proofs.placed_one.Types.{fill_comma_names, fill_names, fill_vars, fill_const_items, fill_type_items, fill_formals, fills_comma_names}
+use Rattle.pfc_grammar.proofs.placed_one.Types.{fills_names, fills_vars, fills_const_items, fills_type_items, fills_formals}
 use Rattle.pfc_grammar.proofs.placed_one.Stmts.{fill_stmts, fill_body, fills_stmts, fills_body}
 
 abbrev fill_exports : List (List Text) → Filler (List (List (Text × Place)))

@@ -6,13 +6,19 @@ use Rattle.pfc_tree.specs.shapes.Stmts.{SpreadShape, StmtShape, StmtShapes, Body
 use Rattle.pfc_tree.specs.shapes.Stmts as shape
 use Rattle.pfc_tree.specs.declared.tree.Spread.{Spread}
 use Rattle.pfc_tree.specs.trees.Exprs.{ExprTree}
-use Rattle.pfc_tree.specs.trees.Stmts.{StmtTree, StmtTrees, BodyTree, ArmTree, ArmTrees, AcceptTree, AltTree, AltTrees, CommTree, empty, null, block, if_then, if_then_else, case_of, while_do, repeat_until, repeat_forever, for_do, cobegin, accepting, requeue, select, select_else, assign, send, receive, call, no_stmts, more_stmts, body, arm, no_arms, more_arms, accept, accept_do, alt, no_alts, more_alts, comm_accept, comm_send, comm_receive, timeout, terminate}
+use Rattle.pfc_tree.specs.trees.Stmts.{StmtTree, StmtTrees, BodyTree, ArmTree, ArmTrees, AcceptTree, AltTree, AltTrees, CommTree, empty, null, block, if_then}
+use Rattle.pfc_tree.specs.trees.Stmts.{if_then_else, case_of, while_do, repeat_until, repeat_forever, for_do, cobegin, accepting, requeue, select, select_else}
+use Rattle.pfc_tree.specs.trees.Stmts.{assign, send, receive, call, no_stmts, more_stmts, body, arm, no_arms, more_arms, accept, accept_do, alt, no_alts}
+use Rattle.pfc_tree.specs.trees.Stmts.{more_alts, comm_accept, comm_send, comm_receive, timeout, terminate}
 use Rattle.pfc_tree.specs.forget.Exprs.{forget_expr}
-use Rattle.pfc_tree.specs.forget.Stmts.{forget_spread, forget_stmt, forget_stmts, forget_body, forget_arm, forget_arms, forget_accept, forget_alt, forget_alts, forget_comm}
+use Rattle.pfc_tree.specs.forget.Stmts.{forget_spread, forget_stmt, forget_stmts, forget_body, forget_arm, forget_arms, forget_accept, forget_alt, forget_alts}
+use Rattle.pfc_tree.specs.forget.Stmts.{forget_comm}
 use Rattle.pfc_tree.specs.kept.Exprs.{here, next, expr_trace}
 use Rattle.pfc_tree.specs.kept.Types.{constant_trace, flag_trace}
-use Rattle.pfc_tree.specs.kept.Stmts.{replication_trace, guard_trace, pri_trace, stmt_trace, stmts_trace, semicolon_stmts_trace, body_trace, arm_trace, arms_trace, semicolon_arms_trace, accept_trace, alt_trace, alts_trace, or_alts_trace, comm_trace}
-use Rattle.pfc_grammar.proofs.placed_one.Filling.{Filler, fill_done, fill_here, fill_next, fill_part, fill_last, fill_flag, Fills, fills_done, fills_here, fills_next, fills_part, fills_last, fills_three, fills_four, fills_flag}
+use Rattle.pfc_tree.specs.kept.Stmts.{replication_trace, guard_trace, pri_trace, stmt_trace, stmts_trace, semicolon_stmts_trace, body_trace, arm_trace}
+use Rattle.pfc_tree.specs.kept.Stmts.{arms_trace, semicolon_arms_trace, accept_trace, alt_trace, alts_trace, or_alts_trace, comm_trace}
+use Rattle.pfc_grammar.proofs.placed_one.Filling.{Filler, fill_done, fill_here, fill_next, fill_part, fill_last, fill_flag, Fills, fills_done, fills_here}
+use Rattle.pfc_grammar.proofs.placed_one.Filling.{fills_next, fills_part, fills_last, fills_three, fills_four, fills_flag}
 use Rattle.pfc_grammar.proofs.placed_one.Exprs.{fill_expr, fill_desig, fill_actuals, fills_expr, fills_desig, fills_actuals}
 use Rattle.pfc_grammar.proofs.placed_one.Types.{fill_constant, fill_constants, fill_formals, fills_constant, fills_constants, fills_formals}
 

@@ -9,10 +9,14 @@ use Rattle.pfc_tree.specs.declared.tree.ConstItem.{ConstItem}
 use Rattle.pfc_tree.specs.shapes.Types.{ConstantShape, RangeShape, ConstItemShape, TypeItemShape, GroupShape, TypeShape, VarShape, VarShapes}
 use Rattle.pfc_tree.specs.shapes.Types as shape
 use Rattle.pfc_tree.specs.trees.Types.{TypeTree, VarTree, VarTrees, TypeItemTree, GroupTree, named, channel, array, fields, var_item, no_vars, more_vars}
-use Rattle.pfc_tree.specs.forget.Types.{bare, forget_constant, forget_range, forget_const_item, forget_type, forget_var, forget_vars, forget_type_item, forget_group}
+use Rattle.pfc_tree.specs.forget.Types.{bare, forget_constant, forget_range, forget_const_item, forget_type, forget_var, forget_vars, forget_type_item}
+use Rattle.pfc_tree.specs.forget.Types.{forget_group}
 use Rattle.pfc_tree.specs.kept.Exprs.{here, next}
-use Rattle.pfc_tree.specs.kept.Types.{comma_names_trace, names_trace, constant_trace, comma_constants_trace, constants_trace, range_trace, comma_ranges_trace, ranges_trace, flag_trace, type_trace, var_trace, fields_trace, semicolon_fields_trace, vars_trace, const_items_trace, type_items_trace, group_trace, semicolon_groups_trace, formals_trace}
-use Rattle.pfc_grammar.proofs.placed_one.Filling.{Filler, fill_done, fill_here, fill_next, fill_part, fill_last, fill_flag, Fills, fills_done, fills_here, fills_next, fills_part, fills_last, fills_three, fills_flag}
+use Rattle.pfc_tree.specs.kept.Types.{comma_names_trace, names_trace, constant_trace, comma_constants_trace, constants_trace, range_trace, comma_ranges_trace}
+use Rattle.pfc_tree.specs.kept.Types.{ranges_trace, flag_trace, type_trace, var_trace, fields_trace, semicolon_fields_trace, vars_trace, const_items_trace}
+use Rattle.pfc_tree.specs.kept.Types.{type_items_trace, group_trace, semicolon_groups_trace, formals_trace}
+use Rattle.pfc_grammar.proofs.placed_one.Filling.{Filler, fill_done, fill_here, fill_next, fill_part, fill_last, fill_flag, Fills, fills_done, fills_here}
+use Rattle.pfc_grammar.proofs.placed_one.Filling.{fills_next, fills_part, fills_last, fills_three, fills_flag}
 use Rattle.pfc_grammar.proofs.placed_one.Exprs.{fill_sign, fills_sign}
 
 abbrev pub fill_comma_names : List Text → Filler (List (Text × Place))

@@ -1,5 +1,6 @@
 -- The readers of expressions read lawful expressions.
-use Rattle.std.proofs.Common.{◌≡◌, ℕ, zero, suc, ℤ, List, [], ◌∷◌, ◌++◌, Bool, true, false, ◌||◌, Option, Some, None, is_some, nat_eq, ◌⊎◌, inl, inr, refl, sym, ap, subst, ◌∙◌, append_assoc, append-nil}
+use Rattle.std.proofs.Common.{◌≡◌, ℕ, zero, suc, ℤ, List, [], ◌∷◌, ◌++◌, Bool, true, false, ◌||◌, Option, Some, None, is_some, nat_eq, ◌⊎◌, inl, inr, refl, sym}
+use Rattle.std.proofs.Common.{ap, subst, ◌∙◌, append_assoc, append-nil}
 use Rattle.pfc_base.specs.declared.tokens.Kind.TheVariants.{Word, Sign, Name, Number, Literal}
 use Rattle.pfc_base.specs.declared.word.TheConstants.{NOT, OR}
 use Rattle.pfc_base.specs.declared.sign.TheConstants.{OPEN_PAREN, CLOSE_PAREN, OPEN_BRACKET, CLOSE_BRACKET, COMMA, COLON}
@@ -8,16 +9,24 @@ use Rattle.pfc_tree.specs.declared.tree.AddOp.{AddOp}
 use Rattle.pfc_tree.specs.declared.tree.AddOp.TheVariants.{Or}
 use Rattle.pfc_tree.specs.declared.tree.MulOp.{MulOp}
 use Rattle.pfc_tree.specs.Symbols.{Symbol, Text}
-use Rattle.pfc_tree.specs.shapes.Exprs.{ExprShape, TermShape, FactorShape, SelectorShape, ActualShape, plain, related, sum, no_summands, product, no_multipliers, number, literal, negation, paren, applied, desig, index, field, no_selectors, actual, actual_width, no_actuals}
-use Rattle.pfc_tree.specs.tokens.Exprs.{sign_symbol, sign_tokens, relation_symbol, add_symbol, mul_symbol, expr_tokens, simple_tokens, summands_tokens, term_tokens, multipliers_tokens, factor_tokens, desig_tokens, selectors_tokens, selector_tokens, exprs_tokens, comma_exprs_tokens, actuals_tokens, comma_actuals_tokens, actual_tokens}
-use Rattle.pfc_tree.specs.lawful.Exprs.{IsLawfulExpr, IsLawfulSimple, AreLawfulSummands, IsLawfulTerm, AreLawfulMultipliers, IsLawfulFactor, IsLawfulDesig, AreLawfulSelectors, IsLawfulSelector, AreLawfulIndices, AreLawfulExprs, AreLawfulActuals, IsLawfulActual}
+use Rattle.pfc_tree.specs.shapes.Exprs.{ExprShape, TermShape, FactorShape, SelectorShape, ActualShape, plain, related, sum, no_summands, product}
+use Rattle.pfc_tree.specs.shapes.Exprs.{no_multipliers, number, literal, negation, paren, applied, desig, index, field, no_selectors, actual, actual_width}
+use Rattle.pfc_tree.specs.shapes.Exprs.{no_actuals}
+use Rattle.pfc_tree.specs.tokens.Exprs.{sign_symbol, sign_tokens, relation_symbol, add_symbol, mul_symbol, expr_tokens, simple_tokens, summands_tokens}
+use Rattle.pfc_tree.specs.tokens.Exprs.{term_tokens, multipliers_tokens, factor_tokens, desig_tokens, selectors_tokens, selector_tokens, exprs_tokens}
+use Rattle.pfc_tree.specs.tokens.Exprs.{comma_exprs_tokens, actuals_tokens, comma_actuals_tokens, actual_tokens}
+use Rattle.pfc_tree.specs.lawful.Exprs.{IsLawfulExpr, IsLawfulSimple, AreLawfulSummands, IsLawfulTerm, AreLawfulMultipliers, IsLawfulFactor, IsLawfulDesig}
+use Rattle.pfc_tree.specs.lawful.Exprs.{AreLawfulSelectors, IsLawfulSelector, AreLawfulIndices, AreLawfulExprs, AreLawfulActuals, IsLawfulActual}
 use Rattle.pfc_grammar.specs.Reading.{Reader}
 use Rattle.pfc_grammar.specs.Heads.{as_sign, as_name, as_number, as_literal, as_plus_minus, as_add_op, takes, is_word, begins_factor, begins_expr}
-use Rattle.pfc_grammar.specs.grammar.Exprs.{exprs_of, selectors_of, actuals_of, multipliers_of, summands_of, selector_behind, desig_behind, desig_with, actual_with, actuals_with, paren_behind, applied_behind, plain_factor, factor_with, multiplier_behind, term_with, summand_behind, simple_behind, simple_with, expr_with, no_expr, factor_at, expr_at}
+use Rattle.pfc_grammar.specs.grammar.Exprs.{exprs_of, selectors_of, actuals_of, multipliers_of, summands_of, selector_behind, desig_behind, desig_with}
+use Rattle.pfc_grammar.specs.grammar.Exprs.{actual_with, actuals_with, paren_behind, applied_behind, plain_factor, factor_with, multiplier_behind, term_with}
+use Rattle.pfc_grammar.specs.grammar.Exprs.{summand_behind, simple_behind, simple_with, expr_with, no_expr, factor_at, expr_at}
 use Rattle.pfc_grammar.proofs.Lists.{none, or-left, or-right, or_cases, flat, separated, Each, Chain}
 use Rattle.pfc_grammar.proofs.Sound.{Sound, Goes, here, sound_pure, sound_stop, sound_bind, sound_last, sound_branch, sound_level}
 use Rattle.pfc_grammar.proofs.SoundLoops.{sound_bind_behind, sound_each, sound_separated, Filled}
-use Rattle.pfc_grammar.proofs.Heads.{sign_is, name_is, number_is, literal_is, plus_minus_is, relation_is, add_op_is, mul_op_is, selector_symbol, selector_is, taken, word_was, sound_on, sound_sign, sound_name, sound_on_word, sound_on_sign}
+use Rattle.pfc_grammar.proofs.Heads.{sign_is, name_is, number_is, literal_is, plus_minus_is, relation_is, add_op_is, mul_op_is, selector_symbol, selector_is}
+use Rattle.pfc_grammar.proofs.Heads.{taken, word_was, sound_on, sound_sign, sound_name, sound_on_word, sound_on_sign}
 
 pub chain_filled : {A : Type 0} (s : Symbol) (X : A → Symbol → Bool) (L : A → Type 0) (xs : List A) → Chain s X L xs → Filled L xs
 chain_filled s X L [] h = absurd h

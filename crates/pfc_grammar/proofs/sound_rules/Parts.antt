@@ -1,33 +1,42 @@
 -- The readers of parts and programs read lawful ones.
-use Rattle.std.proofs.Common.{◌≡◌, ℕ, zero, suc, ◌≤◌, List, [], ◌∷◌, ◌++◌, length, Bool, true, false, Some, None, refl, sym, ap, subst, ◌∙◌, append_assoc, append-nil, arith}
+use Rattle.std.proofs.Common.{◌≡◌, ℕ, zero, suc, ◌≤◌, List, [], ◌∷◌, ◌++◌, length, Bool, true, false, Some, None, refl, sym, ap, subst, ◌∙◌, append_assoc}
+use Rattle.std.proofs.Common.{append-nil, arith}
 use Rattle.pfc_base.specs.declared.tokens.Kind.TheVariants.{Word, Sign, Name, Literal}
-use Rattle.pfc_base.specs.declared.word.TheConstants.{BEGIN, CONST, END, ENTRY, EXPORT, FUNCTION, GUARDED, MONITOR, PROCEDURE, PROCESS, PROGRAM, RESOURCE, TYPE, VAR, WHEN}
+use Rattle.pfc_base.specs.declared.word.TheConstants.{BEGIN, CONST, END, ENTRY, EXPORT, FUNCTION, GUARDED, MONITOR, PROCEDURE, PROCESS, PROGRAM, RESOURCE, TYPE}
+use Rattle.pfc_base.specs.declared.word.TheConstants.{VAR, WHEN}
 use Rattle.pfc_base.specs.declared.sign.TheConstants.{OPEN_PAREN, CLOSE_PAREN, DOT, SEMICOLON, COLON}
 use Rattle.pfc_tree.specs.Symbols.{Symbol, Text}
 use Rattle.pfc_tree.specs.shapes.Exprs.{ExprShape, literal}
 use Rattle.pfc_tree.specs.shapes.Types.{TypeShape}
 use Rattle.pfc_tree.specs.shapes.Stmts.{StmtShape, BodyShape, body, empty, no_stmts, more_stmts}
-use Rattle.pfc_tree.specs.shapes.Parts.{EntryShape, PartShape, ProgramShape, procedure, function, guarded, consts, types, vars, sub_part, monitor, resource, process_part, no_parts, sub, the_module, process}
+use Rattle.pfc_tree.specs.shapes.Parts.{EntryShape, PartShape, ProgramShape, procedure, function, guarded, consts, types, vars, sub_part, monitor, resource}
+use Rattle.pfc_tree.specs.shapes.Parts.{process_part, no_parts, sub, the_module, process}
 use Rattle.pfc_tree.specs.tokens.Exprs.{expr_tokens}
 use Rattle.pfc_tree.specs.tokens.Types.{names_tokens, type_tokens, formals_tokens}
 use Rattle.pfc_tree.specs.tokens.Stmts.{stmt_tokens, body_tokens}
-use Rattle.pfc_tree.specs.tokens.Parts.{exports_tokens, entries_tokens, ending_tokens, many_tokens, heading_tokens, part_tokens, parts_tokens, sub_tokens, module_tokens, process_tokens, params_tokens, tokens_of}
+use Rattle.pfc_tree.specs.tokens.Parts.{exports_tokens, entries_tokens, ending_tokens, many_tokens, heading_tokens, part_tokens, parts_tokens, sub_tokens}
+use Rattle.pfc_tree.specs.tokens.Parts.{module_tokens, process_tokens, params_tokens, tokens_of}
 use Rattle.pfc_tree.specs.lawful.Exprs.{IsLawfulExpr}
 use Rattle.pfc_tree.specs.lawful.Types.{IsFilled, IsLawfulType, AreLawfulFormals}
 use Rattle.pfc_tree.specs.lawful.Stmts.{IsLawfulStmt}
-use Rattle.pfc_tree.specs.lawful.Parts.{Home, of_program, of_resource, of_other, HoldsModules, HoldsGuarded, IsLawfulKind, AreLawfulExports, AreLawfulEntries, IsLawfulEnding, IsLawfulPart, AreLawfulParts, IsLawfulSub, IsLawfulModule, IsLawfulProcess, IsLawful}
+use Rattle.pfc_tree.specs.lawful.Parts.{Home, of_program, of_resource, of_other, HoldsModules, HoldsGuarded, IsLawfulKind, AreLawfulExports, AreLawfulEntries}
+use Rattle.pfc_tree.specs.lawful.Parts.{IsLawfulEnding, IsLawfulPart, AreLawfulParts, IsLawfulSub, IsLawfulModule, IsLawfulProcess, IsLawful}
 use Rattle.pfc_grammar.specs.Reading.{Reader, pure, bind, stop, stop_deep, choose, finish}
 use Rattle.pfc_grammar.specs.Heads.{as_word_of_resource, as_word_of_program, is_word, begins_block, begins_part}
 use Rattle.pfc_grammar.specs.grammar.Exprs.{expr_at}
 use Rattle.pfc_grammar.specs.grammar.Types.{type_at, vars_of}
 use Rattle.pfc_grammar.specs.grammar.Stmts.{stmt_at}
-use Rattle.pfc_grammar.specs.grammar.Parts.{parts_of, SubHead, procedure_head, function_head, guarded_head, sub_behind, export_behind, ending, module_behind, entry_behind, type_word, process_behind, block_with, part_with, parts_at, params, program_behind, program_at, whole_at}
+use Rattle.pfc_grammar.specs.grammar.Parts.{parts_of, SubHead, procedure_head, function_head, guarded_head, sub_behind, export_behind, ending, module_behind}
+use Rattle.pfc_grammar.specs.grammar.Parts.{entry_behind, type_word, process_behind, block_with, part_with, parts_at, params, program_behind, program_at}
+use Rattle.pfc_grammar.specs.grammar.Parts.{whole_at}
 use Rattle.pfc_grammar.proofs.Lists.{Apart, none, or_else, flat, Each, regroup4, regroup6}
 use Rattle.pfc_grammar.proofs.Sound.{When, Took, Halts, Sound, Goes, here, sound_pure, sound_stop, sound_any, sound_bind, sound_last, sound_branch, sound_level}
 use Rattle.pfc_grammar.proofs.SoundLoops.{sound_bind_behind, sound_each, sound_many_while}
-use Rattle.pfc_grammar.proofs.Heads.{word_is, word_of_resource_is, word_of_program_is, taken, word_was, sound_word, sound_sign, sound_name, sound_on_word, sound_on_sign}
+use Rattle.pfc_grammar.proofs.Heads.{word_is, word_of_resource_is, word_of_program_is, taken, word_was, sound_word, sound_sign, sound_name, sound_on_word}
+use Rattle.pfc_grammar.proofs.Heads.{sound_on_sign}
 use Rattle.pfc_grammar.proofs.sound_rules.Exprs.{free, is_or, expr_of, sound_expr_at}
-use Rattle.pfc_grammar.proofs.sound_rules.Types.{const_items_written, const_items_lawful, type_items_written, type_items_lawful, vars_written, fields_lawful, sound_names, sound_formals, sound_const_items, sound_type_items, sound_var_items, sound_type_at}
+use Rattle.pfc_grammar.proofs.sound_rules.Types.{const_items_written, const_items_lawful, type_items_written, type_items_lawful, vars_written, fields_lawful}
+use Rattle.pfc_grammar.proofs.sound_rules.Types.{sound_names, sound_formals, sound_const_items, sound_type_items, sound_var_items, sound_type_at}
 use Rattle.pfc_grammar.proofs.sound_rules.Stmts.{stmt_behind, sound_body, sound_stmt_at}
 
 -- What lists write, and when they are lawful.

@@ -1,27 +1,41 @@
 -- The readers of statements read lawful ones.
-use Rattle.std.proofs.Common.{◌≡◌, ℕ, zero, suc, List, [], ◌∷◌, ◌++◌, Bool, true, false, ◌||◌, ◌&&◌, Option, Some, None, is_some, refl, sym, ap, subst, ◌∙◌, append_assoc, append-nil}
+use Rattle.std.proofs.Common.{◌≡◌, ℕ, zero, suc, List, [], ◌∷◌, ◌++◌, Bool, true, false, ◌||◌, ◌&&◌, Option, Some, None, is_some, refl, sym, ap, subst, ◌∙◌}
+use Rattle.std.proofs.Common.{append_assoc, append-nil}
 use Rattle.pfc_base.specs.declared.tokens.Kind.TheVariants.{Word, Sign, Name, Literal}
-use Rattle.pfc_base.specs.declared.word.TheConstants.{ACCEPT, BEGIN, CASE, COBEGIN, COEND, DO, ELSE, END, FOR, FOREVER, IF, NULL, OF, OR, PRI, REPEAT, REPLICATE, REQUEUE, SELECT, TERMINATE, THEN, TIMEOUT, TO, UNTIL, WHEN, WHILE}
+use Rattle.pfc_base.specs.declared.word.TheConstants.{ACCEPT, BEGIN, CASE, COBEGIN, COEND, DO, ELSE, END, FOR, FOREVER, IF, NULL, OF, OR, PRI, REPEAT}
+use Rattle.pfc_base.specs.declared.word.TheConstants.{REPLICATE, REQUEUE, SELECT, TERMINATE, THEN, TIMEOUT, TO, UNTIL, WHEN, WHILE}
 use Rattle.pfc_base.specs.declared.sign.TheConstants.{BECOMES, COMMA, SEMICOLON, COLON, SEND, RECEIVE, ARROW}
 use Rattle.pfc_tree.specs.Symbols.{Symbol, Text}
 use Rattle.pfc_tree.specs.shapes.Exprs.{ExprShape, literal, desig, no_selectors, no_actuals}
 use Rattle.pfc_tree.specs.shapes.Types as type_shape
 use Rattle.pfc_tree.specs.shapes.Types.{ConstantShape, GroupShape}
-use Rattle.pfc_tree.specs.shapes.Stmts.{SpreadShape, StmtShape, StmtShapes, ArmShape, AcceptShape, AltShape, AltShapes, CommShape, empty, null, block, if_then, if_then_else, case_of, while_do, repeat_until, repeat_forever, for_do, cobegin, accepting, requeue, select, select_else, assign, send, receive, call, no_stmts, more_stmts, body, arm, no_arms, more_arms, accept, accept_do, alt, no_alts, more_alts, comm_accept, comm_send, comm_receive, timeout, terminate}
+use Rattle.pfc_tree.specs.shapes.Stmts.{SpreadShape, StmtShape, StmtShapes, ArmShape, AcceptShape, AltShape, AltShapes, CommShape, empty, null, block, if_then}
+use Rattle.pfc_tree.specs.shapes.Stmts.{if_then_else, case_of, while_do, repeat_until, repeat_forever, for_do, cobegin, accepting, requeue, select, select_else}
+use Rattle.pfc_tree.specs.shapes.Stmts.{assign, send, receive, call, no_stmts, more_stmts, body, arm, no_arms, more_arms, accept, accept_do, alt, no_alts}
+use Rattle.pfc_tree.specs.shapes.Stmts.{more_alts, comm_accept, comm_send, comm_receive, timeout, terminate}
 use Rattle.pfc_tree.specs.tokens.Exprs.{expr_tokens}
 use Rattle.pfc_tree.specs.tokens.Types.{constant_tokens, constants_tokens, last_tokens, formals_tokens}
-use Rattle.pfc_tree.specs.tokens.Stmts.{direction_symbol, pri_tokens, spread_tokens, replication_tokens, guard_tokens, stmt_tokens, stmts_tokens, semicolon_stmts_tokens, body_tokens, arm_tokens, arms_tokens, semicolon_arms_tokens, accept_tokens, alt_tokens, comm_tokens, alts_tokens, or_alts_tokens}
+use Rattle.pfc_tree.specs.tokens.Stmts.{direction_symbol, pri_tokens, spread_tokens, replication_tokens, guard_tokens, stmt_tokens, stmts_tokens}
+use Rattle.pfc_tree.specs.tokens.Stmts.{semicolon_stmts_tokens, body_tokens, arm_tokens, arms_tokens, semicolon_arms_tokens, accept_tokens, alt_tokens}
+use Rattle.pfc_tree.specs.tokens.Stmts.{comm_tokens, alts_tokens, or_alts_tokens}
 use Rattle.pfc_tree.specs.lawful.Exprs.{IsLawfulExpr}
 use Rattle.pfc_tree.specs.lawful.Types.{IsFilled, IsLawfulConstant, AreLawfulConstants, AreLawfulFormals}
-use Rattle.pfc_tree.specs.lawful.Stmts.{ends_in_if, accept_ends_in_if, ends_in_expr, accept_ends_in_expr, comm_ends_in_if, comm_ends_in_expr, last_ends_in_if, last_ends_in_expr, alt_ends_in_if, alt_ends_in_expr, alts_end_in_if, IsLawfulSpread, IsReplicable, MayStandBehind, IsLawfulGuard, IsLawfulStmt, HasLawfulStmts, AreLawfulStmts, IsLawfulBody, IsLawfulArm, HasLawfulArms, AreLawfulArms, IsLawfulAccept, IsLawfulAlt, IsLawfulComm, HasLawfulAlts, AreLawfulAlts}
+use Rattle.pfc_tree.specs.lawful.Stmts.{ends_in_if, accept_ends_in_if, ends_in_expr, accept_ends_in_expr, comm_ends_in_if, comm_ends_in_expr, last_ends_in_if}
+use Rattle.pfc_tree.specs.lawful.Stmts.{last_ends_in_expr, alt_ends_in_if, alt_ends_in_expr, alts_end_in_if, IsLawfulSpread, IsReplicable, MayStandBehind}
+use Rattle.pfc_tree.specs.lawful.Stmts.{IsLawfulGuard, IsLawfulStmt, HasLawfulStmts, AreLawfulStmts, IsLawfulBody, IsLawfulArm, HasLawfulArms, AreLawfulArms}
+use Rattle.pfc_tree.specs.lawful.Stmts.{IsLawfulAccept, IsLawfulAlt, IsLawfulComm, HasLawfulAlts, AreLawfulAlts}
 use Rattle.pfc_grammar.specs.Reading.{Reader, many}
 use Rattle.pfc_grammar.specs.Heads.{as_word, as_sign, as_name, takes, is_word, begins_stmt}
 use Rattle.pfc_grammar.specs.grammar.Exprs.{expr_at}
-use Rattle.pfc_grammar.specs.grammar.Stmts.{stmts_of, arms_of, alts_of, test_before, for_head, accept_head, labels, spread_behind, replication, guard, alt_head, requeue_behind, action_behind, comm_behind, message, message_or_wait, comm_plain, stmts_with, body_behind, body_with, if_behind, arm_with, case_behind, while_behind, repeat_behind, for_behind, cobegin_behind, accept_behind, comm_with, alt_with, select_behind, stmt_second, stmt_with, stmt_at}
+use Rattle.pfc_grammar.specs.grammar.Stmts.{stmts_of, arms_of, alts_of, test_before, for_head, accept_head, labels, spread_behind, replication, guard, alt_head}
+use Rattle.pfc_grammar.specs.grammar.Stmts.{requeue_behind, action_behind, comm_behind, message, message_or_wait, comm_plain, stmts_with, body_behind}
+use Rattle.pfc_grammar.specs.grammar.Stmts.{body_with, if_behind, arm_with, case_behind, while_behind, repeat_behind, for_behind, cobegin_behind, accept_behind}
+use Rattle.pfc_grammar.specs.grammar.Stmts.{comm_with, alt_with, select_behind, stmt_second, stmt_with, stmt_at}
 use Rattle.pfc_grammar.proofs.Lists.{none, or-left, or-right, or-both, or_else, flat, flat-snoc, separated, Each, each-snoc, Chain, behind_last, shift}
 use Rattle.pfc_grammar.proofs.Sound.{Sound, Goes, here, sound_pure, sound_stop, sound_any, sound_less, sound_bind, sound_bind_at, sound_last, sound_level}
 use Rattle.pfc_grammar.proofs.SoundLoops.{sound_behind, sound_bind_behind, sound_many_onto, sound_separated, sound_ended, last_of, Filled}
-use Rattle.pfc_grammar.proofs.Heads.{word_is, sign_is, name_is, direction_is, taken, word_was, sound_on, sound_next, sound_word, sound_sign, sound_name, sound_on_word, sound_on_sign}
+use Rattle.pfc_grammar.proofs.Heads.{word_is, sign_is, name_is, direction_is, taken, word_was, sound_on, sound_next, sound_word, sound_sign, sound_name}
+use Rattle.pfc_grammar.proofs.Heads.{sound_on_word, sound_on_sign}
 use Rattle.pfc_grammar.proofs.sound_rules.Exprs.{chain_filled, free, is_or, expr_of, sound_desig_behind, sound_desig, sound_actuals, sound_expr_at}
 use Rattle.pfc_grammar.proofs.sound_rules.Types.{filled, constants_written, constants_lawful, sound_constant, sound_formals}
 

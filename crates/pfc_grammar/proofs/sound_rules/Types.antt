@@ -1,21 +1,30 @@
 -- The readers of constants, types and groups of parameters read lawful ones.
-use Rattle.std.proofs.Common.{◌≡◌, ℕ, zero, suc, List, [], ◌∷◌, ◌++◌, Bool, true, false, ◌||◌, Option, Some, None, ◌⊎◌, inl, inr, refl, sym, ap, subst, ◌∙◌, append_assoc}
+use Rattle.std.proofs.Common.{◌≡◌, ℕ, zero, suc, List, [], ◌∷◌, ◌++◌, Bool, true, false, ◌||◌, Option, Some, None, ◌⊎◌, inl, inr, refl, sym, ap, subst, ◌∙◌}
+use Rattle.std.proofs.Common.{append_assoc}
 use Rattle.pfc_base.specs.declared.tokens.Kind.TheVariants.{Word, Sign, Name, Literal}
 use Rattle.pfc_base.specs.declared.word.TheConstants.{ARRAY, CHANNEL, END, OF, RECORD, VAR}
 use Rattle.pfc_base.specs.declared.sign.TheConstants.{EQUAL, OPEN_PAREN, CLOSE_PAREN, OPEN_BRACKET, CLOSE_BRACKET, DOT_DOT, COMMA, SEMICOLON, COLON}
 use Rattle.pfc_tree.specs.declared.tree.Sign as plus_or_minus
 use Rattle.pfc_tree.specs.Symbols.{Symbol, Text}
-use Rattle.pfc_tree.specs.shapes.Types.{ConstantShape, RangeShape, ConstItemShape, TypeItemShape, GroupShape, TypeShape, VarShape, number, constant, literal, named, channel, array, fields, var_item, no_vars, more_vars}
+use Rattle.pfc_tree.specs.shapes.Types.{ConstantShape, RangeShape, ConstItemShape, TypeItemShape, GroupShape, TypeShape, VarShape, number, constant, literal}
+use Rattle.pfc_tree.specs.shapes.Types.{named, channel, array, fields, var_item, no_vars, more_vars}
 use Rattle.pfc_tree.specs.tokens.Exprs.{sign_symbol, sign_tokens}
-use Rattle.pfc_tree.specs.tokens.Types.{comma_names_tokens, names_tokens, constant_tokens, comma_constants_tokens, constants_tokens, range_tokens, comma_ranges_tokens, ranges_tokens, last_tokens, type_tokens, var_tokens, fields_tokens, semicolon_fields_tokens, vars_tokens, const_items_tokens, type_items_tokens, reference_tokens, group_tokens, semicolon_groups_tokens, formals_tokens}
-use Rattle.pfc_tree.specs.lawful.Types.{IsFilled, IsLawfulConstant, AreLawfulConstants, IsLawfulRange, AreLawfulRanges, IsLawfulType, IsLawfulVar, AreLawfulFields, AreLawfulVars, AreLawfulConstItems, AreLawfulTypeItems, AreLawfulFormals}
+use Rattle.pfc_tree.specs.tokens.Types.{comma_names_tokens, names_tokens, constant_tokens, comma_constants_tokens, constants_tokens, range_tokens}
+use Rattle.pfc_tree.specs.tokens.Types.{comma_ranges_tokens, ranges_tokens, last_tokens, type_tokens, var_tokens, fields_tokens, semicolon_fields_tokens}
+use Rattle.pfc_tree.specs.tokens.Types.{vars_tokens, const_items_tokens, type_items_tokens, reference_tokens, group_tokens, semicolon_groups_tokens}
+use Rattle.pfc_tree.specs.tokens.Types.{formals_tokens}
+use Rattle.pfc_tree.specs.lawful.Types.{IsFilled, IsLawfulConstant, AreLawfulConstants, IsLawfulRange, AreLawfulRanges, IsLawfulType, IsLawfulVar}
+use Rattle.pfc_tree.specs.lawful.Types.{AreLawfulFields, AreLawfulVars, AreLawfulConstItems, AreLawfulTypeItems, AreLawfulFormals}
 use Rattle.pfc_grammar.specs.Reading.{Reader, take_as}
 use Rattle.pfc_grammar.specs.Heads.{as_sign, as_name, takes, is_word, begins_type}
-use Rattle.pfc_grammar.specs.grammar.Types.{vars_of, names_behind, names, constant_behind, constant_reader, range, var_behind, var_with, channel_behind, array_behind, record_behind, type_with, type_at, const_item_behind, const_items, type_item_behind, type_items, var_item_behind, var_items, group_behind, group, formals}
+use Rattle.pfc_grammar.specs.grammar.Types.{vars_of, names_behind, names, constant_behind, constant_reader, range, var_behind, var_with, channel_behind}
+use Rattle.pfc_grammar.specs.grammar.Types.{array_behind, record_behind, type_with, type_at, const_item_behind, const_items, type_item_behind, type_items}
+use Rattle.pfc_grammar.specs.grammar.Types.{var_item_behind, var_items, group_behind, group, formals}
 use Rattle.pfc_grammar.proofs.Lists.{none, or_cases, flat, flat-snoc, separated, Each}
 use Rattle.pfc_grammar.proofs.Sound.{Sound, Goes, here, sound_pure, sound_stop, sound_any, sound_less, sound_bind, sound_last, sound_branch, sound_level}
 use Rattle.pfc_grammar.proofs.SoundLoops.{sound_behind, sound_bind_behind, sound_many_onto, sound_some_each, sound_separated, sound_ended, last_of, Filled}
-use Rattle.pfc_grammar.proofs.Heads.{sign_is, name_is, number_is, literal_is, plus_minus_is, taken, word_was, sound_on, sound_symbol, sound_word, sound_sign, sound_name, sound_on_word, sound_on_sign}
+use Rattle.pfc_grammar.proofs.Heads.{sign_is, name_is, number_is, literal_is, plus_minus_is, taken, word_was, sound_on, sound_symbol, sound_word, sound_sign}
+use Rattle.pfc_grammar.proofs.Heads.{sound_name, sound_on_word, sound_on_sign}
 use Rattle.pfc_grammar.proofs.sound_rules.Exprs.{chain_filled, free}
 
 -- What lists write, and when they are lawful.

@@ -1,13 +1,15 @@
 -- The readers of parts and programs. Each is a line of the grammar, which stands above it; `p` reads the parts of a home,
 -- `e` an expression and `s` a statement in the block that is read.
 use Rattle.std.specs.Prelude.{ℕ, zero, suc, List, [], ◌∷◌, Bool, true, false, Option, Some, None}
-use Rattle.pfc_base.specs.declared.word.TheConstants.{CONST, END, ENTRY, EXPORT, FUNCTION, GUARDED, MONITOR, PROCEDURE, PROCESS, PROGRAM, RESOURCE, TYPE, VAR, WHEN}
+use Rattle.pfc_base.specs.declared.word.TheConstants.{CONST, END, ENTRY, EXPORT, FUNCTION, GUARDED, MONITOR, PROCEDURE, PROCESS, PROGRAM, RESOURCE, TYPE, VAR}
+use Rattle.pfc_base.specs.declared.word.TheConstants.{WHEN}
 use Rattle.pfc_base.specs.declared.sign.TheConstants.{OPEN_PAREN, CLOSE_PAREN, DOT, SEMICOLON, COLON}
 use Rattle.pfc_tree.specs.Symbols.{Text, Symbol}
 use Rattle.pfc_tree.specs.shapes.Exprs.{ExprShape}
 use Rattle.pfc_tree.specs.shapes.Types.{GroupShape, TypeShape}
 use Rattle.pfc_tree.specs.shapes.Stmts.{StmtShape, BodyShape}
-use Rattle.pfc_tree.specs.shapes.Parts.{KindShape, EntryShape, PartShape, PartShapes, SubShape, ModuleShape, ProcessShape, ProgramShape, procedure, function, guarded, consts, types, vars, sub_part, monitor, resource, process_part, no_parts, more_parts, sub, the_module, process}
+use Rattle.pfc_tree.specs.shapes.Parts.{KindShape, EntryShape, PartShape, PartShapes, SubShape, ModuleShape, ProcessShape, ProgramShape, procedure, function}
+use Rattle.pfc_tree.specs.shapes.Parts.{guarded, consts, types, vars, sub_part, monitor, resource, process_part, no_parts, more_parts, sub, the_module, process}
 use Rattle.pfc_tree.specs.lawful.Parts.{Home, of_program, of_resource, of_other}
 use Rattle.pfc_tree.specs.Grammar.{most_depth}
 use Rattle.pfc_grammar.specs.Reading.{Reader, Outcome, pure, ◌>>=◌, stop, stop_deep, branch, choose, take_as, many, many_while, finish}

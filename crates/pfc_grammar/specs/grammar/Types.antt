@@ -5,7 +5,8 @@ use Rattle.pfc_base.specs.declared.word.TheConstants.{ARRAY, CHANNEL, END, OF, R
 use Rattle.pfc_base.specs.declared.sign.TheConstants.{EQUAL, OPEN_PAREN, CLOSE_PAREN, OPEN_BRACKET, CLOSE_BRACKET, DOT_DOT, COMMA, SEMICOLON, COLON}
 use Rattle.pfc_tree.specs.declared.tree.Sign as plus_or_minus
 use Rattle.pfc_tree.specs.Symbols.{Text}
-use Rattle.pfc_tree.specs.shapes.Types.{ConstantShape, RangeShape, ConstItemShape, TypeItemShape, GroupShape, TypeShape, VarShape, VarShapes, number, constant, literal, named, channel, array, fields, var_item, no_vars, more_vars}
+use Rattle.pfc_tree.specs.shapes.Types.{ConstantShape, RangeShape, ConstItemShape, TypeItemShape, GroupShape, TypeShape, VarShape, VarShapes, number, constant}
+use Rattle.pfc_tree.specs.shapes.Types.{literal, named, channel, array, fields, var_item, no_vars, more_vars}
 use Rattle.pfc_grammar.specs.Reading.{Reader, pure, ◌>>=◌, stop, stop_deep, branch, choose, take_as, many_onto, some_of, list_of, list_end}
 use Rattle.pfc_grammar.specs.Heads.{as_word, as_sign, as_name, as_number, as_literal, as_plus_minus, is_word, begins_type}
 

@@ -7,9 +7,11 @@ use Rattle.pfc_tree.specs.declared.tree.Sign as plus_or_minus
 use Rattle.pfc_tree.specs.declared.tree.AddOp.{AddOp}
 use Rattle.pfc_tree.specs.declared.tree.MulOp.{MulOp}
 use Rattle.pfc_tree.specs.Symbols.{Text}
-use Rattle.pfc_tree.specs.trees.Exprs.{ExprTree, SimpleTree, TermTree, FactorTree, DesigTree, SelectorTree, ActualTree, ActualTrees, plain, related, sum, product, number, literal, negation, paren, applied, desig, index, field, actual, actual_width, no_actuals}
+use Rattle.pfc_tree.specs.trees.Exprs.{ExprTree, SimpleTree, TermTree, FactorTree, DesigTree, SelectorTree, ActualTree, ActualTrees, plain, related, sum}
+use Rattle.pfc_tree.specs.trees.Exprs.{product, number, literal, negation, paren, applied, desig, index, field, actual, actual_width, no_actuals}
 use Rattle.pfc_tree.specs.views.Exprs.{exprs_of, selectors_of, actuals_of, multipliers_of, summands_of}
-use Rattle.pfc_grammar.specs.Heads.{as_word, as_sign, as_name, as_number, as_literal, as_plus_minus, as_relation, as_add_op, as_mul_op, as_selector, is_word, begins_expr}
+use Rattle.pfc_grammar.specs.Heads.{as_word, as_sign, as_name, as_number, as_literal, as_plus_minus, as_relation, as_add_op, as_mul_op, as_selector, is_word}
+use Rattle.pfc_grammar.specs.Heads.{begins_expr}
 use Rattle.pfc_grammar.specs.placed.Reading.{Reader, pure, ◌>>=◌, stop, stop_deep, peek, branch, choose, take_as, many, list_of}
 
 -- behind `[`, which is true and stands at p: expr {"," expr} "]"; behind ".": name

@@ -3,13 +3,15 @@
 use Rattle.std.specs.Prelude.{ℕ, zero, suc, List, [], Bool, true, false, Option, Some, None}
 use Rattle.pfc_base.specs.declared.places.Place.{Place}
 use Rattle.pfc_base.specs.declared.tokens.Token.{Token}
-use Rattle.pfc_base.specs.declared.word.TheConstants.{CONST, END, ENTRY, EXPORT, FUNCTION, GUARDED, MONITOR, PROCEDURE, PROCESS, PROGRAM, RESOURCE, TYPE, VAR, WHEN}
+use Rattle.pfc_base.specs.declared.word.TheConstants.{CONST, END, ENTRY, EXPORT, FUNCTION, GUARDED, MONITOR, PROCEDURE, PROCESS, PROGRAM, RESOURCE, TYPE, VAR}
+use Rattle.pfc_base.specs.declared.word.TheConstants.{WHEN}
 use Rattle.pfc_base.specs.declared.sign.TheConstants.{OPEN_PAREN, CLOSE_PAREN, DOT, SEMICOLON, COLON}
 use Rattle.pfc_tree.specs.Symbols.{Text}
 use Rattle.pfc_tree.specs.trees.Exprs.{ExprTree}
 use Rattle.pfc_tree.specs.trees.Types.{GroupTree, TypeTree}
 use Rattle.pfc_tree.specs.trees.Stmts.{StmtTree, BodyTree, body}
-use Rattle.pfc_tree.specs.trees.Parts.{KindTree, EntryTree, PartTree, SubTree, ModuleTree, ProcessTree, ProgramTree, procedure, function, guarded, consts, types, vars, sub_part, monitor, resource, process_part, sub, the_module, process}
+use Rattle.pfc_tree.specs.trees.Parts.{KindTree, EntryTree, PartTree, SubTree, ModuleTree, ProcessTree, ProgramTree, procedure, function, guarded, consts}
+use Rattle.pfc_tree.specs.trees.Parts.{types, vars, sub_part, monitor, resource, process_part, sub, the_module, process}
 use Rattle.pfc_tree.specs.views.Types.{vars_of}
 use Rattle.pfc_tree.specs.views.Parts.{parts_of}
 use Rattle.pfc_tree.specs.lawful.Parts.{Home, of_program, of_resource, of_other}

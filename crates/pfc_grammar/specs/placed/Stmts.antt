@@ -2,14 +2,17 @@
 -- What is read behind a word or a sign is given the place of that token where the statement keeps it.
 use Rattle.std.specs.Prelude.{ℕ, zero, suc, List, Bool, true, false, Option, Some, None, is_some}
 use Rattle.pfc_base.specs.declared.places.Place.{Place}
-use Rattle.pfc_base.specs.declared.word.TheConstants.{ACCEPT, BEGIN, CASE, COBEGIN, COEND, DO, ELSE, END, FOR, FOREVER, IF, NULL, OF, OR, PRI, REPEAT, REPLICATE, REQUEUE, SELECT, TERMINATE, THEN, TIMEOUT, TO, UNTIL, WHEN, WHILE}
+use Rattle.pfc_base.specs.declared.word.TheConstants.{ACCEPT, BEGIN, CASE, COBEGIN, COEND, DO, ELSE, END, FOR, FOREVER, IF, NULL, OF, OR, PRI, REPEAT}
+use Rattle.pfc_base.specs.declared.word.TheConstants.{REPLICATE, REQUEUE, SELECT, TERMINATE, THEN, TIMEOUT, TO, UNTIL, WHEN, WHILE}
 use Rattle.pfc_base.specs.declared.sign.TheConstants.{BECOMES, COMMA, SEMICOLON, COLON, SEND, RECEIVE, ARROW}
 use Rattle.pfc_tree.specs.declared.tree.Constant.{Constant}
 use Rattle.pfc_tree.specs.declared.tree.Spread.{Spread}
 use Rattle.pfc_tree.specs.Symbols.{Text}
 use Rattle.pfc_tree.specs.trees.Exprs.{ExprTree}
 use Rattle.pfc_tree.specs.trees.Types.{GroupTree}
-use Rattle.pfc_tree.specs.trees.Stmts.{StmtTree, BodyTree, ArmTree, AcceptTree, AltTree, CommTree, empty, null, block, if_then, if_then_else, case_of, while_do, repeat_until, repeat_forever, for_do, cobegin, accepting, requeue, select, select_else, assign, send, receive, call, body, arm, accept, accept_do, alt, comm_accept, comm_send, comm_receive, timeout, terminate}
+use Rattle.pfc_tree.specs.trees.Stmts.{StmtTree, BodyTree, ArmTree, AcceptTree, AltTree, CommTree, empty, null, block, if_then, if_then_else, case_of, while_do}
+use Rattle.pfc_tree.specs.trees.Stmts.{repeat_until, repeat_forever, for_do, cobegin, accepting, requeue, select, select_else, assign, send, receive, call}
+use Rattle.pfc_tree.specs.trees.Stmts.{body, arm, accept, accept_do, alt, comm_accept, comm_send, comm_receive, timeout, terminate}
 use Rattle.pfc_tree.specs.views.Stmts.{stmts_of, arms_of, alts_of}
 use Rattle.pfc_grammar.specs.Heads.{as_word, as_sign, as_name, as_direction, is_word, begins_stmt}
 use Rattle.pfc_grammar.specs.placed.Reading.{Reader, pure, ◌>>=◌, stop, stop_deep, branch, choose, take_as, many, list_of, list_end}

@@ -1,9 +1,11 @@
 -- Calls in which no rule is broken: what is read is a simple variable, and what is written is a string or a number.
-use Rattle.std.proofs.Common.{◌≡◌, ℕ, zero, suc, ◌+◌, ◌-◌, Bool, true, false, ◌&&◌, ◌||◌, if◌then◌else◌, nat_lt, get_or, Option, Some, None, refl, sym, ap, ◌∙◌, subst, arith}
+use Rattle.std.proofs.Common.{◌≡◌, ℕ, zero, suc, ◌+◌, ◌-◌, Bool, true, false, ◌&&◌, ◌||◌, if◌then◌else◌, nat_lt, get_or, Option, Some, None, refl, sym, ap, ◌∙◌}
+use Rattle.std.proofs.Common.{subst, arith}
 use Rattle.std.proofs.lemmas.Bool.Decides.{nat_tests}
 use Rattle.pfc_base.specs.declared.places.Place.{Place}
 use Rattle.pfc_tree.specs.Symbols.{Text}
-use Rattle.pfc_tree.specs.trees.Exprs.{ExprTree, DesigTree, SelectorTree, SelectorTrees, ActualTree, ActualTrees, plain, sum, no_summands, product, no_multipliers, literal, applied, desig, no_selectors, more_selectors, no_actuals, more_actuals, actual, actual_width}
+use Rattle.pfc_tree.specs.trees.Exprs.{ExprTree, DesigTree, SelectorTree, SelectorTrees, ActualTree, ActualTrees, plain, sum, no_summands, product}
+use Rattle.pfc_tree.specs.trees.Exprs.{no_multipliers, literal, applied, desig, no_selectors, more_selectors, no_actuals, more_actuals, actual, actual_width}
 use Rattle.pfc_types.specs.Scopes.{meaning_of}
 use Rattle.pfc_types.specs.Types.{integer, char, is_same, is_simple}
 use Rattle.pfc_types.specs.declared.scope.Meaning.{Meaning}
@@ -13,8 +15,10 @@ use Rattle.pfc_types.specs.declared.view.Found.{Found}
 use Rattle.pfc_types.specs.rules.Kinds.{where_so, variable_type, may_be_simple, may_have}
 use Rattle.pfc_types.specs.rules.Constants.{is_char}
 use Rattle.pfc_types.specs.rules.Routines.{routine_of, called_function, site_fits}
-use Rattle.pfc_types.specs.rules.Expressions.{Env, find, expr_place, as_desig, as_literal, guard_allows, no_selector, use_type, found_lends, is_variable, expr_type, selected, args_fit, first_type, desig_type}
-use Rattle.pfc_types.specs.rules.Calls.{may_be_read, broken_read, broken_reads, written, broken_written, broken_writes, call_routine, call_name, call_part_of, broken_call}
+use Rattle.pfc_types.specs.rules.Expressions.{Env, find, expr_place, as_desig, as_literal, guard_allows, no_selector, use_type, found_lends, is_variable}
+use Rattle.pfc_types.specs.rules.Expressions.{expr_type, selected, args_fit, first_type, desig_type}
+use Rattle.pfc_types.specs.rules.Calls.{may_be_read, broken_read, broken_reads, written, broken_written, broken_writes, call_routine, call_name, call_part_of}
+use Rattle.pfc_types.specs.rules.Calls.{broken_call}
 use Rattle.pfc_meaning.specs.Operators.{no_procedure, procedures, procedure_of}
 use Rattle.pfc_meaning.specs.Statements.{string_in, as_string, item_of}
 use Rattle.pfc_relation.specs.code.Statements.{procedure_meant, called}

@@ -1,5 +1,6 @@
 -- Names that are declared by a program that is its main body alone: where no rule is noted, each is a constant, a type or a variable.
-use Rattle.std.proofs.Common.{◌≡◌, ◌≢◌, ◌⊎◌, inl, inr, ℕ, ◌+◌, ◌<◌, nat_lt, Bool, true, false, ◌&&◌, cond, if◌then◌else◌, is_some, List, [], ◌∷◌, ◌++◌, length, set, bytes_eq, option_map, Option, Some, None, refl, sym, ap, ◌∙◌, subst, arith}
+use Rattle.std.proofs.Common.{◌≡◌, ◌≢◌, ◌⊎◌, inl, inr, ℕ, ◌+◌, ◌<◌, nat_lt, Bool, true, false, ◌&&◌, cond, if◌then◌else◌, is_some, List, [], ◌∷◌, ◌++◌, length}
+use Rattle.std.proofs.Common.{set, bytes_eq, option_map, Option, Some, None, refl, sym, ap, ◌∙◌, subst, arith}
 use Rattle.std.specs.Option.{option_or}
 use Rattle.pfc_base.specs.declared.places.Place.{Place}
 use Rattle.pfc_tree.specs.Symbols.{Text}
@@ -15,7 +16,9 @@ use Rattle.pfc_types.specs.declared.scope.Meaning.TheVariants.{Constant, Named, 
 use Rattle.pfc_types.specs.declared.types.TypeId.{TypeId}
 use Rattle.pfc_types.specs.rules.Kinds.{where_so, type_meaning, variable_meaning}
 use Rattle.pfc_types.specs.rules.Constants.{Ordinal, Made, made, constant_value, broken_constant, type_place}
-use Rattle.pfc_types.specs.rules.Declarations.{in_program, constant_meaning, const_state, consts_state, type_state, types_state, shared_fits, condition_fits, owner_rules, owned_type, passes_most, populated, brought, var_name_state, var_names_state, var_state, vars_state, part_state, parts_state, cells_rule}
+use Rattle.pfc_types.specs.rules.Declarations.{in_program, constant_meaning, const_state, consts_state, type_state, types_state, shared_fits, condition_fits}
+use Rattle.pfc_types.specs.rules.Declarations.{owner_rules, owned_type, passes_most, populated, brought, var_name_state, var_names_state, var_state, vars_state}
+use Rattle.pfc_types.specs.rules.Declarations.{part_state, parts_state, cells_rule}
 use Rattle.pfc_types.specs.rules.FaultyNames.{constant_uses_faulty, type_uses_faulty}
 use Rattle.pfc_types.specs.rules.Whole.{begun, declared_parts, declared_all, main_cells, scopes_of}
 use Rattle.pfc_types.proofs.FaultyTypes.{written_exactly}

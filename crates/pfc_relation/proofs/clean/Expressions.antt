@@ -1,12 +1,15 @@
 -- Expressions in which no rule is broken: each has a type, and one whose type is not simple is a variable.
-use Rattle.std.proofs.Common.{◌≡◌, ℕ, zero, suc, Bool, true, false, ◌&&◌, ◌==◌, if◌then◌else◌, List, [], ◌∷◌, get_or, Option, Some, None, refl, sym, ap, ◌∙◌, arith}
+use Rattle.std.proofs.Common.{◌≡◌, ℕ, zero, suc, Bool, true, false, ◌&&◌, ◌==◌, if◌then◌else◌, List, [], ◌∷◌, get_or, Option, Some, None, refl, sym, ap, ◌∙◌}
+use Rattle.std.proofs.Common.{arith}
 use Rattle.std.proofs.lemmas.Bool.Decides.{nat_tests}
 use Rattle.pfc_base.specs.declared.places.Place.{Place}
 use Rattle.pfc_tree.specs.declared.tree.AddOp.{AddOp}
 use Rattle.pfc_tree.specs.declared.tree.AddOp.TheVariants.{Add, Sub, Or}
 use Rattle.pfc_tree.specs.declared.tree.MulOp.{MulOp}
 use Rattle.pfc_tree.specs.declared.tree.MulOp.TheVariants.{Mul, Div, Mod, And}
-use Rattle.pfc_tree.specs.trees.Exprs.{ExprTree, SummandTrees, MultiplierTrees, FactorTree, DesigTree, SelectorTrees, ActualTrees, plain, related, sum, no_summands, more_summands, product, no_multipliers, more_multipliers, number, literal, negation, paren, applied, desig, no_actuals, more_actuals, actual, actual_width}
+use Rattle.pfc_tree.specs.trees.Exprs.{ExprTree, SummandTrees, MultiplierTrees, FactorTree, DesigTree, SelectorTrees, ActualTrees, plain, related, sum}
+use Rattle.pfc_tree.specs.trees.Exprs.{no_summands, more_summands, product, no_multipliers, more_multipliers, number, literal, negation, paren, applied, desig}
+use Rattle.pfc_tree.specs.trees.Exprs.{no_actuals, more_actuals, actual, actual_width}
 use Rattle.pfc_types.specs.Faulty.{IsSimpleConstant}
 use Rattle.pfc_types.specs.Scopes.{meaning_of}
 use Rattle.pfc_types.specs.Types.{integer, boolean, char, is_same, is_simple}
@@ -15,8 +18,11 @@ use Rattle.pfc_types.specs.declared.scope.Meaning.TheVariants.{Constant, Named, 
 use Rattle.pfc_types.specs.declared.types.TypeId.{TypeId}
 use Rattle.pfc_types.specs.declared.view.Found.{Found}
 use Rattle.pfc_types.specs.rules.Kinds.{where_so, has, has_simple, may_have, may_be_simple, variable_type}
-use Rattle.pfc_types.specs.rules.Routines.{Want, a_value, a_simple_value, a_variable_of, gives, gives_alike, Routine, the_signal, a_function, a_procedure, a_delay, a_reader, a_writer, routines, routine_of, called_routine, called_function, routine_value, site_fits}
-use Rattle.pfc_types.specs.rules.Expressions.{Env, find, add_operand, mul_operand, operated, signed_type, guard_allows, no_selector, no_actual, plain_use, use_type, expr_type, summed, term_type, multiplied, factor_type, selected, args_fit, first_type, desig_type, broken_expr, broken_desig}
+use Rattle.pfc_types.specs.rules.Routines.{Want, a_value, a_simple_value, a_variable_of, gives, gives_alike, Routine, the_signal, a_function, a_procedure}
+use Rattle.pfc_types.specs.rules.Routines.{a_delay, a_reader, a_writer, routines, routine_of, called_routine, called_function, routine_value, site_fits}
+use Rattle.pfc_types.specs.rules.Expressions.{Env, find, add_operand, mul_operand, operated, signed_type, guard_allows, no_selector, no_actual, plain_use}
+use Rattle.pfc_types.specs.rules.Expressions.{use_type, expr_type, summed, term_type, multiplied, factor_type, selected, args_fit, first_type, desig_type}
+use Rattle.pfc_types.specs.rules.Expressions.{broken_expr, broken_desig}
 use Rattle.pfc_types.specs.rules.FaultyNames.{expr_uses_faulty, desig_uses_faulty}
 use Rattle.pfc_types.proofs.FaultyExprs.{expressions_faulty}
 use Rattle.pfc_types.proofs.Looks.{look_simple}

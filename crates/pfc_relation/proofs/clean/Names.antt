@@ -5,7 +5,10 @@ use Rattle.pfc_tree.specs.declared.tree.Constant.{Constant}
 use Rattle.pfc_tree.specs.declared.tree.Constant.TheVariants.{Number, Named as NamedConstant, Literal}
 use Rattle.pfc_tree.specs.declared.tree.Range.{Range}
 use Rattle.pfc_tree.specs.trees.Types.{TypeTree, VarTrees, named, channel, array, fields, var_item, no_vars, more_vars}
-use Rattle.pfc_tree.specs.trees.Exprs.{ExprTree, SimpleTree, SummandTrees, TermTree, MultiplierTrees, FactorTree, DesigTree, SelectorTree, SelectorTrees, ExprTrees, ActualTree, ActualTrees, plain, related, sum, no_summands, more_summands, product, no_multipliers, more_multipliers, number, literal, negation, paren, applied, desig, index, field, no_selectors, more_selectors, no_exprs, more_exprs, actual, actual_width, no_actuals, more_actuals}
+use Rattle.pfc_tree.specs.trees.Exprs.{ExprTree, SimpleTree, SummandTrees, TermTree, MultiplierTrees, FactorTree, DesigTree, SelectorTree, SelectorTrees}
+use Rattle.pfc_tree.specs.trees.Exprs.{ExprTrees, ActualTree, ActualTrees, plain, related, sum, no_summands, more_summands, product, no_multipliers}
+use Rattle.pfc_tree.specs.trees.Exprs.{more_multipliers, number, literal, negation, paren, applied, desig, index, field, no_selectors, more_selectors, no_exprs}
+use Rattle.pfc_tree.specs.trees.Exprs.{more_exprs, actual, actual_width, no_actuals, more_actuals}
 use Rattle.pfc_types.specs.Blocks.{Blocks}
 use Rattle.pfc_types.specs.Faulty.{BeginsPredeclared, HoldSimpleConstants}
 use Rattle.pfc_types.specs.Scopes.{Names, Level, look, meaning_of}
@@ -13,7 +16,10 @@ use Rattle.pfc_types.specs.declared.scope.Meaning.{Meaning}
 use Rattle.pfc_types.specs.declared.scope.Meaning.TheVariants.{Constant as AConstant, Named, Variable, Sub, Module, Process, Entry, Predeclared, Faulty}
 use Rattle.pfc_types.specs.declared.view.Found.{Found}
 use Rattle.pfc_types.specs.rules.Expressions.{Env, find}
-use Rattle.pfc_types.specs.rules.FaultyNames.{is_faulty_found, stands_faulty, constant_uses_faulty, ranges_use_faulty, type_uses_faulty, items_use_faulty, expr_uses_faulty, simple_uses_faulty, summands_use_faulty, term_uses_faulty, multipliers_use_faulty, factor_uses_faulty, desig_uses_faulty, selectors_use_faulty, selector_uses_faulty, exprs_use_faulty, actuals_use_faulty, actual_uses_faulty}
+use Rattle.pfc_types.specs.rules.FaultyNames.{is_faulty_found, stands_faulty, constant_uses_faulty, ranges_use_faulty, type_uses_faulty, items_use_faulty}
+use Rattle.pfc_types.specs.rules.FaultyNames.{expr_uses_faulty, simple_uses_faulty, summands_use_faulty, term_uses_faulty, multipliers_use_faulty}
+use Rattle.pfc_types.specs.rules.FaultyNames.{factor_uses_faulty, desig_uses_faulty, selectors_use_faulty, selector_uses_faulty, exprs_use_faulty}
+use Rattle.pfc_types.specs.rules.FaultyNames.{actuals_use_faulty, actual_uses_faulty}
 
 -- what a name of a program that is its main body alone may stand for: a variable that is no reference, or no block and nothing faulty
 abbrev pub IsOfMain : Meaning → Type 0

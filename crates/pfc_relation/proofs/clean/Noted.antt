@@ -6,7 +6,9 @@ use Rattle.pfc_base.specs.declared.faults.Refusal.{Refusal}
 use Rattle.pfc_tree.specs.Symbols.{Text}
 use Rattle.pfc_tree.specs.declared.tree.Constant.{Constant}
 use Rattle.pfc_tree.specs.trees.Types.{TypeTree, VarTree, VarTrees, named, channel, array, fields, var_item, no_vars, more_vars}
-use Rattle.pfc_tree.specs.trees.Stmts.{StmtTree, StmtTrees, BodyTree, ArmTrees, empty, null, block, if_then, if_then_else, case_of, while_do, repeat_until, repeat_forever, for_do, cobegin, accepting, requeue, select, select_else, assign, send, receive, call, no_stmts, more_stmts, body, arm, no_arms, more_arms}
+use Rattle.pfc_tree.specs.trees.Stmts.{StmtTree, StmtTrees, BodyTree, ArmTrees, empty, null, block, if_then, if_then_else, case_of, while_do, repeat_until}
+use Rattle.pfc_tree.specs.trees.Stmts.{repeat_forever, for_do, cobegin, accepting, requeue, select, select_else, assign, send, receive, call, no_stmts}
+use Rattle.pfc_tree.specs.trees.Stmts.{more_stmts, body, arm, no_arms, more_arms}
 use Rattle.pfc_types.specs.Faults.{Faults, none, one, ◌⨾◌, unless}
 use Rattle.pfc_types.specs.Fields.{type_named}
 use Rattle.pfc_types.specs.Types.{integer, refusal_of}
@@ -17,7 +19,9 @@ use Rattle.pfc_types.specs.declared.types.TypeForm.{TypeForm}
 use Rattle.pfc_types.specs.declared.table.TypeFault.{TypeFault}
 use Rattle.pfc_types.specs.declared.table.TypeFault.TheVariants.{Bounds, Cells, Memory}
 use Rattle.pfc_types.specs.rules.Kinds.{has_object, type_name_rules}
-use Rattle.pfc_types.specs.rules.Constants.{Ordinal, same_ordinal, constant_value, constant_place, broken_ranges, range_extents, Extent, Made, added_unless, added, channel_form, array_of, made_arrays, MadeFields, made_field, made_names, made_group, record_form, fields_begun, made, made_items, made_item, type_place}
+use Rattle.pfc_types.specs.rules.Constants.{Ordinal, same_ordinal, constant_value, constant_place, broken_ranges, range_extents, Extent, Made, added_unless}
+use Rattle.pfc_types.specs.rules.Constants.{added, channel_form, array_of, made_arrays, MadeFields, made_field, made_names, made_group, record_form}
+use Rattle.pfc_types.specs.rules.Constants.{fields_begun, made, made_items, made_item, type_place}
 use Rattle.pfc_types.specs.rules.Declarations.{Labels, label_noted, labels_noted, stmt_state, stmts_state, body_state, arms_state, arm_state}
 use Rattle.pfc_meaning.specs.Unbuilt.{expr_unbuilt, stmt_unbuilt, stmts_unbuilt, body_unbuilt, arms_unbuilt}
 use Rattle.pfc_relation.proofs.clean.Faults.{IsClean}

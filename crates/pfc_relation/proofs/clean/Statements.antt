@@ -4,7 +4,9 @@ use Rattle.pfc_base.specs.declared.places.Place.{Place}
 use Rattle.pfc_tree.specs.Symbols.{Text}
 use Rattle.pfc_tree.specs.declared.tree.Constant.{Constant}
 use Rattle.pfc_tree.specs.trees.Exprs.{ExprTree, DesigTree, desig, no_selectors, more_selectors}
-use Rattle.pfc_tree.specs.trees.Stmts.{StmtTree, StmtTrees, ArmTrees, empty, null, block, if_then, if_then_else, case_of, while_do, repeat_until, repeat_forever, for_do, cobegin, accepting, requeue, select, select_else, assign, send, receive, call, no_stmts, more_stmts, body, arm, no_arms, more_arms}
+use Rattle.pfc_tree.specs.trees.Stmts.{StmtTree, StmtTrees, ArmTrees, empty, null, block, if_then, if_then_else, case_of, while_do, repeat_until}
+use Rattle.pfc_tree.specs.trees.Stmts.{repeat_forever, for_do, cobegin, accepting, requeue, select, select_else, assign, send, receive, call, no_stmts}
+use Rattle.pfc_tree.specs.trees.Stmts.{more_stmts, body, arm, no_arms, more_arms}
 use Rattle.pfc_tree.specs.forget.Stmts.{forget_stmt, forget_stmts, forget_body, forget_arms}
 use Rattle.pfc_tree.specs.lawful.Stmts.{IsLawfulStmt, HasLawfulStmts, AreLawfulStmts, IsLawfulBody, HasLawfulArms, AreLawfulArms}
 use Rattle.pfc_types.specs.Scopes.{meaning_of}
@@ -16,7 +18,8 @@ use Rattle.pfc_types.specs.rules.Kinds.{may_have, may_agree, may_be_simple, cond
 use Rattle.pfc_types.specs.rules.Constants.{Ordinal, constant_value, constant_type, constant_place, broken_constant}
 use Rattle.pfc_types.specs.rules.Expressions.{Env, find, expr_place, expr_type, desig_type, broken_expr}
 use Rattle.pfc_types.specs.rules.FaultyNames.{constant_uses_faulty}
-use Rattle.pfc_types.specs.rules.Statements.{target_of, target_type, target_rules, broken_target, broken_assign, may_label, label_rule, broken_labels, broken_for, scopes_in, broken_stmt, broken_stmts, broken_body, broken_arms}
+use Rattle.pfc_types.specs.rules.Statements.{target_of, target_type, target_rules, broken_target, broken_assign, may_label, label_rule, broken_labels}
+use Rattle.pfc_types.specs.rules.Statements.{broken_for, scopes_in, broken_stmt, broken_stmts, broken_body, broken_arms}
 use Rattle.pfc_types.proofs.FaultyTypes.{written_exactly}
 use Rattle.pfc_relation.specs.Typed.{IsNumber, IsSimpleName, IsAssignment, of_number, of_whole, HaveValues, IsTyped, AreTyped, AreArmsTyped}
 use Rattle.pfc_relation.proofs.Types.{both_left, both_right}

@@ -1,9 +1,16 @@
 -- Expressions: as many depths as tokens.
 use Rattle.std.proofs.Common.{◌≡◌, length, refl}
 use Rattle.pfc_tree.proofs.depths.Evens.{evens}
-use Rattle.pfc_tree.specs.shapes.Exprs.{ExprShape, SimpleShape, SummandShapes, TermShape, MultiplierShapes, FactorShape, DesigShape, SelectorShape, SelectorShapes, ExprShapes, ActualShape, ActualShapes, plain, related, sum, no_summands, more_summands, product, no_multipliers, more_multipliers, number, literal, negation, paren, applied, desig, index, field, no_selectors, more_selectors, no_exprs, more_exprs, actual, actual_width, no_actuals, more_actuals}
-use Rattle.pfc_tree.specs.tokens.Exprs.{expr_tokens, simple_tokens, summands_tokens, term_tokens, multipliers_tokens, factor_tokens, desig_tokens, selector_tokens, selectors_tokens, exprs_tokens, comma_exprs_tokens, actual_tokens, actuals_tokens, comma_actuals_tokens}
-use Rattle.pfc_tree.specs.depths.Exprs.{expr_depths, simple_depths, summands_depths, term_depths, multipliers_depths, factor_depths, desig_depths, selector_depths, selectors_depths, exprs_depths, comma_exprs_depths, actual_depths, actuals_depths, comma_actuals_depths}
+use Rattle.pfc_tree.specs.shapes.Exprs.{ExprShape, SimpleShape, SummandShapes, TermShape, MultiplierShapes, FactorShape, DesigShape, SelectorShape}
+use Rattle.pfc_tree.specs.shapes.Exprs.{SelectorShapes, ExprShapes, ActualShape, ActualShapes, plain, related, sum, no_summands, more_summands, product}
+use Rattle.pfc_tree.specs.shapes.Exprs.{no_multipliers, more_multipliers, number, literal, negation, paren, applied, desig, index, field, no_selectors}
+use Rattle.pfc_tree.specs.shapes.Exprs.{more_selectors, no_exprs, more_exprs, actual, actual_width, no_actuals, more_actuals}
+use Rattle.pfc_tree.specs.tokens.Exprs.{expr_tokens, simple_tokens, summands_tokens, term_tokens, multipliers_tokens, factor_tokens, desig_tokens}
+use Rattle.pfc_tree.specs.tokens.Exprs.{selector_tokens, selectors_tokens, exprs_tokens, comma_exprs_tokens, actual_tokens, actuals_tokens}
+use Rattle.pfc_tree.specs.tokens.Exprs.{comma_actuals_tokens}
+use Rattle.pfc_tree.specs.depths.Exprs.{expr_depths, simple_depths, summands_depths, term_depths, multipliers_depths, factor_depths, desig_depths}
+use Rattle.pfc_tree.specs.depths.Exprs.{selector_depths, selectors_depths, exprs_depths, comma_exprs_depths, actual_depths, actuals_depths}
+use Rattle.pfc_tree.specs.depths.Exprs.{comma_actuals_depths}
 
 mutual
   pub expr_even : (x : ExprShape) → length (expr_depths x) ≡ length (expr_tokens x)

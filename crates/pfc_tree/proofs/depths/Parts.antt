@@ -2,8 +2,10 @@
 use Rattle.std.proofs.Common.{◌≡◌, List, length, refl, Option, Some, None}
 use Rattle.pfc_tree.proofs.depths.Evens.{evens, flat}
 use Rattle.pfc_tree.specs.tokens.Types.{const_items_tokens, formals_tokens}
-use Rattle.pfc_tree.specs.shapes.Parts.{PartShape, PartShapes, SubShape, ModuleShape, ProcessShape, KindShape, ProgramShape, consts, types, vars, sub_part, monitor, resource, process_part, no_parts, more_parts, sub, the_module, process, procedure, function, guarded}
-use Rattle.pfc_tree.specs.tokens.Parts.{part_tokens, parts_tokens, sub_tokens, module_tokens, process_tokens, exports_tokens, entries_tokens, many_tokens, params_tokens, ending_tokens, heading_tokens, tokens_of}
+use Rattle.pfc_tree.specs.shapes.Parts.{PartShape, PartShapes, SubShape, ModuleShape, ProcessShape, KindShape, ProgramShape, consts, types, vars, sub_part}
+use Rattle.pfc_tree.specs.shapes.Parts.{monitor, resource, process_part, no_parts, more_parts, sub, the_module, process, procedure, function, guarded}
+use Rattle.pfc_tree.specs.tokens.Parts.{part_tokens, parts_tokens, sub_tokens, module_tokens, process_tokens, exports_tokens, entries_tokens, many_tokens}
+use Rattle.pfc_tree.specs.tokens.Parts.{params_tokens, ending_tokens, heading_tokens, tokens_of}
 use Rattle.pfc_tree.specs.depths.Parts.{part_depths, parts_depths, sub_depths, module_depths, process_depths, ending_depths, heading_depths, depths_of}
 use Rattle.pfc_tree.specs.Symbols.{Text}
 use Rattle.pfc_tree.specs.shapes.Types.{GroupShape}

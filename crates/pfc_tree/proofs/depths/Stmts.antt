@@ -2,9 +2,14 @@
 use Rattle.std.proofs.Common.{◌≡◌, length, refl, Option, Some, None}
 use Rattle.pfc_tree.proofs.depths.Evens.{evens, flat}
 use Rattle.pfc_tree.specs.tokens.Types.{constants_tokens, formals_tokens}
-use Rattle.pfc_tree.specs.shapes.Stmts.{StmtShape, StmtShapes, BodyShape, ArmShape, ArmShapes, AcceptShape, AltShape, AltShapes, CommShape, empty, null, block, if_then, if_then_else, case_of, while_do, repeat_until, repeat_forever, for_do, cobegin, accepting, requeue, select, select_else, assign, send, receive, call, no_stmts, more_stmts, body, arm, no_arms, more_arms, accept, accept_do, alt, no_alts, more_alts, comm_accept, comm_send, comm_receive, timeout, terminate}
-use Rattle.pfc_tree.specs.tokens.Stmts.{stmt_tokens, stmts_tokens, semicolon_stmts_tokens, body_tokens, arm_tokens, arms_tokens, semicolon_arms_tokens, accept_tokens, alt_tokens, alts_tokens, or_alts_tokens, comm_tokens, replication_tokens, guard_tokens}
-use Rattle.pfc_tree.specs.depths.Stmts.{stmt_depths, stmts_depths, semicolon_stmts_depths, body_depths, arm_depths, arms_depths, semicolon_arms_depths, accept_depths, alt_depths, alts_depths, or_alts_depths, comm_depths, guard_depths}
+use Rattle.pfc_tree.specs.shapes.Stmts.{StmtShape, StmtShapes, BodyShape, ArmShape, ArmShapes, AcceptShape, AltShape, AltShapes, CommShape, empty, null, block}
+use Rattle.pfc_tree.specs.shapes.Stmts.{if_then, if_then_else, case_of, while_do, repeat_until, repeat_forever, for_do, cobegin, accepting, requeue, select}
+use Rattle.pfc_tree.specs.shapes.Stmts.{select_else, assign, send, receive, call, no_stmts, more_stmts, body, arm, no_arms, more_arms, accept, accept_do, alt}
+use Rattle.pfc_tree.specs.shapes.Stmts.{no_alts, more_alts, comm_accept, comm_send, comm_receive, timeout, terminate}
+use Rattle.pfc_tree.specs.tokens.Stmts.{stmt_tokens, stmts_tokens, semicolon_stmts_tokens, body_tokens, arm_tokens, arms_tokens, semicolon_arms_tokens}
+use Rattle.pfc_tree.specs.tokens.Stmts.{accept_tokens, alt_tokens, alts_tokens, or_alts_tokens, comm_tokens, replication_tokens, guard_tokens}
+use Rattle.pfc_tree.specs.depths.Stmts.{stmt_depths, stmts_depths, semicolon_stmts_depths, body_depths, arm_depths, arms_depths, semicolon_arms_depths}
+use Rattle.pfc_tree.specs.depths.Stmts.{accept_depths, alt_depths, alts_depths, or_alts_depths, comm_depths, guard_depths}
 use Rattle.pfc_tree.specs.shapes.Exprs.{ExprShape}
 use Rattle.pfc_tree.proofs.depths.Exprs.{expr_even, desig_even, actuals_even}
 

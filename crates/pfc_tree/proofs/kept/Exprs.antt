@@ -4,10 +4,17 @@ use Rattle.pfc_base.specs.declared.places.Place.{Place}
 use Rattle.pfc_tree.specs.kept.Exprs.{passed}
 use Rattle.pfc_tree.proofs.kept.Passing.{passing}
 use Rattle.pfc_tree.specs.declared.tree.Sign.{Sign}
-use Rattle.pfc_tree.specs.trees.Exprs.{ExprTree, SimpleTree, SummandTrees, TermTree, MultiplierTrees, FactorTree, DesigTree, SelectorTree, SelectorTrees, ExprTrees, ActualTree, ActualTrees, plain, related, sum, no_summands, more_summands, product, no_multipliers, more_multipliers, number, literal, negation, paren, applied, desig, index, field, no_selectors, more_selectors, no_exprs, more_exprs, actual, actual_width, no_actuals, more_actuals}
-use Rattle.pfc_tree.specs.forget.Exprs.{forget_expr, forget_simple, forget_summands, forget_term, forget_multipliers, forget_factor, forget_desig, forget_selector, forget_selectors, forget_exprs, forget_actual, forget_actuals}
-use Rattle.pfc_tree.specs.tokens.Exprs.{expr_tokens, simple_tokens, summands_tokens, term_tokens, multipliers_tokens, factor_tokens, desig_tokens, selector_tokens, selectors_tokens, exprs_tokens, comma_exprs_tokens, actual_tokens, actuals_tokens, comma_actuals_tokens, sign_tokens}
-use Rattle.pfc_tree.specs.kept.Exprs.{expr_trace, simple_trace, summands_trace, term_trace, multipliers_trace, factor_trace, desig_trace, selector_trace, selectors_trace, exprs_trace, comma_exprs_trace, actual_trace, actuals_trace, comma_actuals_trace, sign_trace}
+use Rattle.pfc_tree.specs.trees.Exprs.{ExprTree, SimpleTree, SummandTrees, TermTree, MultiplierTrees, FactorTree, DesigTree, SelectorTree, SelectorTrees}
+use Rattle.pfc_tree.specs.trees.Exprs.{ExprTrees, ActualTree, ActualTrees, plain, related, sum, no_summands, more_summands, product, no_multipliers}
+use Rattle.pfc_tree.specs.trees.Exprs.{more_multipliers, number, literal, negation, paren, applied, desig, index, field, no_selectors, more_selectors, no_exprs}
+use Rattle.pfc_tree.specs.trees.Exprs.{more_exprs, actual, actual_width, no_actuals, more_actuals}
+use Rattle.pfc_tree.specs.forget.Exprs.{forget_expr, forget_simple, forget_summands, forget_term, forget_multipliers, forget_factor, forget_desig}
+use Rattle.pfc_tree.specs.forget.Exprs.{forget_selector, forget_selectors, forget_exprs, forget_actual, forget_actuals}
+use Rattle.pfc_tree.specs.tokens.Exprs.{expr_tokens, simple_tokens, summands_tokens, term_tokens, multipliers_tokens, factor_tokens, desig_tokens}
+use Rattle.pfc_tree.specs.tokens.Exprs.{selector_tokens, selectors_tokens, exprs_tokens, comma_exprs_tokens, actual_tokens, actuals_tokens}
+use Rattle.pfc_tree.specs.tokens.Exprs.{comma_actuals_tokens, sign_tokens}
+use Rattle.pfc_tree.specs.kept.Exprs.{expr_trace, simple_trace, summands_trace, term_trace, multipliers_trace, factor_trace, desig_trace, selector_trace}
+use Rattle.pfc_tree.specs.kept.Exprs.{selectors_trace, exprs_trace, comma_exprs_trace, actual_trace, actuals_trace, comma_actuals_trace, sign_trace}
 
 pub sign_passed : (o : Option (Sign × Place)) → passed (sign_trace o) ≡ length (sign_tokens (option_map (λ x. x.0) o))
 sign_passed None = refl

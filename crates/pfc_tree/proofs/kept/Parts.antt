@@ -4,10 +4,13 @@ use Rattle.pfc_base.specs.declared.places.Place.{Place}
 use Rattle.pfc_tree.specs.Symbols.{Text}
 use Rattle.pfc_tree.specs.kept.Exprs.{passed}
 use Rattle.pfc_tree.proofs.kept.Passing.{passing}
-use Rattle.pfc_tree.specs.trees.Parts.{PartTree, PartTrees, SubTree, ModuleTree, ProcessTree, KindTree, EntryTree, ProgramTree, consts, types, vars, sub_part, monitor, resource, process_part, no_parts, more_parts, sub, the_module, process, procedure, function, guarded}
+use Rattle.pfc_tree.specs.trees.Parts.{PartTree, PartTrees, SubTree, ModuleTree, ProcessTree, KindTree, EntryTree, ProgramTree, consts, types, vars, sub_part}
+use Rattle.pfc_tree.specs.trees.Parts.{monitor, resource, process_part, no_parts, more_parts, sub, the_module, process, procedure, function, guarded}
 use Rattle.pfc_tree.specs.forget.Parts.{forget_part, forget_parts, forget_sub, forget_module, forget_process, forget_kind, forget_entry, forget_program}
-use Rattle.pfc_tree.specs.tokens.Parts.{part_tokens, parts_tokens, sub_tokens, module_tokens, process_tokens, exports_tokens, entries_tokens, many_tokens, params_tokens, ending_tokens, heading_tokens, tokens_of}
-use Rattle.pfc_tree.specs.kept.Parts.{part_trace, parts_trace, sub_trace, module_trace, process_trace, exports_trace, entries_trace, params_trace, ending_trace, heading_trace, trace_of}
+use Rattle.pfc_tree.specs.tokens.Parts.{part_tokens, parts_tokens, sub_tokens, module_tokens, process_tokens, exports_tokens, entries_tokens, many_tokens}
+use Rattle.pfc_tree.specs.tokens.Parts.{params_tokens, ending_tokens, heading_tokens, tokens_of}
+use Rattle.pfc_tree.specs.kept.Parts.{part_trace, parts_trace, sub_trace, module_trace, process_trace, exports_trace, entries_trace, params_trace, ending_trace}
+use Rattle.pfc_tree.specs.kept.Parts.{heading_trace, trace_of}
 use Rattle.pfc_tree.specs.trees.Types.{GroupTree}
 use Rattle.pfc_tree.specs.trees.Stmts.{BodyTree, body}
 use Rattle.pfc_tree.specs.forget.Types.{bare, forget_group}

@@ -3,10 +3,16 @@ use Rattle.std.proofs.Common.{◌≡◌, Bool, true, false, length, refl, Option
 use Rattle.pfc_base.specs.declared.places.Place.{Place}
 use Rattle.pfc_tree.specs.kept.Exprs.{passed}
 use Rattle.pfc_tree.proofs.kept.Passing.{passing}
-use Rattle.pfc_tree.specs.trees.Stmts.{StmtTree, StmtTrees, BodyTree, ArmTree, ArmTrees, AcceptTree, AltTree, AltTrees, CommTree, empty, null, block, if_then, if_then_else, case_of, while_do, repeat_until, repeat_forever, for_do, cobegin, accepting, requeue, select, select_else, assign, send, receive, call, no_stmts, more_stmts, body, arm, no_arms, more_arms, accept, accept_do, alt, no_alts, more_alts, comm_accept, comm_send, comm_receive, timeout, terminate}
-use Rattle.pfc_tree.specs.forget.Stmts.{forget_spread, forget_stmt, forget_stmts, forget_body, forget_arm, forget_arms, forget_accept, forget_alt, forget_alts, forget_comm}
-use Rattle.pfc_tree.specs.tokens.Stmts.{stmt_tokens, stmts_tokens, semicolon_stmts_tokens, body_tokens, arm_tokens, arms_tokens, semicolon_arms_tokens, accept_tokens, alt_tokens, alts_tokens, or_alts_tokens, comm_tokens, pri_tokens, replication_tokens, guard_tokens}
-use Rattle.pfc_tree.specs.kept.Stmts.{stmt_trace, stmts_trace, semicolon_stmts_trace, body_trace, arm_trace, arms_trace, semicolon_arms_trace, accept_trace, alt_trace, alts_trace, or_alts_trace, comm_trace, pri_trace, replication_trace, guard_trace}
+use Rattle.pfc_tree.specs.trees.Stmts.{StmtTree, StmtTrees, BodyTree, ArmTree, ArmTrees, AcceptTree, AltTree, AltTrees, CommTree, empty, null, block, if_then}
+use Rattle.pfc_tree.specs.trees.Stmts.{if_then_else, case_of, while_do, repeat_until, repeat_forever, for_do, cobegin, accepting, requeue, select, select_else}
+use Rattle.pfc_tree.specs.trees.Stmts.{assign, send, receive, call, no_stmts, more_stmts, body, arm, no_arms, more_arms, accept, accept_do, alt, no_alts}
+use Rattle.pfc_tree.specs.trees.Stmts.{more_alts, comm_accept, comm_send, comm_receive, timeout, terminate}
+use Rattle.pfc_tree.specs.forget.Stmts.{forget_spread, forget_stmt, forget_stmts, forget_body, forget_arm, forget_arms, forget_accept, forget_alt, forget_alts}
+use Rattle.pfc_tree.specs.forget.Stmts.{forget_comm}
+use Rattle.pfc_tree.specs.tokens.Stmts.{stmt_tokens, stmts_tokens, semicolon_stmts_tokens, body_tokens, arm_tokens, arms_tokens, semicolon_arms_tokens}
+use Rattle.pfc_tree.specs.tokens.Stmts.{accept_tokens, alt_tokens, alts_tokens, or_alts_tokens, comm_tokens, pri_tokens, replication_tokens, guard_tokens}
+use Rattle.pfc_tree.specs.kept.Stmts.{stmt_trace, stmts_trace, semicolon_stmts_trace, body_trace, arm_trace, arms_trace, semicolon_arms_trace, accept_trace}
+use Rattle.pfc_tree.specs.kept.Stmts.{alt_trace, alts_trace, or_alts_trace, comm_trace, pri_trace, replication_trace, guard_trace}
 use Rattle.pfc_tree.specs.declared.tree.Spread.{Spread}
 use Rattle.pfc_tree.specs.trees.Exprs.{ExprTree}
 use Rattle.pfc_tree.specs.forget.Exprs.{forget_expr}

@@ -9,9 +9,14 @@ use Rattle.pfc_tree.specs.declared.tree.Constant.TheVariants.{Number, Named, Lit
 use Rattle.pfc_tree.specs.declared.tree.Range.{Range}
 use Rattle.pfc_tree.specs.declared.tree.ConstItem.{ConstItem}
 use Rattle.pfc_tree.specs.trees.Types.{TypeTree, VarTree, VarTrees, TypeItemTree, GroupTree, named, channel, array, fields, var_item, no_vars, more_vars}
-use Rattle.pfc_tree.specs.forget.Types.{forget_type, forget_var, forget_vars, bare, forget_constant, forget_range, forget_const_item, forget_type_item, forget_group}
-use Rattle.pfc_tree.specs.tokens.Types.{type_tokens, var_tokens, fields_tokens, semicolon_fields_tokens, names_tokens, comma_names_tokens, constant_tokens, constants_tokens, comma_constants_tokens, range_tokens, ranges_tokens, comma_ranges_tokens, last_tokens, vars_tokens, const_items_tokens, type_items_tokens, reference_tokens, group_tokens, formals_tokens, semicolon_groups_tokens}
-use Rattle.pfc_tree.specs.kept.Types.{type_trace, var_trace, fields_trace, semicolon_fields_trace, names_trace, comma_names_trace, constant_trace, constants_trace, comma_constants_trace, range_trace, ranges_trace, comma_ranges_trace, flag_trace, vars_trace, const_items_trace, type_items_trace, group_trace, formals_trace, semicolon_groups_trace}
+use Rattle.pfc_tree.specs.forget.Types.{forget_type, forget_var, forget_vars, bare, forget_constant, forget_range, forget_const_item, forget_type_item}
+use Rattle.pfc_tree.specs.forget.Types.{forget_group}
+use Rattle.pfc_tree.specs.tokens.Types.{type_tokens, var_tokens, fields_tokens, semicolon_fields_tokens, names_tokens, comma_names_tokens, constant_tokens}
+use Rattle.pfc_tree.specs.tokens.Types.{constants_tokens, comma_constants_tokens, range_tokens, ranges_tokens, comma_ranges_tokens, last_tokens, vars_tokens}
+use Rattle.pfc_tree.specs.tokens.Types.{const_items_tokens, type_items_tokens, reference_tokens, group_tokens, formals_tokens, semicolon_groups_tokens}
+use Rattle.pfc_tree.specs.kept.Types.{type_trace, var_trace, fields_trace, semicolon_fields_trace, names_trace, comma_names_trace, constant_trace}
+use Rattle.pfc_tree.specs.kept.Types.{constants_trace, comma_constants_trace, range_trace, ranges_trace, comma_ranges_trace, flag_trace, vars_trace}
+use Rattle.pfc_tree.specs.kept.Types.{const_items_trace, type_items_trace, group_trace, formals_trace, semicolon_groups_trace}
 use Rattle.pfc_tree.proofs.kept.Exprs.{sign_passed}
 
 pub comma_names_passed : (xs : List (Text × Place)) → passed (comma_names_trace xs) ≡ length (comma_names_tokens (bare xs))

@@ -3,7 +3,8 @@
 use Rattle.std.specs.Prelude.{ℕ, Option, Some, None, List, [], ◌∷◌, ◌++◌}
 use Rattle.pfc_tree.specs.shapes.Types.{GroupShape}
 use Rattle.pfc_tree.specs.shapes.Stmts.{BodyShape}
-use Rattle.pfc_tree.specs.shapes.Parts.{KindShape, PartShape, PartShapes, SubShape, ModuleShape, ProcessShape, ProgramShape, procedure, function, guarded, consts, types, vars, sub_part, monitor, resource, process_part, no_parts, more_parts, sub, the_module, process}
+use Rattle.pfc_tree.specs.shapes.Parts.{KindShape, PartShape, PartShapes, SubShape, ModuleShape, ProcessShape, ProgramShape, procedure, function, guarded}
+use Rattle.pfc_tree.specs.shapes.Parts.{consts, types, vars, sub_part, monitor, resource, process_part, no_parts, more_parts, sub, the_module, process}
 use Rattle.pfc_tree.specs.tokens.Types.{formals_tokens}
 use Rattle.pfc_tree.specs.tokens.Parts.{exports_tokens, entries_tokens, many_tokens, params_tokens}
 use Rattle.pfc_tree.specs.depths.Exprs.{deeper, level, expr_depths}

@@ -3,7 +3,10 @@
 -- an alternative waits for, its spread, its guard and its `;` stand in the statement of their `select`.
 use Rattle.std.specs.Prelude.{ℕ, Option, Some, None, List, [], ◌∷◌, ◌++◌}
 use Rattle.pfc_tree.specs.shapes.Exprs.{ExprShape}
-use Rattle.pfc_tree.specs.shapes.Stmts.{StmtShape, StmtShapes, BodyShape, ArmShape, ArmShapes, AcceptShape, AltShape, AltShapes, CommShape, empty, null, block, if_then, if_then_else, case_of, while_do, repeat_until, repeat_forever, for_do, cobegin, accepting, requeue, select, select_else, assign, send, receive, call, no_stmts, more_stmts, body, arm, no_arms, more_arms, accept, accept_do, alt, no_alts, more_alts, comm_accept, comm_send, comm_receive, timeout, terminate}
+use Rattle.pfc_tree.specs.shapes.Stmts.{StmtShape, StmtShapes, BodyShape, ArmShape, ArmShapes, AcceptShape, AltShape, AltShapes, CommShape, empty, null, block}
+use Rattle.pfc_tree.specs.shapes.Stmts.{if_then, if_then_else, case_of, while_do, repeat_until, repeat_forever, for_do, cobegin, accepting, requeue, select}
+use Rattle.pfc_tree.specs.shapes.Stmts.{select_else, assign, send, receive, call, no_stmts, more_stmts, body, arm, no_arms, more_arms, accept, accept_do, alt}
+use Rattle.pfc_tree.specs.shapes.Stmts.{no_alts, more_alts, comm_accept, comm_send, comm_receive, timeout, terminate}
 use Rattle.pfc_tree.specs.tokens.Types.{constants_tokens, last_tokens, formals_tokens}
 use Rattle.pfc_tree.specs.tokens.Stmts.{pri_tokens, replication_tokens}
 use Rattle.pfc_tree.specs.depths.Exprs.{deeper, level, expr_depths, desig_depths, actuals_depths}

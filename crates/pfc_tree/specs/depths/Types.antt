@@ -1,7 +1,8 @@
 -- The depth of each token of a type, beside the depth of what stands around it: a type adds one. It counts wherever the
 -- grammar has a type; the type names of parameters and of results are no types in this sense.
 use Rattle.std.specs.Prelude.{ℕ, List, [], ◌∷◌, ◌++◌}
-use Rattle.pfc_tree.specs.shapes.Types.{TypeItemShape, ConstItemShape, TypeShape, VarShape, VarShapes, named, channel, array, fields, var_item, no_vars, more_vars}
+use Rattle.pfc_tree.specs.shapes.Types.{TypeItemShape, ConstItemShape, TypeShape, VarShape, VarShapes, named, channel, array, fields, var_item, no_vars}
+use Rattle.pfc_tree.specs.shapes.Types.{more_vars}
 use Rattle.pfc_tree.specs.tokens.Types.{names_tokens, ranges_tokens, last_tokens, const_items_tokens}
 use Rattle.pfc_tree.specs.depths.Exprs.{deeper, level}
 

@@ -1,6 +1,7 @@
 -- Forgetting the places of parts and programs.
 use Rattle.std.specs.Prelude.{map, option_map}
-use Rattle.pfc_tree.specs.trees.Parts.{KindTree, EntryTree, ProgramTree, PartTree, PartTrees, SubTree, ModuleTree, ProcessTree, procedure, function, guarded, consts, types, vars, sub_part, monitor, resource, process_part, no_parts, more_parts, sub, the_module, process}
+use Rattle.pfc_tree.specs.trees.Parts.{KindTree, EntryTree, ProgramTree, PartTree, PartTrees, SubTree, ModuleTree, ProcessTree, procedure, function, guarded}
+use Rattle.pfc_tree.specs.trees.Parts.{consts, types, vars, sub_part, monitor, resource, process_part, no_parts, more_parts, sub, the_module, process}
 use Rattle.pfc_tree.specs.shapes.Parts.{KindShape, EntryShape, ProgramShape, PartShape, PartShapes, SubShape, ModuleShape, ProcessShape}
 use Rattle.pfc_tree.specs.shapes.Parts as shape
 use Rattle.pfc_tree.specs.forget.Exprs.{forget_expr}

@@ -5,7 +5,8 @@ use Rattle.pfc_base.specs.declared.tokens.Token.{Token}
 use Rattle.pfc_tree.specs.Symbols.{Text}
 use Rattle.pfc_tree.specs.trees.Types.{GroupTree}
 use Rattle.pfc_tree.specs.trees.Stmts.{BodyTree, body}
-use Rattle.pfc_tree.specs.trees.Parts.{KindTree, EntryTree, PartTree, PartTrees, SubTree, ModuleTree, ProcessTree, ProgramTree, procedure, function, guarded, consts, types, vars, sub_part, monitor, resource, process_part, no_parts, more_parts, sub, the_module, process}
+use Rattle.pfc_tree.specs.trees.Parts.{KindTree, EntryTree, PartTree, PartTrees, SubTree, ModuleTree, ProcessTree, ProgramTree, procedure, function, guarded}
+use Rattle.pfc_tree.specs.trees.Parts.{consts, types, vars, sub_part, monitor, resource, process_part, no_parts, more_parts, sub, the_module, process}
 use Rattle.pfc_tree.specs.kept.Exprs.{Step, here, next, at, AreKept, expr_trace}
 use Rattle.pfc_tree.specs.kept.Types.{names_trace, comma_names_trace, flag_trace, const_items_trace, type_items_trace, vars_trace, formals_trace}
 use Rattle.pfc_tree.specs.kept.Stmts.{stmts_trace, body_trace}

@@ -2,7 +2,8 @@
 use Rattle.std.specs.Prelude.{Option, Some, None, List, [], ◌∷◌}
 use Rattle.pfc_tree.specs.Symbols.{Text}
 use Rattle.pfc_tree.specs.shapes.Stmts.{BodyShape}
-use Rattle.pfc_tree.specs.shapes.Parts.{KindShape, EntryShape, PartShape, PartShapes, SubShape, ModuleShape, ProcessShape, ProgramShape, procedure, function, guarded, consts, types, vars, sub_part, monitor, resource, process_part, no_parts, more_parts, sub, the_module, process}
+use Rattle.pfc_tree.specs.shapes.Parts.{KindShape, EntryShape, PartShape, PartShapes, SubShape, ModuleShape, ProcessShape, ProgramShape, procedure, function}
+use Rattle.pfc_tree.specs.shapes.Parts.{guarded, consts, types, vars, sub_part, monitor, resource, process_part, no_parts, more_parts, sub, the_module, process}
 use Rattle.pfc_tree.specs.lawful.Exprs.{IsLawfulExpr}
 use Rattle.pfc_tree.specs.lawful.Types.{IsFilled, AreLawfulFields, AreLawfulConstItems, AreLawfulTypeItems, AreLawfulFormals}
 use Rattle.pfc_tree.specs.lawful.Stmts.{IsLawfulBody}

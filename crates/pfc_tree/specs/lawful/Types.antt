@@ -1,7 +1,8 @@
 -- When constants, types and groups of parameters are lawful: the lists that the grammar wants filled are, and no number
 -- is negative.
 use Rattle.std.specs.Prelude.{List, [], ◌∷◌}
-use Rattle.pfc_tree.specs.shapes.Types.{ConstantShape, RangeShape, ConstItemShape, TypeItemShape, GroupShape, TypeShape, VarShape, VarShapes, number, constant, literal, named, channel, array, fields, var_item, no_vars, more_vars}
+use Rattle.pfc_tree.specs.shapes.Types.{ConstantShape, RangeShape, ConstItemShape, TypeItemShape, GroupShape, TypeShape, VarShape, VarShapes, number, constant}
+use Rattle.pfc_tree.specs.shapes.Types.{literal, named, channel, array, fields, var_item, no_vars, more_vars}
 use Rattle.pfc_tree.specs.lawful.Exprs.{IsWritten}
 
 -- a list holds one or more

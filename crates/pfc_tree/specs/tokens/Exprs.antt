@@ -2,7 +2,8 @@
 use Rattle.std.specs.Prelude.{Option, Some, None, List, [], ◌∷◌, ◌++◌}
 use Rattle.pfc_base.specs.declared.tokens.Kind.TheVariants.{Word, Sign, Name, Number, Literal}
 use Rattle.pfc_base.specs.declared.word.TheConstants.{AND, DIV, MOD, NOT, OR}
-use Rattle.pfc_base.specs.declared.sign.TheConstants.{PLUS, MINUS, STAR, EQUAL, NOT_EQUAL, LESS, LESS_EQUAL, GREATER, GREATER_EQUAL, OPEN_PAREN, CLOSE_PAREN, OPEN_BRACKET, CLOSE_BRACKET, DOT, COMMA, COLON}
+use Rattle.pfc_base.specs.declared.sign.TheConstants.{PLUS, MINUS, STAR, EQUAL, NOT_EQUAL, LESS, LESS_EQUAL, GREATER, GREATER_EQUAL, OPEN_PAREN, CLOSE_PAREN}
+use Rattle.pfc_base.specs.declared.sign.TheConstants.{OPEN_BRACKET, CLOSE_BRACKET, DOT, COMMA, COLON}
 use Rattle.pfc_tree.specs.declared.tree.Sign as plus_or_minus
 use Rattle.pfc_tree.specs.declared.tree.Sign.TheVariants.{Plus, Minus}
 use Rattle.pfc_tree.specs.declared.tree.Relation.{Relation}
@@ -12,7 +13,10 @@ use Rattle.pfc_tree.specs.declared.tree.AddOp.TheVariants.{Add, Sub, Or}
 use Rattle.pfc_tree.specs.declared.tree.MulOp.{MulOp}
 use Rattle.pfc_tree.specs.declared.tree.MulOp.TheVariants.{Mul, Div, Mod, And}
 use Rattle.pfc_tree.specs.Symbols.{Symbol}
-use Rattle.pfc_tree.specs.shapes.Exprs.{ExprShape, SimpleShape, SummandShapes, TermShape, MultiplierShapes, FactorShape, DesigShape, SelectorShape, SelectorShapes, ExprShapes, ActualShape, ActualShapes, plain, related, sum, no_summands, more_summands, product, no_multipliers, more_multipliers, number, literal, negation, paren, applied, desig, index, field, no_selectors, more_selectors, no_exprs, more_exprs, actual, actual_width, no_actuals, more_actuals}
+use Rattle.pfc_tree.specs.shapes.Exprs.{ExprShape, SimpleShape, SummandShapes, TermShape, MultiplierShapes, FactorShape, DesigShape, SelectorShape}
+use Rattle.pfc_tree.specs.shapes.Exprs.{SelectorShapes, ExprShapes, ActualShape, ActualShapes, plain, related, sum, no_summands, more_summands, product}
+use Rattle.pfc_tree.specs.shapes.Exprs.{no_multipliers, more_multipliers, number, literal, negation, paren, applied, desig, index, field, no_selectors}
+use Rattle.pfc_tree.specs.shapes.Exprs.{more_selectors, no_exprs, more_exprs, actual, actual_width, no_actuals, more_actuals}
 
 -- "+" | "-"
 abbrev pub sign_symbol : plus_or_minus.Sign → Symbol

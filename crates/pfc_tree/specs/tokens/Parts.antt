@@ -1,12 +1,14 @@
 -- What parts and programs write. Each clause is one line of the grammar, which stands above it.
 use Rattle.std.specs.Prelude.{Bool, true, false, Option, Some, None, List, [], ◌∷◌, ◌++◌}
 use Rattle.pfc_base.specs.declared.tokens.Kind.TheVariants.{Word, Sign, Name}
-use Rattle.pfc_base.specs.declared.word.TheConstants.{CONST, END, ENTRY, EXPORT, FUNCTION, GUARDED, MONITOR, PROCEDURE, PROCESS, PROGRAM, RESOURCE, TYPE, VAR, WHEN}
+use Rattle.pfc_base.specs.declared.word.TheConstants.{CONST, END, ENTRY, EXPORT, FUNCTION, GUARDED, MONITOR, PROCEDURE, PROCESS, PROGRAM, RESOURCE, TYPE, VAR}
+use Rattle.pfc_base.specs.declared.word.TheConstants.{WHEN}
 use Rattle.pfc_base.specs.declared.sign.TheConstants.{OPEN_PAREN, CLOSE_PAREN, DOT, SEMICOLON, COLON}
 use Rattle.pfc_tree.specs.Symbols.{Symbol, Text}
 use Rattle.pfc_tree.specs.shapes.Types.{GroupShape}
 use Rattle.pfc_tree.specs.shapes.Stmts.{BodyShape}
-use Rattle.pfc_tree.specs.shapes.Parts.{KindShape, EntryShape, PartShape, PartShapes, SubShape, ModuleShape, ProcessShape, ProgramShape, procedure, function, guarded, consts, types, vars, sub_part, monitor, resource, process_part, no_parts, more_parts, sub, the_module, process}
+use Rattle.pfc_tree.specs.shapes.Parts.{KindShape, EntryShape, PartShape, PartShapes, SubShape, ModuleShape, ProcessShape, ProgramShape, procedure, function}
+use Rattle.pfc_tree.specs.shapes.Parts.{guarded, consts, types, vars, sub_part, monitor, resource, process_part, no_parts, more_parts, sub, the_module, process}
 use Rattle.pfc_tree.specs.tokens.Exprs.{expr_tokens}
 use Rattle.pfc_tree.specs.tokens.Types.{names_tokens, comma_names_tokens, const_items_tokens, type_items_tokens, vars_tokens, formals_tokens}
 use Rattle.pfc_tree.specs.tokens.Stmts.{body_tokens}

@@ -1,11 +1,15 @@
 -- What statements write. Each clause is one line of the grammar, which stands above it.
 use Rattle.std.specs.Prelude.{Bool, true, false, Option, Some, None, List, [], ◌∷◌, ◌++◌}
 use Rattle.pfc_base.specs.declared.tokens.Kind.TheVariants.{Word, Sign, Name}
-use Rattle.pfc_base.specs.declared.word.TheConstants.{ACCEPT, BEGIN, CASE, COBEGIN, COEND, DO, DOWNTO, ELSE, END, FOR, FOREVER, IF, NULL, OF, OR, PRI, REPEAT, REPLICATE, REQUEUE, SELECT, TERMINATE, THEN, TIMEOUT, TO, UNTIL, WHEN, WHILE}
+use Rattle.pfc_base.specs.declared.word.TheConstants.{ACCEPT, BEGIN, CASE, COBEGIN, COEND, DO, DOWNTO, ELSE, END, FOR, FOREVER, IF, NULL, OF, OR, PRI, REPEAT}
+use Rattle.pfc_base.specs.declared.word.TheConstants.{REPLICATE, REQUEUE, SELECT, TERMINATE, THEN, TIMEOUT, TO, UNTIL, WHEN, WHILE}
 use Rattle.pfc_base.specs.declared.sign.TheConstants.{BECOMES, SEMICOLON, COLON, SEND, RECEIVE, ARROW}
 use Rattle.pfc_tree.specs.Symbols.{Symbol}
 use Rattle.pfc_tree.specs.shapes.Exprs.{ExprShape}
-use Rattle.pfc_tree.specs.shapes.Stmts.{SpreadShape, StmtShape, StmtShapes, BodyShape, ArmShape, ArmShapes, AcceptShape, AltShape, AltShapes, CommShape, empty, null, block, if_then, if_then_else, case_of, while_do, repeat_until, repeat_forever, for_do, cobegin, accepting, requeue, select, select_else, assign, send, receive, call, no_stmts, more_stmts, body, arm, no_arms, more_arms, accept, accept_do, alt, no_alts, more_alts, comm_accept, comm_send, comm_receive, timeout, terminate}
+use Rattle.pfc_tree.specs.shapes.Stmts.{SpreadShape, StmtShape, StmtShapes, BodyShape, ArmShape, ArmShapes, AcceptShape, AltShape, AltShapes, CommShape, empty}
+use Rattle.pfc_tree.specs.shapes.Stmts.{null, block, if_then, if_then_else, case_of, while_do, repeat_until, repeat_forever, for_do, cobegin, accepting}
+use Rattle.pfc_tree.specs.shapes.Stmts.{requeue, select, select_else, assign, send, receive, call, no_stmts, more_stmts, body, arm, no_arms, more_arms, accept}
+use Rattle.pfc_tree.specs.shapes.Stmts.{accept_do, alt, no_alts, more_alts, comm_accept, comm_send, comm_receive, timeout, terminate}
 use Rattle.pfc_tree.specs.tokens.Exprs.{expr_tokens, desig_tokens, actuals_tokens}
 use Rattle.pfc_tree.specs.tokens.Types.{constant_tokens, constants_tokens, last_tokens, formals_tokens}
 

@@ -12,7 +12,10 @@ use Rattle.pfc_tree.specs.declared.tree.Expr.{Expr, Expr-F, fold-Expr}
 use Rattle.pfc_tree.specs.declared.tree.Simple.{Simple, Simple-F, fold-Simple}
 use Rattle.pfc_tree.specs.declared.tree.Term.{Term, Term-F, fold-Term}
 use Rattle.pfc_tree.specs.declared.tree.Factor.TheOpen as layer
-use Rattle.pfc_tree.specs.trees.Exprs.{ExprTree, SimpleTree, SummandTrees, TermTree, MultiplierTrees, FactorTree, DesigTree, SelectorTree, SelectorTrees, ExprTrees, ActualTree, ActualTrees, plain, related, sum, no_summands, more_summands, product, no_multipliers, more_multipliers, number, literal, negation, paren, applied, desig, index, field, no_selectors, more_selectors, no_exprs, more_exprs, actual, actual_width, no_actuals, more_actuals}
+use Rattle.pfc_tree.specs.trees.Exprs.{ExprTree, SimpleTree, SummandTrees, TermTree, MultiplierTrees, FactorTree, DesigTree, SelectorTree, SelectorTrees}
+use Rattle.pfc_tree.specs.trees.Exprs.{ExprTrees, ActualTree, ActualTrees, plain, related, sum, no_summands, more_summands, product, no_multipliers}
+use Rattle.pfc_tree.specs.trees.Exprs.{more_multipliers, number, literal, negation, paren, applied, desig, index, field, no_selectors, more_selectors, no_exprs}
+use Rattle.pfc_tree.specs.trees.Exprs.{more_exprs, actual, actual_width, no_actuals, more_actuals}
 
 -- lists of nodes
 abbrev pub summands_of : List ((AddOp × Place) × TermTree) → SummandTrees

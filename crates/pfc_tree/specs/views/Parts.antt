@@ -9,7 +9,8 @@ use Rattle.pfc_tree.specs.declared.tree.SubKind.TheVariants.{Procedure, Function
 use Rattle.pfc_tree.specs.declared.tree.Entry.{Entry}
 use Rattle.pfc_tree.specs.declared.tree.Tree.{Tree}
 use Rattle.pfc_tree.specs.declared.tree.Part.TheOpen as layer
-use Rattle.pfc_tree.specs.trees.Parts.{KindTree, EntryTree, PartTree, PartTrees, SubTree, ModuleTree, ProcessTree, ProgramTree, procedure, function, guarded, consts, types, vars, sub_part, monitor, resource, process_part, no_parts, more_parts, sub, the_module, process}
+use Rattle.pfc_tree.specs.trees.Parts.{KindTree, EntryTree, PartTree, PartTrees, SubTree, ModuleTree, ProcessTree, ProgramTree, procedure, function, guarded}
+use Rattle.pfc_tree.specs.trees.Parts.{consts, types, vars, sub_part, monitor, resource, process_part, no_parts, more_parts, sub, the_module, process}
 use Rattle.pfc_tree.specs.views.Exprs.{expr_view}
 use Rattle.pfc_tree.specs.views.Types.{type_item_view, vars_view, group_view}
 use Rattle.pfc_tree.specs.views.Stmts.{body_view}

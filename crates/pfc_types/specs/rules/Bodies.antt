@@ -8,7 +8,8 @@ use Rattle.pfc_tree.specs.Symbols.{Text}
 use Rattle.pfc_tree.specs.declared.tree.ConstItem.{ConstItem}
 use Rattle.pfc_tree.specs.trees.Types.{VarTrees, TypeItemTree, GroupTree, var_item, no_vars, more_vars}
 use Rattle.pfc_tree.specs.trees.Stmts.{BodyTree}
-use Rattle.pfc_tree.specs.trees.Parts.{KindTree, EntryTree, PartTree, PartTrees, SubTree, ModuleTree, ProcessTree, procedure, function, guarded, consts, types, vars, sub_part, monitor, resource, process_part, no_parts, more_parts, sub, the_module, process}
+use Rattle.pfc_tree.specs.trees.Parts.{KindTree, EntryTree, PartTree, PartTrees, SubTree, ModuleTree, ProcessTree, procedure, function, guarded, consts, types}
+use Rattle.pfc_tree.specs.trees.Parts.{vars, sub_part, monitor, resource, process_part, no_parts, more_parts, sub, the_module, process}
 use Rattle.pfc_types.specs.Faults.{Faults, none, ◌⨾◌}
 use Rattle.pfc_types.specs.Scopes.{Names, Level, scope_at, position_in, here}
 use Rattle.pfc_types.specs.Blocks.{State}

@@ -2,7 +2,8 @@
 use Rattle.std.specs.Prelude.{ℕ, Bool, true, false, not, ◌&&◌, ◌||◌, List, [], Option, Some, None}
 use Rattle.pfc_base.specs.declared.places.Place.{Place}
 use Rattle.pfc_tree.specs.Symbols.{Text}
-use Rattle.pfc_tree.specs.trees.Exprs.{ExprTree, DesigTree, SelectorTrees, ActualTree, ActualTrees, desig, index, field, no_selectors, more_selectors, actual, actual_width, no_actuals, more_actuals}
+use Rattle.pfc_tree.specs.trees.Exprs.{ExprTree, DesigTree, SelectorTrees, ActualTree, ActualTrees, desig, index, field, no_selectors, more_selectors, actual}
+use Rattle.pfc_tree.specs.trees.Exprs.{actual_width, no_actuals, more_actuals}
 use Rattle.pfc_types.specs.Faults.{Faults, none, ◌⨾◌, unless}
 use Rattle.pfc_types.specs.Types.{integer, char, is_same, form_of, process_form}
 use Rattle.pfc_types.specs.Scopes.{meaning_in, scope_at, meaning_of}
@@ -14,8 +15,10 @@ use Rattle.pfc_types.specs.declared.heads.Formal.{Formal}
 use Rattle.pfc_types.specs.declared.heads.SubSort.{SubSort}
 use Rattle.pfc_types.specs.declared.heads.SubSort.TheVariants.{Procedure, Guarded, Function}
 use Rattle.pfc_types.specs.rules.Kinds.{may_have, may_be_simple, value_rule, wrong_kind}
-use Rattle.pfc_types.specs.rules.Routines.{wants_for, called_with, anywhere, in_monitor_sub, Callee, Routine, the_signal, a_function, a_procedure, a_delay, a_reader, a_writer, routine_of, delay_wants, site_rule}
-use Rattle.pfc_types.specs.rules.Expressions.{Env, find, expr_place, as_literal, is_variable, expr_type, selected, first_type, field_type, no_actual, actual_count, count_rule, broken_expr, broken_selectors, broken_actuals}
+use Rattle.pfc_types.specs.rules.Routines.{wants_for, called_with, anywhere, in_monitor_sub, Callee, Routine, the_signal, a_function, a_procedure, a_delay}
+use Rattle.pfc_types.specs.rules.Routines.{a_reader, a_writer, routine_of, delay_wants, site_rule}
+use Rattle.pfc_types.specs.rules.Expressions.{Env, find, expr_place, as_literal, is_variable, expr_type, selected, first_type, field_type, no_actual}
+use Rattle.pfc_types.specs.rules.Expressions.{actual_count, count_rule, broken_expr, broken_selectors, broken_actuals}
 
 -- arguments of which nothing is asked but their own rules
 abbrev pub unasked : Env → ActualTrees → Faults

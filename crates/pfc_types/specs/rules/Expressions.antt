@@ -7,7 +7,10 @@ use Rattle.pfc_tree.specs.declared.tree.AddOp.{AddOp}
 use Rattle.pfc_tree.specs.declared.tree.AddOp.TheVariants.{Add, Sub, Or}
 use Rattle.pfc_tree.specs.declared.tree.MulOp.{MulOp}
 use Rattle.pfc_tree.specs.declared.tree.MulOp.TheVariants.{Mul, Div, Mod, And}
-use Rattle.pfc_tree.specs.trees.Exprs.{ExprTree, SimpleTree, SummandTrees, TermTree, MultiplierTrees, FactorTree, DesigTree, SelectorTree, SelectorTrees, ExprTrees, ActualTree, ActualTrees, plain, related, sum, no_summands, more_summands, product, no_multipliers, more_multipliers, number, literal, negation, paren, applied, desig, index, field, no_selectors, more_selectors, no_exprs, more_exprs, actual, actual_width, no_actuals, more_actuals}
+use Rattle.pfc_tree.specs.trees.Exprs.{ExprTree, SimpleTree, SummandTrees, TermTree, MultiplierTrees, FactorTree, DesigTree, SelectorTree, SelectorTrees}
+use Rattle.pfc_tree.specs.trees.Exprs.{ExprTrees, ActualTree, ActualTrees, plain, related, sum, no_summands, more_summands, product, no_multipliers}
+use Rattle.pfc_tree.specs.trees.Exprs.{more_multipliers, number, literal, negation, paren, applied, desig, index, field, no_selectors, more_selectors, no_exprs}
+use Rattle.pfc_tree.specs.trees.Exprs.{more_exprs, actual, actual_width, no_actuals, more_actuals}
 use Rattle.pfc_types.specs.Faults.{Faults, none, ◌⨾◌, unless}
 use Rattle.pfc_types.specs.Types.{Forms, integer, boolean, char, form_of, array_form, field_form}
 use Rattle.pfc_types.specs.Scopes.{Level, found_in, meaning_of}
@@ -19,7 +22,8 @@ use Rattle.pfc_types.specs.declared.view.Found.{Found}
 use Rattle.pfc_types.specs.declared.view.Around.{Around}
 use Rattle.pfc_types.specs.rules.Kinds.{where_so, has, may_have, agree, may_agree, has_simple, may_be_simple, value_rule, name_rules, a_variable, variable_type}
 use Rattle.pfc_types.specs.rules.Constants.{is_char}
-use Rattle.pfc_types.specs.rules.Routines.{Want, fits_want, want_rules, Callee, nothing_called, called_function, sort_value, routine_value, routine_of, site_fits, site_rule, fits_use, is_any, guard_function}
+use Rattle.pfc_types.specs.rules.Routines.{Want, fits_want, want_rules, Callee, nothing_called, called_function, sort_value, routine_value, routine_of}
+use Rattle.pfc_types.specs.rules.Routines.{site_fits, site_rule, fits_use, is_any, guard_function}
 use Rattle.pfc_types.specs.Blocks.{sub_at}
 
 -- what is known at a place of a body: the finished table and scopes, the names in view, and the tree around

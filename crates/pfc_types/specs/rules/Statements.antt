@@ -5,7 +5,10 @@ use Rattle.pfc_tree.specs.Symbols.{Text}
 use Rattle.pfc_tree.specs.declared.tree.Constant.{Constant}
 use Rattle.pfc_tree.specs.declared.tree.Spread.{Spread}
 use Rattle.pfc_tree.specs.trees.Exprs.{ExprTree, DesigTree, ActualTrees, desig, no_selectors, more_selectors}
-use Rattle.pfc_tree.specs.trees.Stmts.{StmtTree, StmtTrees, BodyTree, ArmTree, ArmTrees, AcceptTree, AltTree, AltTrees, CommTree, empty, null, block, if_then, if_then_else, case_of, while_do, repeat_until, repeat_forever, for_do, cobegin, accepting, requeue, select, select_else, assign, send, receive, call, no_stmts, more_stmts, body, arm, no_arms, more_arms, accept, accept_do, alt, no_alts, more_alts, comm_accept, comm_send, comm_receive, timeout, terminate}
+use Rattle.pfc_tree.specs.trees.Stmts.{StmtTree, StmtTrees, BodyTree, ArmTree, ArmTrees, AcceptTree, AltTree, AltTrees, CommTree, empty, null, block, if_then}
+use Rattle.pfc_tree.specs.trees.Stmts.{if_then_else, case_of, while_do, repeat_until, repeat_forever, for_do, cobegin, accepting, requeue, select, select_else}
+use Rattle.pfc_tree.specs.trees.Stmts.{assign, send, receive, call, no_stmts, more_stmts, body, arm, no_arms, more_arms, accept, accept_do, alt, no_alts}
+use Rattle.pfc_tree.specs.trees.Stmts.{more_alts, comm_accept, comm_send, comm_receive, timeout, terminate}
 use Rattle.pfc_types.specs.Faults.{Faults, none, ◌⨾◌, unless}
 use Rattle.pfc_types.specs.Types.{Forms, integer, synchronous, is_simple, form_of, carried_form, extent}
 use Rattle.pfc_types.specs.Scopes.{Level, here, meaning_of}
@@ -17,7 +20,8 @@ use Rattle.pfc_types.specs.declared.view.Around.{Around}
 use Rattle.pfc_types.specs.declared.heads.SubHead.{SubHead}
 use Rattle.pfc_types.specs.declared.heads.SubSort.{SubSort}
 use Rattle.pfc_types.specs.declared.heads.SubSort.TheVariants.{Procedure, Guarded, Function}
-use Rattle.pfc_types.specs.rules.Kinds.{has, may_have, may_agree, may_be_simple, value_rule, condition_rule, name_rules, wrong_kind, a_variable, an_entry, variable_type}
+use Rattle.pfc_types.specs.rules.Kinds.{has, may_have, may_agree, may_be_simple, value_rule, condition_rule, name_rules, wrong_kind, a_variable, an_entry}
+use Rattle.pfc_types.specs.rules.Kinds.{variable_type}
 use Rattle.pfc_types.specs.rules.Constants.{Ordinal, are_bounds, constant_value, constant_type, constant_place, broken_constant}
 use Rattle.pfc_types.specs.rules.Routines.{is_any}
 use Rattle.pfc_types.specs.rules.Expressions.{Env, find, expr_place, desig_place, as_desig, expr_type, desig_type, broken_expr, broken_desig}

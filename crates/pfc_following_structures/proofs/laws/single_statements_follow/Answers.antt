@@ -1,4 +1,5 @@
-use Rattle.pfc_following_structures.proofs.Anywhere.{assignment_statement_follows, send_statement_follows, receive_statement_follows, call_statement_follows, requeue_statement_follows}
+use Rattle.pfc_following_structures.proofs.Anywhere.{assignment_statement_follows, send_statement_follows, receive_statement_follows, call_statement_follows}
+use Rattle.pfc_following_structures.proofs.Anywhere.{requeue_statement_follows}
 use Rattle.pfc_following_structures.proofs.laws.single_statements_follow.Goals as goal
 
 pub returns-clause-assignments : goal.returns-clause-assignments

@@ -8,7 +8,8 @@ use Rattle.pfc_types.specs.Types.{extent}
 use Rattle.pfc_code.specs.declared.images.ProcessInfo.{ProcessInfo}
 use Rattle.pfc_translation.specs.Objects.{Labelled, labelled_before, all_labelled, elements_labelled, process_info}
 use Rattle.pfc_labels.specs.Processes.{known, infos}
-use Rattle.pfc_labels.proofs.Labelled.{labelled_of_form, part_before, part_past, none_held, nothing_labelled, none_labelled, elements_next, elements_done, fields_next, fields_done}
+use Rattle.pfc_labels.proofs.Labelled.{labelled_of_form, part_before, part_past, none_held, nothing_labelled, none_labelled, elements_next, elements_done}
+use Rattle.pfc_labels.proofs.Labelled.{fields_next, fields_done}
 use Rattle.pfc_labels.proofs.labels.+labels.Goals as goal
 
 pub add_elements-loop-k-init : goal.add_elements-loop-k-init

@@ -1,7 +1,8 @@
 -- Each loop: what is found, with what is still to come, is what is to be found.
 use Rattle.std.proofs.Common.{◌≡◌, ◌<◌, None, ◌&&◌, drop}
 use Rattle.pfc_tree.specs.views.Exprs.{summands_view, multipliers_view, selectors_view, exprs_view, actuals_view}
-use Rattle.pfc_types.specs.rules.Expressions.{summed, multiplied, selected, indexed, args_fit, first_type, broken_summands, broken_multipliers, broken_selectors, broken_indexes, broken_actuals}
+use Rattle.pfc_types.specs.rules.Expressions.{summed, multiplied, selected, indexed, args_fit, first_type, broken_summands, broken_multipliers}
+use Rattle.pfc_types.specs.rules.Expressions.{broken_selectors, broken_indexes, broken_actuals}
 use Rattle.pfc_phrases.specs.Found.{noted}
 use Rattle.pfc_phrases.specs.Views.{env_view, wants_view}
 use Rattle.pfc_phrases.proofs.exprs.+exprs.Given as goal

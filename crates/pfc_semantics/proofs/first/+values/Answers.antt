@@ -5,7 +5,8 @@ use Rattle.pfc_types.specs.Types.{extent}
 use Rattle.pfc_semantics.specs.Values.{copies}
 use Rattle.pfc_semantics.specs.Objects.{first_of, all_first}
 use Rattle.pfc_semantics.specs.Seen.{seen, seen_parts, value_view, list, list_seen}
-use Rattle.pfc_semantics.proofs.Firsts.{initial_form, initial_none, part_before, part_past, copies_seen, fields_seen, number_view, list_view, initial_channel, initial_process, fields_next}
+use Rattle.pfc_semantics.proofs.Firsts.{initial_form, initial_none, part_before, part_past, copies_seen, fields_seen, number_view, list_view, initial_channel}
+use Rattle.pfc_semantics.proofs.Firsts.{initial_process, fields_next}
 use Rattle.pfc_semantics.proofs.first.+values.Goals as goal
 
 pub elements-returns : goal.elements-returns

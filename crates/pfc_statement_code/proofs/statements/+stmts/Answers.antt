@@ -1,5 +1,6 @@
 -- Each statement is made part by part.
-use Rattle.std.proofs.Common.{◌≡◌, ◌<◌, ◌≤◌, ◌+◌, ◌++◌, ℕ, List, [], ◌∷◌, length, drop, false, Option, Some, None, option_map, OnOk, IfOk, IfErr, refl, sym, ap, ap₂, subst, ◌∙◌, arith, append-nil}
+use Rattle.std.proofs.Common.{◌≡◌, ◌<◌, ◌≤◌, ◌+◌, ◌++◌, ℕ, List, [], ◌∷◌, length, drop, false, Option, Some, None, option_map, OnOk, IfOk, IfErr, refl, sym, ap}
+use Rattle.std.proofs.Common.{ap₂, subst, ◌∙◌, arith, append-nil}
 use Rattle.pfc_code.specs.declared.instructions.Instr.TheVariants.{JMP, JF, TURN, FORB, FORW, FORT, COEND, EACC}
 use Rattle.pfc_tree.specs.declared.tree.Spread.{Spread}
 use Rattle.pfc_tree.specs.trees.Stmts.{StmtTrees, ArmTrees, AltTrees, alt}
@@ -14,7 +15,8 @@ use Rattle.pfc_translation.specs.Codes.{Code, nothing, ◌⨾◌, one, over, wit
 use Rattle.pfc_translation.specs.Addresses.{base_code}
 use Rattle.pfc_translation.specs.Expressions.{expr_code}
 use Rattle.pfc_translation.specs.Selects.{accept_code}
-use Rattle.pfc_translation.specs.Statements.{stmt_code, stmts_code, arms_code, accepted_code, met_code, branches_code, branches_from, chosen_code, spread_replicas, spread_of, sel_code, select_code, distances}
+use Rattle.pfc_translation.specs.Statements.{stmt_code, stmts_code, arms_code, accepted_code, met_code, branches_code, branches_from, chosen_code}
+use Rattle.pfc_translation.specs.Statements.{spread_replicas, spread_of, sel_code, select_code, distances}
 use Rattle.pfc_emit.specs.Patches.{patched}
 use Rattle.pfc_emit.specs.declared.emitter.EmitFault.TheVariants.{Full}
 use Rattle.pfc_emit.proofs.Patches.{length-patched}
@@ -30,10 +32,13 @@ use Rattle.pfc_statement_code.specs.Forms as forms
 use Rattle.pfc_statement_code.specs.Leading.{have_all, all_led}
 use Rattle.pfc_statement_code.proofs.Arms.{arms_have, case_made, case_have_tests, tests_size, open_tests_size}
 use Rattle.pfc_statement_code.proofs.Branches.{plain_branch, plain_end, branches_have, branches_length, branches_size, starts_far, distances_many}
-use Rattle.pfc_statement_code.proofs.Forms.{if_then_made, first_choice_made, choice_refused, choice_made, choice_large, choice_next, otherwise_made, while_made, forever_made, repeat_made, for_made, alone_has}
+use Rattle.pfc_statement_code.proofs.Forms.{if_then_made, first_choice_made, choice_refused, choice_made, choice_large, choice_next, otherwise_made, while_made}
+use Rattle.pfc_statement_code.proofs.Forms.{forever_made, repeat_made, for_made, alone_has}
 use Rattle.pfc_statement_code.proofs.Leading.{through, last_has, later_has}
-use Rattle.pfc_statement_code.proofs.Loops.{IsOnTheWay, way_begins, way_goes, way_ends, way_large, ArmsGo, arms_begin, arms_next, arms_large, BranchesGo, branches_begin, branches_next, branches_large, refused, then_made, then_large}
-use Rattle.pfc_statement_code.proofs.Nodes.{alt_view-out, stmt_view-choice, stmt_view-for, stmt_view-accept, stmt_view-else, stmts_here, arm_here, alts_here, stmts_end, arms_end, alts_end}
+use Rattle.pfc_statement_code.proofs.Loops.{IsOnTheWay, way_begins, way_goes, way_ends, way_large, ArmsGo, arms_begin, arms_next, arms_large, BranchesGo}
+use Rattle.pfc_statement_code.proofs.Loops.{branches_begin, branches_next, branches_large, refused, then_made, then_large}
+use Rattle.pfc_statement_code.proofs.Nodes.{alt_view-out, stmt_view-choice, stmt_view-for, stmt_view-accept, stmt_view-else, stmts_here, arm_here, alts_here}
+use Rattle.pfc_statement_code.proofs.Nodes.{stmts_end, arms_end, alts_end}
 use Rattle.pfc_statement_code.proofs.Selects.{alternatives_size, select_rest, sel_has, else_have, else_rest}
 use Rattle.pfc_statement_code.proofs.statements.+stmts.Goals as goal
 

@@ -6,7 +6,8 @@ use Rattle.pfc_semantics.specs.Configurations.{start}
 use Rattle.pfc_state.specs.declared.endings.Ending.TheVariants.{SinkFailed, Memory}
 use Rattle.pfc_walk.specs.Answers.{IsAnswerToText}
 use Rattle.pfc_walk.specs.Traces.{run_told}
-use Rattle.pfc_walk.proofs.Courses.{ran, from, has_report, report_status, line_known, completed, broken_front, written_whole, written_front, output_front, course_of, line_of}
+use Rattle.pfc_walk.proofs.Courses.{ran, from, has_report, report_status, line_known, completed, broken_front, written_whole, written_front, output_front}
+use Rattle.pfc_walk.proofs.Courses.{course_of, line_of}
 use Rattle.pfc_walk.proofs.Outcomes.{no_stop, same_stop, stopped_sound, stopped_written}
 use Rattle.pfc_walk.proofs.running.walk_on.Goals as goal
 

@@ -4,7 +4,8 @@ use Rattle.pfc_machines.specs.declared.alternatives.Alternative.{Alternative}
 use Rattle.pfc_machines.specs.Offers.{arm_of, listed_arm, arms_of, kept_under, communications}
 use Rattle.pfc_machines.proofs.Walking.{next_of, arms_step, stands_here, stands_before}
 use Rattle.pfc_machines.proofs.communications.Communications.communication.Goals as goal
-use Rattle.pfc_machines.proofs.communications.Communications.communication.Goals.{else-arms-eq1-via-then-arms-eq1+else-left-place, else-arms-eq1-via-else-arms-eq1}
+use Rattle.pfc_machines.proofs.communications.Communications.communication.Goals.{else-arms-eq1-via-then-arms-eq1+else-left-place}
+use Rattle.pfc_machines.proofs.communications.Communications.communication.Goals.{else-arms-eq1-via-else-arms-eq1}
 
 pub overflow_sub-left : goal.overflow_sub-left
 overflow_sub-left c =

@@ -110,7 +110,15 @@ module _ (asks : ℕ → ℕ → ℕ → ℕ → List Value → Type 0) (g : Pro
   AsksIn rows q hand = Unit {0}
 
   abbrev shown : List Stand → Told
-  shown rows = record { program = g; so = λ q a. AsksIn rows q a.hand; alive = λ activations. Unit {0}; requeues = λ mark. Unit {0}; does = λ q l doing. Unit {0}; waits = λ q l caller. Unit {0} }
+  shown rows = record {
+    program = g;
+    so = λ q a. AsksIn rows q a.hand;
+    alive = λ activations. Unit {0};
+    requeues = λ mark. Unit {0};
+    does =
+        λ q l doing. Unit {0};
+    waits = λ q l caller. Unit {0};
+  }
 
   told : (rows : List Stand) → IsTold (shown rows)
   told rows =
@@ -262,7 +270,8 @@ module _ (asks : ℕ → ℕ → ℕ → ℕ → List Value → Type 0) (g : Pro
           let now : Now rows = called_now c.table p q entry in
           as_asked (done_at g (showing g waiting p (asking values)) p line)
           (done_so (shown rows) (told rows) (showing g waiting p (asking values)) p line
-          (it_shows (shown rows) (told rows) waiting p (asking values) (activity_of g waiting p).activations refl (on rows now) (λ a same old. new_so rows now)))
+          (it_shows (shown rows) (told rows) waiting p (asking values) (activity_of g waiting p).activations refl
+          (on rows now) (λ a same old. new_so rows now)))
 
       entry_asked : AreAsked (after g c p line (enters g c p x s entry given k))
       entry_asked = by (is_uncalled c.table q) (is_accepting c.table.rows q entry)

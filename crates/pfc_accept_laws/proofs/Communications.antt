@@ -210,10 +210,12 @@ module _ (t : Told) (told : IsTold t) where
         (o : Open) (k : Remainder) (q : Option ℕ) → OpenSo t p (acts_of t c p) x k o → t.does p (acts_of t c p) (going x.env k)
         → MayShow t p (acts_of t c p) (offering x (o ∷ []) k) → Each t (meets_or_waits g c p x o k q)
     meets_or_waits_so o k (Some q) one left may = by_so o k q o.offer (arm_of g c p o.offer) refl one
-    meets_or_waits_so o k None one left may = it_shows t told (goes_on g c p x k) p (offering x (o ∷ []) k) (acts_of t c p) (acts_stay t c p (going x.env k) p) (it_goes t told c p x k all left) may
+    meets_or_waits_so o k None one left may = it_shows t told (goes_on g c p x k) p (offering x (o ∷ []) k) (acts_of t c p)
+        (acts_stay t c p (going x.env k) p) (it_goes t told c p x k all left) may
 
     pub meets_so :
-        (o : Open) (k : Remainder) → OpenSo t p (acts_of t c p) x k o → t.does p (acts_of t c p) (going x.env k) → MayShow t p (acts_of t c p) (offering x (o ∷ []) k)
+        (o : Open) (k : Remainder) → OpenSo t p (acts_of t c p) x k o → t.does p (acts_of t c p) (going x.env k) →
+        MayShow t p (acts_of t c p) (offering x (o ∷ []) k)
         → EachIn t (meets_at g c p x o k)
     meets_so o k one left may = meets_or_waits_so o k (partner_at c p (arm_of g c p o.offer)) one left may
 
@@ -225,7 +227,8 @@ module _ (t : Told) (told : IsTold t) where
 
     module _ (s : Selecting) (k : Remainder) (select : SelectSo t p (acts_of t c p) x s k) (may : MayShow t p (acts_of t c p) (offering x s.offered k)) where
       waits_so : (due : Option ℕ) (end : Remainder) → t.does p (acts_of t c p) (going x.env end) → Each t (waits_until g c p x s k due end)
-      waits_so due end ending = it_shows t told (goes_on g c p x end) p (offering x s.offered k) (acts_of t c p) (acts_stay t c p (going x.env end) p) (it_goes t told c p x end all ending) may
+      waits_so due end ending = it_shows t told (goes_on g c p x end) p (offering x s.offered k) (acts_of t c p) (acts_stay t c p (going x.env end) p)
+          (it_goes t told c p x end all ending) may
 
       closed_so : (timeout : Option Timeout) (os : List Open) → TimeoutSo p (acts_of t c p) x k timeout → EachIn t (waits_or_closed g c p x s k timeout os)
       closed_so None [] at = tt

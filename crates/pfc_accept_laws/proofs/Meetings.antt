@@ -45,7 +45,8 @@ module _ (b : Block) where
     abbrev behind_it : Remainder
     behind_it = part_from caller a.line (in_names x.env after)
 
-    in_statement : PlacesOffer b x.env k (to_accept a) → IsPlaced b (within_accept x.env a.scope) (a.scope + 1) (stmts_scopes (more_stmts a.stmt no_stmts)) behind_it
+    in_statement : PlacesOffer b x.env k (to_accept a) →
+        IsPlaced b (within_accept x.env a.scope) (a.scope + 1) (stmts_scopes (more_stmts a.stmt no_stmts)) behind_it
     in_statement placed =
         let own : AreOfBlock b (a.scope + 1) (scopes_in a.stmt) = (back b x.env a.scope k 1 (scopes_in a.stmt) placed).2 in (
           before_within a.scope x.env placed.0,

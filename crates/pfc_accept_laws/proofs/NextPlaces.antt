@@ -29,7 +29,8 @@ use Rattle.pfc_accept_laws.proofs.StatementPlaces.{width_places, writes_place, r
 use Rattle.pfc_accept_laws.proofs.StatementPlaces.{bounds_place, pass_places, again_places, until_places, stmt_places, stmts_place, arms_place}
 
 module _ (b : Block) where
-  other_places : (c : Context) (w : Tried) (s : Scan) (k : Remainder) → ((e : Env) → PlacesRemainder b e k) → (v : Value) → PlacesAction b (from_other c w s k v)
+  other_places : (c : Context) (w : Tried) (s : Scan) (k : Remainder) → ((e : Env) → PlacesRemainder b e k) →
+      (v : Value) → PlacesAction b (from_other c w s k v)
   other_places c w s k left v =
       either b (is_true (ordinal_of v)) (passes c w s k) (scans (context c.env s.line) (record s { after = Some w.ticket }) k) left left
 
@@ -145,7 +146,8 @@ module _ (b : Block) where
         opened_places b c a rest s k left.0 left.1 (λ t. from_alternatives c rest t k)
         (λ t found. alternatives_place b c rest t k left.0.others found left.1) v
     value_places (offer_value channel a rest s k) left v =
-        alternatives_place b c rest (with_open a s (to_send channel v)) k left.0.others (open_places b c a s (to_send channel v) k left.0.one left.0.all tt) left.1
+        alternatives_place b c rest (with_open a s (to_send channel v)) k left.0.others
+        (open_places b c a s (to_send channel v) k left.0.one left.0.all tt) left.1
     value_places (offer_wait a rest s k) left v =
         seconds_place b c a s (λ t. from_alternatives c rest t k) v k left.0.one left.0.all
         (λ t found. alternatives_place b c rest t k left.0.others found left.1)

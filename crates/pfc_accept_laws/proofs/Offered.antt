@@ -18,7 +18,15 @@ module _ (offers : ℕ → Context → List Open → Remainder → Type 0) (g : 
   OffersIn q hand = Unit {0}
 
   abbrev shown : Told
-  shown = record { program = g; so = λ q a. OffersIn q a.hand; alive = λ activations. Unit {0}; requeues = λ mark. Unit {0}; does = λ q l doing. Unit {0}; waits = λ q l caller. Unit {0} }
+  shown = record {
+    program = g;
+    so = λ q a. OffersIn q a.hand;
+    alive = λ activations. Unit {0};
+    requeues = λ mark. Unit {0};
+    does =
+        λ q l doing. Unit {0};
+    waits = λ q l caller. Unit {0};
+  }
 
   shown_told : IsTold shown
   shown_told =

@@ -105,12 +105,14 @@ entered_stop source s new p q entry values d uncalled ends g c choice a n is_at 
     let t : Tables = source.program.tables in
     let is : is_uncalled c.table q ≡ true = ap (λ (w : Table). is_uncalled w q) (sym is_at.before.agrees.table) ∙ uncalled in
     ends source g c choice a n is_at
-    (e ∙ ap (λ (z : Bool). enters_where z (is_accepting c.table.rows q entry) g c p (context_of t a.doing) q entry (values_view values) (remainder_of (pending_of t a.doing))) is)
+    (e ∙ ap (λ (z : Bool). enters_where z (is_accepting c.table.rows q entry) g c p (context_of t a.doing) q entry (values_view values)
+    (remainder_of (pending_of t a.doing))) is)
     lines
 
 -- as it was found in the table
 enters_so :
-    (source : Source) (g : Program) (s : State) (c : Config) (p q entry : ℕ) (a : Activity) (n : Action) (x : Context) (values : List Value) (k : Remainder) (accepting : Bool)
+    (source : Source) (g : Program) (s : State) (c : Config) (p q entry : ℕ) (a : Activity) (n : Action) (x : Context)
+    (values : List Value) (k : Remainder) (accepting : Bool)
     → IsAt source s c p a n → is_uncalled s.world q ≡ false → is_accepting s.world.rows q entry ≡ accepting
     → enters_process g c p x q entry values k ≡ enters_where false accepting g c p x q entry values k
 enters_so source g s c p q entry a n x values k accepting is_at active accepts =
@@ -140,7 +142,8 @@ owner_met source s new w p q entry values found owner m d other within active ac
     let side : side_of g c q (Entry entry) ≡ Some (owner_side t found owner)
     = side_is t g c q (Entry entry) (store_view s.store) found partner is_at.before.agrees.store ∙ offers t in
     let comes : effect g c p choice n
-    ≡ Ok (met_by g (goes_on g c1 p x k) q (context (names_view t found.doing.names) owner.line) acc (opened (to_accept acc) owner.way) p vs (left_of t found owner.way.kept))
+    ≡ Ok (met_by g (goes_on g c1 p x k) q (context (names_view t found.doing.names) owner.line) acc
+    (opened (to_accept acc) owner.way) p vs (left_of t found owner.way.kept))
     = e ∙ enters_so source g s c p q entry a n x vs k true is_at active accepts
     ∙ ap (λ (o : Option Side). (let r : Effect = Ok (called_at g (with_table (goes_on g c p x k) table) p q vs o) in r)) side in
     meets source g c c1 choice a found n owner.accepting owner.way (to_accept acc) owner.line (other_table source s w table c p a n is_at acted table_is)
@@ -179,4 +182,5 @@ pub enters_performed :
 enters_performed source s new p entry spot args list d same entered g c choice a program is_at =
     let t : Tables = source.program.tables in
     entered g c choice a (deed_of t a.doing (deed.Calls (callee.Entry spot entry) args)) is_at
-    (ap (λ (l : List Argument). enters g c p (context_of t a.doing) (spot_view spot) entry (given_view l) (remainder_of (pending_of t a.doing))) (sym same)) refl
+    (ap (λ (l : List Argument). enters g c p (context_of t a.doing) (spot_view spot) entry (given_view l)
+    (remainder_of (pending_of t a.doing))) (sym same)) refl

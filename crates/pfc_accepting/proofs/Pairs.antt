@@ -67,7 +67,8 @@ pub both_end :
     → IsKept mid new → new.world ≡ ticked mid.world → IsNew new.world.rows new.world.done
     → effect g c p choice n ≡ Ok (record k { store = store; activities = set (set k.activities p w) q v })
     → line ≡ a.doing.line → line_of n ≡ a.doing.line → k.output ≡ c.output → Ends source g new c p choice n [] Stepped
-both_end source g s mid new c k store p q choice a y z all n w v line before acting sound other acts meets mid_is many store_is all_is last kept ticks fresh e of_line lines output =
+both_end source g s mid new c k store p q choice a y z all n w v line before acting sound other acts meets mid_is many store_is all_is last
+    kept ticks fresh e of_line lines output =
     let t : Tables = source.program.tables in
     let ys : List Activity = s.activities.items in
     let cs : List configurations.Activity = set (set k.activities p w) q v in

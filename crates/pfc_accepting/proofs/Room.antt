@@ -35,7 +35,8 @@ own_room_so s new q found z is seen doing new_is items source c a n is_at =
     let shows : activity_shown t z ≡ activity_shown t a = seen t ∙ ap (activity_shown t) same in
     let kept : shown_before source z n before.hand ≡ shown_before source a n before.hand
     = ap (λ (x : Shown). (let y : Shown = record x { next = n; hand = before.hand } in y)) shows in
-    let others : set (activities_shown t new.activities.items) q (shown_before source z n before.hand) ≡ set (activities_shown t ys) q (shown_before source a n before.hand)
+    let others : set (activities_shown t new.activities.items) q (shown_before source z n before.hand) ≡ set
+    (activities_shown t ys) q (shown_before source a n before.hand)
     = ap (λ (l : List Activity). set (activities_shown t l) q (shown_before source z n before.hand)) items
     ∙ ap (λ (l : List Shown). set l q (shown_before source z n before.hand)) (map-set (activity_shown t) ys q z)
     ∙ set-set (activities_shown t ys) q (activity_shown t z) (shown_before source z n before.hand)

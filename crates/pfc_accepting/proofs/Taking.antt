@@ -70,8 +70,10 @@ meeting_is t names accepting way m offer line caller k is =
     ∙ ap (λ (e : Env). meeting_by t caller way e m.next (stmt_at m.stmt) m.line m.outer k) is.inner
     ∙ ap (λ (n : ℕ). meeting_by t caller way (within_accept (names_view t names) accepting.scope) n (stmt_at m.stmt) m.line m.outer k) is.next
     ∙ ap (λ (s : StmtTree). meeting_by t caller way (within_accept (names_view t names) accepting.scope) (accepting.scope + 1) s m.line m.outer k) is.stmt
-    ∙ ap (λ (l : ℕ). meeting_by t caller way (within_accept (names_view t names) accepting.scope) (accepting.scope + 1) (stmt_of accepting.stmt) l m.outer k) is.line
-    ∙ ap (λ (i : InView). meeting_by t caller way (within_accept (names_view t names) accepting.scope) (accepting.scope + 1) (stmt_of accepting.stmt) accepting.line i k) is.outer
+    ∙ ap (λ (l : ℕ). meeting_by t caller way (within_accept (names_view t names) accepting.scope) (accepting.scope + 1)
+    (stmt_of accepting.stmt) l m.outer k) is.line
+    ∙ ap (λ (i : InView). meeting_by t caller way (within_accept (names_view t names) accepting.scope) (accepting.scope + 1)
+    (stmt_of accepting.stmt) accepting.line i k) is.outer
 
 -- with what is left behind it
 meeting_left :
@@ -111,7 +113,8 @@ pub taken_so :
     → ((y : Activity) → IsIn s.activities.items p y → line ≡ y.doing.line)
     → ((y : Activity) → IsIn mid.activities.items p y → new.activities.items ≡ set mid.activities.items p (at_line y line))
     → IsKept mid new → new.world ≡ ticked mid.world → IsNew new.world.rows new.world.done → IsTaken s new p caller m Stepped
-taken_so s emptied mid new p caller args m found z line other within is given shows emptied_is items begun of_line last kept ticks fresh source g c k choice a n accepting way offer before acting sound at_meeting e lines output =
+taken_so s emptied mid new p caller args m found z line other within is given shows emptied_is items begun of_line last kept ticks fresh source g c k choice a n
+    accepting way offer before acting sound at_meeting e lines output =
     let t : Tables = source.program.tables in
     let ys : List Activity = s.activities.items in
     let x : Context = context_of t a.doing in
@@ -154,7 +157,8 @@ pub met_so :
     → ((y : Activity) → IsIn mid.activities.items p y → all ≡ set mid.activities.items p (at_work y at.Rest))
     → ((y : Activity) → IsIn all p y → new.activities.items ≡ set all p (at_line y line))
     → IsKept mid new → new.world ≡ ticked mid.world → IsNew new.world.rows new.world.done → IsMet s new p q values m Stepped
-met_so s mid new p q values m all line other begun of_line then_so last kept ticks fresh source g c k choice a b n accepting way offer line_there before acting sound there at_meeting e lines output =
+met_so s mid new p q values m all line other begun of_line then_so last kept ticks fresh source g c k choice a b n accepting way offer line_there before acting
+    sound there at_meeting e lines output =
     let t : Tables = source.program.tables in
     let ys : List Activity = s.activities.items in
     let x : Context = context_of t a.doing in

@@ -48,7 +48,8 @@ IsTaken old new p caller m d =
 -- Process p calls an entry that process q waits to accept: the meeting begins.
 abbrev pub IsMet : State → State → ℕ → ℕ → List Value → Meeting → Done → Type 0
 IsMet old new p q values m d =
-    (source : Source) (g : Program) (c k : Config) (choice : ℕ) (a b : Activity) (n : Action) (accepting : Accepting) (way : Onward) (offer : remainders.Offer) (line : ℕ)
+    (source : Source) (g : Program) (c k : Config) (choice : ℕ) (a b : Activity) (n : Action) (accepting : Accepting)
+    (way : Onward) (offer : remainders.Offer) (line : ℕ)
     → IsBefore source old k p a n → k.table.acting ≡ None → k.fault ≡ None → IsIn old.activities.items q b
     → IsMeetingAt source.program.tables b.doing.names accepting way m
     → effect g c p choice n

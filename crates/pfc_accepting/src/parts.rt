@@ -25,7 +25,8 @@ pub(crate) fn put<'t>(pending: &mut Vec<Pending<'t>>, part: Pending<'t>)
 #[tactic(auto, using(crate::proofs::Statements::behind_none, crate::proofs::Statements::behind_some))]
 pub(crate) fn put_statements<'t>(pending: &mut Vec<Pending<'t>>, next: u32, stmts: Stmts<'t>)
     requires { vec_len pending.old + 1 ≤ vec_capacity pending.old }
-    ensures over { (t : Tables) → remainder_of (waiting t pending.new.items) ≡ behind next (stmts_left stmts.entry) (remainder_of (waiting t pending.old.items)) }
+    ensures over { (t : Tables) → remainder_of (waiting t pending.new.items) ≡ behind next (stmts_left stmts.entry)
+        (remainder_of (waiting t pending.old.items)) }
     ensures count { vec_len pending.new ≤ vec_len pending.old + 1 }
     ensures room { vec_capacity pending.old ≤ vec_capacity pending.new }
 {
@@ -37,7 +38,8 @@ pub(crate) fn put_statements<'t>(pending: &mut Vec<Pending<'t>>, next: u32, stmt
 /// The write of a replica is pending, where there is one.
 pub(crate) fn put_replica<'t>(pending: &mut Vec<Pending<'t>>, replica: Option<Replica>)
     requires { vec_len pending.old + 1 ≤ vec_capacity pending.old }
-    ensures { (t : Tables) → remainder_of (waiting t pending.new.items) ≡ behind_replica (option_map replica_view replica) (remainder_of (waiting t pending.old.items)) }
+    ensures { (t : Tables) → remainder_of (waiting t pending.new.items) ≡ behind_replica (option_map replica_view replica)
+        (remainder_of (waiting t pending.old.items)) }
 {
     if let Some(r) = replica {
         put(pending, Pending::WriteAgain(r));

@@ -40,7 +40,8 @@ put_there xs mid p b within is =
     }
 
 -- whatever stands in its place
-over_place : (t : Tables) (xs mid : List Activity) (p : ℕ) (b : Activity) (x : Shown) → mid ≡ set xs p b → set (activities_shown t xs) p x ≡ set (activities_shown t mid) p x
+over_place : (t : Tables) (xs mid : List Activity) (p : ℕ) (b : Activity) (x : Shown) → mid ≡ set xs p b →
+    set (activities_shown t xs) p x ≡ set (activities_shown t mid) p x
 over_place t xs mid p b x is =
     sym (ap (λ (l : List Activity). set (activities_shown t l) p x) is ∙ ap (λ (l : List Shown). set l p x) (map-set (activity_shown t) xs p b)
     ∙ set-set (activities_shown t xs) p (activity_shown t b) x)

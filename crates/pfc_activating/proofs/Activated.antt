@@ -192,7 +192,12 @@ entered_is t a number entry doing display held k ahead in_view cells =
     } in
     ap (λ (m : Action). of m display entry.cells) ahead
     ∙ ap (λ (inner : Display). of (from_remainder (block_view t held).env k) inner entry.cells) in_view
-    ∙ ap (of (from_remainder (block_view t held).env k) (record { scope = held.scope; activation = number; first = 0 } ∷ outward a.display held.outer)) (sym cells)
+    ∙ ap (of (from_remainder (block_view t held).env k) (record {
+      scope = held.scope;
+      activation = number;
+      first =
+          0;
+    } ∷ outward a.display held.outer)) (sym cells)
 
 pub activated_so :
     (source : Source) (s new : State) (p : ℕ) (held : HeldBlock) (entry : Entry) (doing : Doing) (args : List Argument) (number : ℕ) (display : Display)
@@ -205,7 +210,8 @@ pub activated_so :
     → new ≡ record s { activities = new.activities; store = new.store } → new.activities.items ≡ set (set s.activities.items p b) p y
     → store_view new.store ≡ with_room (store_view s.store) number (values_view values)
     → Activates source s new p held entry doing args
-activated_so source s new p held entry doing args number display values found moved b opened y is moved_is alike opened_is cells numbered in_view given shows new_is twice store g c a n k program is_at ahead =
+activated_so source s new p held entry doing args number display values found moved b opened y is moved_is alike opened_is cells numbered in_view given shows
+    new_is twice store g c a n k program is_at ahead =
     let t : Tables = source.program.tables in
     let before : IsBefore source s c p a n = is_at.before in
     let block : Block = block_view t held in

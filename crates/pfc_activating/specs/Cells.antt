@@ -11,7 +11,8 @@ use Rattle.pfc_activities.specs.Views.{activations_view}
 
 -- with one of this block process p has so many
 abbrev pub HasCells : State → ℕ → Block → ℕ → Type 0
-HasCells s p block n = (a : Activity) → IsIn s.activities.items p a → (t : Tables) → cells_above (activations_view t a.activations.items) (block_view t block) ≡ n
+HasCells s p block n = (a : Activity) → IsIn s.activities.items p a → (t : Tables) →
+    cells_above (activations_view t a.activations.items) (block_view t block) ≡ n
 
 -- it has too many
 abbrev pub IsFull : State → ℕ → Block → Type 0

@@ -30,7 +30,8 @@ fn cells_below(activations: &[Activation]) -> u64
 pub fn cells_above(p: u32, activations: &[Activation], block: &Block) -> Option<u64>
     ensures some { IfSome result (λ n. (t : Tables) → calls.cells_above (activations_view t activations.now) (block_view t block.now) ≡ n) }
     ensures few { IfSome result (λ n. nat_le n (calls.most_cells p) ≡ true) }
-    ensures many { result ≡ None → (t : Tables) → nat_le (calls.cells_above (activations_view t activations.now) (block_view t block.now)) (calls.most_cells p) ≡ false }
+    ensures many { result ≡ None → (t : Tables) →
+        nat_le (calls.cells_above (activations_view t activations.now) (block_view t block.now)) (calls.most_cells p) ≡ false }
 {
     let cells = cells_below(activations).checked_add(u64::from(block.cells) + 8)?;
     if cells > most_cells(p) {

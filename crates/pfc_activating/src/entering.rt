@@ -116,7 +116,8 @@ pub fn prepare<'t>(
     args: &[Argument],
 ) -> Result<Beginning, Memory>
     ensures display { IfOk result (λ b. b.display ≡ record { scope = block.now.scope; activation = number; first = 0 } ∷ outward display.now block.now.outer) }
-    ensures values { IfOk result (λ b. values_view b.values.items ≡ values_in types.now block.now.layout.items (map (passed_in (store_view store.now) display.now) (given_view args.now))) }
+    ensures values { IfOk result (λ b. values_view b.values.items ≡ values_in types.now block.now.layout.items
+        (map (passed_in (store_view store.now) display.now) (given_view args.now))) }
 {
     let own = Frame {
         scope: block.scope,

@@ -45,7 +45,8 @@ as_put t ys p a there =
     ap (activities_shown t) (sym (set-get_or ys p a) ∙ ap (λ (z : Activity). set ys p z) (there.is a)) ∙ map-set (activity_shown t) ys p a
 
 -- there are as many on both sides
-pub as_many : (t : Tables) (xs : List configurations.Activity) (ys : List Activity) (p : ℕ) (old : Shown) → map shown xs ≡ set (activities_shown t ys) p old → length xs ≡ length ys
+pub as_many : (t : Tables) (xs : List configurations.Activity) (ys : List Activity) (p : ℕ) (old : Shown) →
+    map shown xs ≡ set (activities_shown t ys) p old → length xs ≡ length ys
 as_many t xs ys p old h = sym (length-map xs shown) ∙ ap length h ∙ length-set (activities_shown t ys) p old ∙ length-map ys (activity_shown t)
 
 -- what the process shows in the definitions
@@ -177,11 +178,13 @@ stands_so source g s new c p a y n w line before acting sound same items kept wo
 pub goes_on :
     (source : Source) (g : Program) (s new : State) (c : Config) (p : ℕ) (a : Activity) (n : Action) (doing : Doing) (at : At) (line : ℕ)
     → IsAt source s c p a n → next doing ≡ ahead_of source.program.tables a.doing at
-    → new.activities.items ≡ set s.activities.items p (at_line (at_work a at) line) → IsKept s new → new.world ≡ ticked s.world → IsNew new.world.rows new.world.done
+    → new.activities.items ≡ set s.activities.items p (at_line (at_work a at) line) → IsKept s new →
+    new.world ≡ ticked s.world → IsNew new.world.rows new.world.done
     → Stands source new (done_at g (doing_next g c p doing) p line)
 goes_on source g s new c p a n doing at line is_at nexts items kept world fresh =
     let t : Tables = source.program.tables in
-    stands_so source g s new c p a (at_line (at_work a at) line) n (configurations.at_work (activity_of g c p) doing) line is_at.before is_at.quiet.acting is_at.quiet.sound
+    stands_so source g s new c p a (at_line (at_work a at) line) n
+    (configurations.at_work (activity_of g c p) doing) line is_at.before is_at.quiet.acting is_at.quiet.sound
     (ap (λ (x : Shown). (let y : Shown = record x { next = next doing; hand = empty_hand; line = line } in y)) (acting_is source g s c p a n is_at.before)
     ∙ ap (λ (m : Action). (let y : Shown = record (activity_shown t a) { next = m; hand = empty_hand; line = line } in y)) nexts)
     items kept world fresh
@@ -204,7 +207,8 @@ pub goes_on_so :
     (source : Source) (g : Program) (s new : State) (c d : Config) (p choice : ℕ) (a : Activity) (n : Action) (doing : Doing) (bytes : List ℕ) (at : At)
     → IsAt source s d p a n → effect g c p choice n ≡ Ok (doing_next g d p doing) → next doing ≡ ahead_of source.program.tables a.doing at
     → line_of n ≡ a.doing.line → d.output ≡ c.output ++ bytes
-    → new.activities.items ≡ set s.activities.items p (at_line (at_work a at) a.doing.line) → IsKept s new → new.world ≡ ticked s.world → IsNew new.world.rows new.world.done
+    → new.activities.items ≡ set s.activities.items p (at_line (at_work a at) a.doing.line) → IsKept s new →
+    new.world ≡ ticked s.world → IsNew new.world.rows new.world.done
     → Ends source g new c p choice n bytes Stepped
 goes_on_so source g s new c d p choice a n doing bytes at is_at e nexts lines output items kept world fresh =
     ends_so source g new c (doing_next g d p doing) p choice n bytes e
@@ -224,7 +228,8 @@ ends_in_fault source g s new c p choice a n line f is_at e lines items world =
     let is : behind g c p choice n ≡ after g c p line (Err f)
     = ap (after g c p (line_of n)) e ∙ ap (λ (l : ℕ). after g c p l (Err f)) lines in
     let others : map line_in c.activities ≡ set (map held_line ys) p a.line
-    = sym (lines_shown c.activities) ∙ ap (map shown_line) before.activities ∙ map-set shown_line (activities_shown t ys) p (shown_before source a n before.hand)
+    = sym (lines_shown c.activities) ∙ ap (map shown_line) before.activities ∙
+    map-set shown_line (activities_shown t ys) p (shown_before source a n before.hand)
     ∙ ap (λ (l : List ℕ). set l p a.line) (lines_held t ys) in
     let same : map held_line new.activities.items ≡ map line_in (after g c p line (Err f)).activities
     = ap (map held_line) items ∙ map-set held_line ys p (at_line a line) ∙ sym (set-set (map held_line ys) p a.line line)
@@ -252,7 +257,8 @@ other_parts source s mid c p a n store input words output is_at is store_is inpu
       before = record {
         hand = before.hand;
         there = subst (λ (ys : List Activity). IsIn ys p a) (sym same) before.there;
-        activities = before.activities ∙ ap (λ (ys : List Activity). set (activities_shown source.program.tables ys) p (shown_before source a n before.hand)) (sym same);
+        activities = before.activities ∙
+            ap (λ (ys : List Activity). set (activities_shown source.program.tables ys) p (shown_before source a n before.hand)) (sym same);
         agrees = record {
           table = ap (λ (x : State). x.world) is ∙ before.agrees.table;
           counts = ap (λ (x : State). x.semaphores) is ∙ before.agrees.counts;

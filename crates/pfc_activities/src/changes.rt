@@ -36,7 +36,8 @@ impl<'t> State<'t> {
     /// The process has this at hand, and shows nothing.
     pub fn set_at_work(&mut self, p: u32, at: At<'t>)
         requires { p < length self.old.activities.items }
-        ensures activity { (a : Activity) → IsIn self.old.activities.items p a → self.new.activities.items ≡ set self.old.activities.items p (at_work a at.entry) }
+        ensures activity { (a : Activity) → IsIn self.old.activities.items p a →
+            self.new.activities.items ≡ set self.old.activities.items p (at_work a at.entry) }
         ensures count { length self.new.activities.items ≡ length self.old.activities.items }
         ensures kept { IsKept self.old self.new }
         ensures world { self.new.world ≡ self.old.world }

@@ -27,7 +27,8 @@ monitor_runs = refl
 pub select_runs : may_run select_image (0 ∷ 0 ∷ 0 ∷ 0 ∷ 1 ∷ 2 ∷ 3 ∷ 3 ∷ 3 ∷ 1 ∷ []) (by_turn 0) (start_machine select_image [] 1) ≡ true
 select_runs = refl
 
-pub resource_runs : may_run resource_image (0 ∷ 0 ∷ 0 ∷ 1 ∷ 1 ∷ 1 ∷ 2 ∷ 2 ∷ 2 ∷ 2 ∷ 2 ∷ 2 ∷ 2 ∷ 1 ∷ 1 ∷ 1 ∷ 1 ∷ 0 ∷ []) (by_turn 0) (start_machine resource_image [] 1) ≡ true
+pub resource_runs : may_run resource_image (0 ∷ 0 ∷ 0 ∷ 1 ∷ 1 ∷ 1 ∷ 2 ∷ 2 ∷ 2 ∷ 2 ∷ 2 ∷ 2 ∷ 2 ∷ 1 ∷ 1 ∷ 1 ∷ 1 ∷ 0 ∷ []) (by_turn 0)
+    (start_machine resource_image [] 1) ≡ true
 resource_runs = refl
 
 pub fault_runs : may_run fault_image (0 ∷ 0 ∷ 0 ∷ []) (by_turn 0) (start_machine fault_image [] 1) ≡ true

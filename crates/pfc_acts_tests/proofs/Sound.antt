@@ -360,7 +360,8 @@ take_at_so k p m h =
           let here : may_match_at p m place ≡ true = for_some (slice_get (matched_places m p) k) (may_match_at p m) (snd known matched h1) place at_place in
           let there : may_match place p m own ≡ true = for_some (slice_get (communications (open_ones m p)) place) (may_match place p m) here own at_own in
           match_so own.alternative.offer own p q m
-          (for_some (partner_at m.world.rows p (slice_get (open_arms m p) place)) (λ (q : ℕ). may_communicate_with own.alternative.offer own p q m) there q with_whom);
+          (for_some (partner_at m.world.rows p (slice_get (open_arms m p) place))
+          (λ (q : ℕ). may_communicate_with own.alternative.offer own p q m) there q with_whom);
     }
 
 positive : (n : ℕ) → 0 < n → nat_lt 0 n ≡ true
@@ -376,7 +377,8 @@ decide_so mark choice p m h =
       few = lt (fst few taken h1);
       taken = λ some.
           take_at_so (place_taken mark choice) p m
-          (implied (nat_lt 0 (length (matched_places m p))) (may_take_at (place_taken mark choice) p m) (snd few taken h1) (positive (length (matched_places m p)) some));
+          (implied (nat_lt 0 (length (matched_places m p))) (may_take_at (place_taken mark choice) p m) (snd few taken h1)
+          (positive (length (matched_places m p)) some));
     }
 
 select_so : (i : Instr) (choice p : ℕ) (m : Machine) → may_select i choice p m ≡ true → CanSelect i choice p m
@@ -390,9 +392,14 @@ communicate_so (ECALL e z) choice p m h =
     let h1 = snd _ _ h in
     let h2 = snd _ _ h1 in
     record { held = le (fst _ _ h); known = lt (fst _ _ h1); owner = λ is. called_so _ _ e z p (implied _ _ h2 is) }
-communicate_so (ACC e d z) choice p m h = record { room = go_so (ACC e d z) p m (fst _ _ h); caller = λ q is. meet_so _ p d z q (for_some _ _ (snd _ _ h) q is) }
+communicate_so (ACC e d z) choice p m h = record {
+  room = go_so (ACC e d z) p m (fst _ _ h);
+  caller =
+      λ q is. meet_so _ p d z q (for_some _ _ (snd _ _ h) q is);
+}
 communicate_so EACC choice p m h =
-    of_some (last_caller p m) (λ (q : ℕ). is_in_meeting (at m.world.rows q)) (λ (q : ℕ). IsInMeeting (at m.world.rows q)) h (λ q there. in_meeting_so (at m.world.rows q) there)
+    of_some (last_caller p m) (λ (q : ℕ). is_in_meeting (at m.world.rows q)) (λ (q : ℕ). IsInMeeting (at m.world.rows q)) h
+    (λ q there. in_meeting_so (at m.world.rows q) there)
 communicate_so (SEL mark x) choice p m h = select_so (SEL mark x) choice p m h
 communicate_so i choice p m h = tt
 

@@ -43,7 +43,8 @@ may_act_so image picking p q m start same_q same h =
 
 -- ## What an answer leaves
 
-answered : (e : PrintedEffect) (i : Instr) (line p n : ℕ) (before : Machine) (picking picking' : Picking) (out out' : List ℕ) (result : Result ActionEnd Memory) (new : Machine)
+answered : (e : PrintedEffect) (i : Instr) (line p n : ℕ) (before : Machine) (picking picking' : Picking) (out out' : List ℕ)
+    (result : Result ActionEnd Memory) (new : Machine)
     → IsAnswer e i line p n before picking picking' out out' result new → OnOk result ((new ≡ machine_by line p before e) × (picking' ≡ picking_by picking n e))
 answered e i line p n before picking picking' out out' (Ok Done) new h =
     (h.machine ∙ sym (ap (machine_by line p before) h.is), h.chosen ∙ sym (ap (picking_by picking n) h.is))
@@ -57,9 +58,11 @@ pub turned : (image : PlainImage) (picking picking' : Picking) (p q : ℕ) (m st
     → OnOk result ((new ≡ next_machine image picking p m) × (picking' ≡ next_picking image picking p m))
 turned image picking picking' p q m start new out out' result same_q same h acts =
     let a : Machine = acting p m in
-    let by_number = subst (λ (k : ℕ). (n : ℕ) (x : Machine) (i : Instr) → IsNext image k (takes_up k start) n x i → IsActed image k x i picking picking' out out' result new)
+    let by_number = subst (λ (k : ℕ). (n : ℕ) (x : Machine) (i : Instr) → IsNext image k (takes_up k start) n x i →
+    IsActed image k x i picking picking' out out' result new)
     same_q acts in
-    let by_machine = subst (λ (y : Machine). (n : ℕ) (x : Machine) (i : Instr) → IsNext image p (takes_up p y) n x i → IsActed image p x i picking picking' out out' result new)
+    let by_machine = subst (λ (y : Machine). (n : ℕ) (x : Machine) (i : Instr) → IsNext image p (takes_up p y) n x i →
+    IsActed image p x i picking picking' out out' result new)
     same by_number in
     let before : Machine = before_action image p a in
     let i : Instr = action_of image p a in

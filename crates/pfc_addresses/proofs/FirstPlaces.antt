@@ -49,7 +49,8 @@ pub none_found :
     → position_from (λ k. k == i) n (map (λ b. b.scope) bs) ≡ None → programs.found_block (blocks_view t bs) i other ≡ other
 none_found t i n [] other is = refl
 none_found t i n (b ∷ bs) other is =
-    first_none (b.scope == i) n (position_from (λ k. k == i) (n + 1) (map (λ (x : Block). x.scope) bs)) (block_view t b) (programs.found_block (blocks_view t bs) i other) other is
+    first_none (b.scope == i) n (position_from (λ k. k == i) (n + 1) (map (λ (x : Block). x.scope) bs)) (block_view t b)
+    (programs.found_block (blocks_view t bs) i other) other is
     (λ later. none_found t i (n + 1) bs other later)
 
 pub some_found :

@@ -24,7 +24,8 @@ cells_from-at forms n (m ∷ layout) (suc k) within =
 
 -- the cell of a variable of the layout, or the cell behind it
 pub cell_at :
-    (forms : Forms) (layout : Layout) (row : List ℕ) (k : ℕ) → row ≡ cells_from forms 0 layout → k ≤ length layout → get_or row k 0 ≡ layout_cells forms (take k layout)
+    (forms : Forms) (layout : Layout) (row : List ℕ) (k : ℕ) → row ≡ cells_from forms 0 layout → k ≤ length layout →
+    get_or row k 0 ≡ layout_cells forms (take k layout)
 cell_at forms layout row k is within = ap (λ r. get_or r k 0) is ∙ cells_from-at forms 0 layout k within ∙ omega arith
 
 pub cell_behind :

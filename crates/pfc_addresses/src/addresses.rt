@@ -118,7 +118,8 @@ impl<'t, 'p> Addresses<'t, 'p> {
 
     /// The block with the scope i, main's where there is none.
     pub fn block_at(&self, i: u32) -> &Block<'t>
-        ensures { block_view self.now.program.now.tables result.now ≡ programs.found_block (blocks_view self.now.program.now.tables self.now.program.now.blocks.items) i (block_view self.now.program.now.tables self.now.program.now.main) }
+        ensures { block_view self.now.program.now.tables result.now ≡ programs.found_block
+            (blocks_view self.now.program.now.tables self.now.program.now.blocks.items) i (block_view self.now.program.now.tables self.now.program.now.main) }
     {
         let program = self.program;
         match self.blocks.at(i) {
@@ -129,7 +130,8 @@ impl<'t, 'p> Addresses<'t, 'p> {
 
     /// The variables of the block with the scope i.
     pub(crate) fn laid_at(&self, i: u32) -> Laid<'_>
-        ensures layout { result.layout.now ≡ (programs.found_block (blocks_view self.now.program.now.tables self.now.program.now.blocks.items) i (block_view self.now.program.now.tables self.now.program.now.main)).layout }
+        ensures layout { result.layout.now ≡ (programs.found_block (blocks_view self.now.program.now.tables self.now.program.now.blocks.items) i
+            (block_view self.now.program.now.tables self.now.program.now.main)).layout }
         ensures cells { result.cells.now ≡ cells_from self.now.program.now.tables.types.now 0 result.layout.now }
     {
         let program = self.program;

@@ -123,7 +123,8 @@ impl<'t, 'e> Body<'t, 'e> {
     pub fn before_accept(&self, i: u32) -> u32
         requires from { self.now.block.now.next ≤ i }
         requires to { i ≤ self.now.block.now.next + self.now.block.now.accepts }
-        ensures { result ≡ length (process_layout (scope_at (tables_of self.now).scopes.now.scopes self.now.block.now.scope) (take (i - self.now.block.now.next) (drop self.now.block.now.next (tables_of self.now).scopes.now.scopes))) }
+        ensures { result ≡ length (process_layout (scope_at (tables_of self.now).scopes.now.scopes self.now.block.now.scope)
+            (take (i - self.now.block.now.next) (drop self.now.block.now.next (tables_of self.now).scopes.now.scopes))) }
     {
         self.accepts.at((i - self.block.next) as usize)
     }

@@ -49,13 +49,15 @@ offering-starts nodes p arms ticket free = record {
   offered = λ j lt. absurd (omega (arith, lt));
 }
 
-pub offering-more : (old mid new : Nodes) (p : ℕ) (arms : List Arm) (arm : Arm) (place ticket : ℕ) → IsOffering old mid p arms place ticket → arm ≡ get_or arms place any
+pub offering-more : (old mid new : Nodes) (p : ℕ) (arms : List Arm) (arm : Arm) (place ticket : ℕ) →
+    IsOffering old mid p arms place ticket → arm ≡ get_or arms place any
     → IsOfferedOne mid new p place (list_of mid.places arm) ticket → IsOffering old new p arms (place + 1) ticket
 offering-more old mid new p arms arm place ticket h is one = record {
   others = others-more old mid new p h.others one.others;
   only = one.only;
   offered = λ j lt. elim (cases_eq j place) [
-    | inl here ↦ subst (λ n. IsIn new p n ticket) (ap (λ n. list_of n arm) h.others.places ∙ ap (list_of old.places) (is ∙ ap (λ n. get_or arms n any) (sym here))) one.offered
+    | inl here ↦ subst (λ n. IsIn new p n ticket) (ap (λ n. list_of n arm) h.others.places ∙
+        ap (list_of old.places) (is ∙ ap (λ n. get_or arms n any) (sym here))) one.offered
     | inr other ↦ one.kept (list_of old.places (get_or arms j any)) (h.offered j (omega (arith, lt, other)))
   ];
 }
@@ -68,7 +70,8 @@ same-list places (Accept e) (Accept f) h = ap (λ n. list_of places (Accept n)) 
 same-list places _ _ h = cc
 
 -- an alternative that is offered is so at a place
-found : (P : ℕ → Type 0) (places : ℕ) (arm : Arm) (arms : List Arm) → ((j : ℕ) → j < length arms → P (list_of places (get_or arms j any))) → has_arm arm arms ≡ true → P (list_of places arm)
+found : (P : ℕ → Type 0) (places : ℕ) (arm : Arm) (arms : List Arm) → ((j : ℕ) → j < length arms → P (list_of places (get_or arms j any))) →
+    has_arm arm arms ≡ true → P (list_of places arm)
 found P places arm [] h is = cc
 found P places arm (a ∷ rest) h is = go (same_arm a arm) refl (found P places arm rest (λ j lt. h (suc j) (omega (arith, lt)))) is
   where
@@ -76,7 +79,8 @@ found P places arm (a ∷ rest) h is = go (same_arm a arm) refl (found P places 
     go true same ih e = subst P (same-list places a arm same) (h 0 (omega arith))
     go false same ih e = ih e
 
-pub offering-ends : (old new : Nodes) (p : ℕ) (arms : List Arm) (ticket : ℕ) → IsOffering old new p arms (length arms) ticket → (arm : Arm) → has_arm arm arms ≡ true
+pub offering-ends : (old new : Nodes) (p : ℕ) (arms : List Arm) (ticket : ℕ) →
+    IsOffering old new p arms (length arms) ticket → (arm : Arm) → has_arm arm arms ≡ true
     → IsIn new p (list_of old.places arm) ticket
 offering-ends old new p arms ticket h arm is = found (λ n. IsIn new p n ticket) old.places arm arms h.offered is
 
@@ -93,7 +97,8 @@ withdrawing-starts nodes p = record {
   rest = λ k le low. refl;
 }
 
-pub withdrawing-more : (old mid new : Nodes) (p place : ℕ) → IsWithdrawing old mid p place → IsWithdrawnOne mid new p place → IsWithdrawing old new p (place + 1)
+pub withdrawing-more : (old mid new : Nodes) (p place : ℕ) → IsWithdrawing old mid p place →
+    IsWithdrawnOne mid new p place → IsWithdrawing old new p (place + 1)
 withdrawing-more old mid new p place h one = record {
   others = others-more old mid new p h.others one.others;
   none = λ k lt low. elim (cases_eq k place) [
@@ -105,7 +110,8 @@ withdrawing-more old mid new p place h one = record {
       one.rest k away (subst (λ n. k < n) (sym h.others.room) low) ∙ h.rest k (omega (arith, le)) low;
 }
 
-pub withdrawing-ends : (old new : Nodes) (p count : ℕ) → ((k list t : ℕ) → k < old.room → node_at old p k ≡ in_list list t → k < count) → IsWithdrawing old new p count
+pub withdrawing-ends : (old new : Nodes) (p count : ℕ) → ((k list t : ℕ) → k < old.room → node_at old p k ≡ in_list list t →
+    k < count) → IsWithdrawing old new p count
     → (k : ℕ) → k < old.room → node_at new p k ≡ None
 withdrawing-ends old new p count only h k low = elim (cases_lt k count) [
   | inl lt ↦ h.none k lt low

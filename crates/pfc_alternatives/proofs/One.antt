@@ -18,7 +18,8 @@ last-of nodes list x p some is h = record {
 }
 
 -- where the last of a list is of another process, all there are earlier
-pub last-below : (nodes : Nodes) (p list ticket x t : ℕ) (o : Option ℕ) → AreEarlier nodes p ticket → MatchOption o (IsEmpty nodes.members list) (IsLastOf nodes list) → o ≢ Some p
+pub last-below : (nodes : Nodes) (p list ticket x t : ℕ) (o : Option ℕ) → AreEarlier nodes p ticket →
+    MatchOption o (IsEmpty nodes.members list) (IsLastOf nodes list) → o ≢ Some p
     → member_at nodes.members x ≡ in_list list t → t < ticket
 last-below nodes p list ticket x t None earlier h away own = absurd (h.none x t own)
 last-below nodes p list ticket x t (Some q) earlier h away own =
@@ -43,7 +44,8 @@ pub record IsOfferedOne (old new : Nodes) (p place list ticket : ℕ) : Type 0 w
   pub others : KeepsOthers old new p
 
 -- the alternative is the last of its list
-pub put-in : (nodes new : Nodes) (p place list ticket : ℕ) → new ≡ with_node nodes (p * nodes.room + place) (in_list list ticket) → IsProcess nodes p → place < nodes.room → AreBefore nodes p place ticket
+pub put-in : (nodes new : Nodes) (p place list ticket : ℕ) → new ≡ with_node nodes (p * nodes.room + place) (in_list list ticket) → IsProcess nodes p →
+    place < nodes.room → AreBefore nodes p place ticket
     → IsOfferedOne nodes new p place list ticket
 put-in nodes new p place list ticket is process lt before = subst (λ v. IsOfferedOne nodes v p place list ticket) (sym is) (record {
   offered = record { place = place; within = lt; is = node-same nodes p place (in_list list ticket) within };
@@ -69,10 +71,12 @@ put-in nodes new p place list ticket is process lt before = subst (λ v. IsOffer
     ticket-of (Some m) = m.ticket
     ticket-of None = 0
 
-    only : (k l t : ℕ) → k < nodes.room → (k ≡ place) ⊎ (k ≢ place) → node_at (with_node nodes (p * nodes.room + place) (in_list list ticket)) p k ≡ in_list l t → (k < place + 1) × (t ≡ ticket)
+    only : (k l t : ℕ) → k < nodes.room → (k ≡ place) ⊎ (k ≢ place) →
+        node_at (with_node nodes (p * nodes.room + place) (in_list list ticket)) p k ≡ in_list l t → (k < place + 1) × (t ≡ ticket)
     only k l t low (inl here) h =
         let own : in_list list ticket ≡ in_list l t =
-        sym (node-same nodes p place (in_list list ticket) within) ∙ ap (λ n. node_at (with_node nodes (p * nodes.room + place) (in_list list ticket)) p n) (sym here) ∙ h in
+        sym (node-same nodes p place (in_list list ticket) within) ∙
+        ap (λ n. node_at (with_node nodes (p * nodes.room + place) (in_list list ticket)) p n) (sym here) ∙ h in
         (omega (arith, here), sym (ap ticket-of own))
     only k l t low (inr away) h =
         let old : (k < place) × (t ≡ ticket) = before.only k l t low (sym (node-other nodes p place k (in_list list ticket) away) ∙ h) in
@@ -97,7 +101,8 @@ pub record IsWithdrawnOne (old new : Nodes) (p place : ℕ) : Type 0 where
   pub rest : (k : ℕ) → k ≢ place → k < old.room → node_at new p k ≡ node_at old p k
   pub others : KeepsOthers old new p
 
-pub take-out : (nodes new : Nodes) (p place : ℕ) → new ≡ with_node nodes (p * nodes.room + place) None → IsProcess nodes p → place < nodes.room → IsWithdrawnOne nodes new p place
+pub take-out : (nodes new : Nodes) (p place : ℕ) → new ≡ with_node nodes (p * nodes.room + place) None → IsProcess nodes p →
+    place < nodes.room → IsWithdrawnOne nodes new p place
 take-out nodes new p place is process lt = subst (λ v. IsWithdrawnOne nodes v p place) (sym is) (record {
   none = node-same nodes p place None (place-of-process (p * nodes.room) nodes.room (length nodes.members) place process lt);
   rest = λ k away low. node-other nodes p place k None away;

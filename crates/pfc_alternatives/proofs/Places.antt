@@ -32,11 +32,14 @@ place-of-process m room long k le lt = omega (arith, le, lt)
 abbrev pub with_node : Nodes → ℕ → Option Member → Nodes
 with_node nodes x member = record nodes { members = set nodes.members x member }
 
-pub node-same : (nodes : Nodes) (p k : ℕ) (m : Option Member) → p * nodes.room + k < length nodes.members → node_at (with_node nodes (p * nodes.room + k) m) p k ≡ m
+pub node-same : (nodes : Nodes) (p k : ℕ) (m : Option Member) → p * nodes.room + k < length nodes.members →
+    node_at (with_node nodes (p * nodes.room + k) m) p k ≡ m
 node-same nodes p k m lt = get_or-set_same nodes.members (p * nodes.room + k) m None lt
 
 pub node-other : (nodes : Nodes) (p j k : ℕ) (m : Option Member) → k ≢ j → node_at (with_node nodes (p * nodes.room + j) m) p k ≡ node_at nodes p k
 node-other nodes p j k m away = get_or-set_other nodes.members (p * nodes.room + j) (p * nodes.room + k) m None (apart-at (p * nodes.room) j k away)
 
-pub node-of-another : (nodes : Nodes) (p q j k : ℕ) (m : Option Member) → q ≢ p → j < nodes.room → k < nodes.room → node_at (with_node nodes (p * nodes.room + j) m) q k ≡ node_at nodes q k
-node-of-another nodes p q j k m away lt lt' = get_or-set_other nodes.members (p * nodes.room + j) (q * nodes.room + k) m None (apart nodes.room p q j k away lt lt')
+pub node-of-another : (nodes : Nodes) (p q j k : ℕ) (m : Option Member) → q ≢ p → j < nodes.room → k < nodes.room →
+    node_at (with_node nodes (p * nodes.room + j) m) q k ≡ node_at nodes q k
+node-of-another nodes p q j k m away lt lt' =
+    get_or-set_other nodes.members (p * nodes.room + j) (q * nodes.room + k) m None (apart nodes.room p q j k away lt lt')

@@ -74,7 +74,8 @@ impl Alternatives {
     /// What is behind a place in its list.
     pub fn next(&self, node: u32) -> Option<u32>
         requires { node < length self.now.members }
-        ensures { (list t : ℕ) → member_at self.now.members node ≡ in_list list t → MatchOption result (IsNobodyAbove self.now.members list t) (IsNext self.now.members list t) }
+        ensures { (list t : ℕ) → member_at self.now.members node ≡ in_list list t →
+            MatchOption result (IsNobodyAbove self.now.members list t) (IsNext self.now.members list t) }
     {
         self.nodes.next(node)
     }

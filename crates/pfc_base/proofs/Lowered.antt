@@ -22,11 +22,14 @@ part b h = grind (arith, nat_tests)
 
 parts : (bs : List ℕ) → list_all is_name_part bs ≡ true → list_all is_lower_part (map to_ascii_lowercase bs) ≡ true
 parts [] h = refl
-parts (b ∷ rest) h = ap (λ x. x && list_all is_lower_part (map to_ascii_lowercase rest)) (part b (and_left (is_name_part b) (list_all is_name_part rest) h)) ∙ parts rest (and_right (is_name_part b) (list_all is_name_part rest) h)
+parts (b ∷ rest) h = ap (λ x. x && list_all is_lower_part (map to_ascii_lowercase rest)) (part b (and_left (is_name_part b) (list_all is_name_part rest) h)) ∙
+    parts rest (and_right (is_name_part b) (list_all is_name_part rest) h)
 
 lower_shape : (bs : List ℕ) → is_word_shaped bs ≡ true → is_lower_shaped (map to_ascii_lowercase bs) ≡ true
 lower_shape [] h = cc
-lower_shape (b ∷ rest) h = ap (λ x. x && list_all is_lower_part (map to_ascii_lowercase rest)) (letter b (and_left (is_letter b) (list_all is_name_part rest) h)) ∙ parts rest (and_right (is_letter b) (list_all is_name_part rest) h)
+lower_shape (b ∷ rest) h =
+    ap (λ x. x && list_all is_lower_part (map to_ascii_lowercase rest)) (letter b (and_left (is_letter b) (list_all is_name_part rest) h)) ∙
+    parts rest (and_right (is_letter b) (list_all is_name_part rest) h)
 
 -- a name as it is written, in lower case, is a name as it is kept
 pub lowered : (bs : List ℕ) → IsName bs → IsLowerName (map to_ascii_lowercase bs)

@@ -51,7 +51,8 @@ abbrev pub made_so : Source → List Value → List ℕ → List Shown
 made_so source variables ns =
     map shown (main_activity (program_with source variables) ∷ map (idle_activity (program_with source variables)) ns)
 
-made_more : (source : Source) (variables : List Value) (ns : List ℕ) (n : ℕ) → made_so source variables (ns ++ n ∷ []) ≡ made_so source variables ns ++ shown (idle_activity (program_with source variables) n) ∷ []
+made_more : (source : Source) (variables : List Value) (ns : List ℕ) (n : ℕ) → made_so source variables (ns ++ n ∷ []) ≡ made_so source variables ns ++ shown
+    (idle_activity (program_with source variables) n) ∷ []
 made_more source variables ns n =
     let g : Program = program_with source variables in
     ap (λ (l : List configurations.Activity). map shown (main_activity g ∷ l)) (map-append (idle_activity g) ns (n ∷ []))

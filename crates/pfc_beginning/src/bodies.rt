@@ -29,7 +29,8 @@ fn put_part<'t>(pending: &mut Vec<Pending<'t>>, part: Pending<'t>) -> Result<(),
 /// These names are in view from here on.
 #[tactic(auto, using(crate::proofs::Parts::parts))]
 fn put_names<'t>(pending: &mut Vec<Pending<'t>>, names: Names) -> Result<(), Memory>
-    ensures { OnOk result ((t : Tables) → remainder_of (waiting t pending.new.items) ≡ in_names (names_view t names) (remainder_of (waiting t pending.old.items))) }
+    ensures { OnOk result ((t : Tables) → remainder_of (waiting t pending.new.items) ≡ in_names (names_view t names)
+        (remainder_of (waiting t pending.old.items))) }
 {
     pending.reserve(1)?;
     pending.push_reserved(Pending::InNames(names));
@@ -39,7 +40,8 @@ fn put_names<'t>(pending: &mut Vec<Pending<'t>>, names: Names) -> Result<(), Mem
 /// The statements of a body that has some.
 fn put_some<'t>(block: &Block<'t>, pending: &mut Vec<Pending<'t>>) -> Result<(), Memory>
     requires { 0 < length block.now.stmts.now.items }
-    ensures { OnOk result ((t : Tables) → remainder_of (waiting t pending.new.items) ≡ behind block.now.next (stmts_view block.now.stmts.now.items) (remainder_of (waiting t pending.old.items))) }
+    ensures { OnOk result ((t : Tables) → remainder_of (waiting t pending.new.items) ≡ behind block.now.next (stmts_view block.now.stmts.now.items)
+        (remainder_of (waiting t pending.old.items))) }
 {
     let stmts = Stmts {
         list: block.stmts,
@@ -51,7 +53,8 @@ fn put_some<'t>(block: &Block<'t>, pending: &mut Vec<Pending<'t>>) -> Result<(),
 
 /// The statements of a body; where there are none, nothing is put.
 fn put_statements<'t>(block: &Block<'t>, pending: &mut Vec<Pending<'t>>) -> Result<(), Memory>
-    ensures { OnOk result ((t : Tables) → remainder_of (waiting t pending.new.items) ≡ behind block.now.next (stmts_view block.now.stmts.now.items) (remainder_of (waiting t pending.old.items))) }
+    ensures { OnOk result ((t : Tables) → remainder_of (waiting t pending.new.items) ≡ behind block.now.next (stmts_view block.now.stmts.now.items)
+        (remainder_of (waiting t pending.old.items))) }
 {
     if block.stmts.is_empty() {
         return Ok(());
@@ -65,7 +68,8 @@ fn put_body<'t>(
     block: &Block<'t>,
     pending: &mut Vec<Pending<'t>>,
 ) -> Result<(), Memory>
-    ensures { OnOk result ((t : Tables) → remainder_of (waiting t pending.new.items) ≡ in_names (names_view t block.now.names) (behind block.now.next (stmts_view block.now.stmts.now.items) (remainder_of (waiting t pending.old.items)))) }
+    ensures { OnOk result ((t : Tables) → remainder_of (waiting t pending.new.items) ≡ in_names (names_view t block.now.names)
+        (behind block.now.next (stmts_view block.now.stmts.now.items) (remainder_of (waiting t pending.old.items)))) }
 {
     let names = block.names.copy(alloc)?;
     put_statements(block, pending)?;
@@ -78,7 +82,8 @@ fn put_modules<'t>(
     modules: &[Block<'t>],
     pending: &mut Vec<Pending<'t>>,
 ) -> Result<(), Memory>
-    ensures { OnOk result ((t : Tables) → remainder_of (waiting t pending.new.items) ≡ initialising (blocks_view t modules.now) (remainder_of (waiting t pending.old.items))) }
+    ensures { OnOk result ((t : Tables) → remainder_of (waiting t pending.new.items) ≡ initialising (blocks_view t modules.now)
+        (remainder_of (waiting t pending.old.items))) }
 {
     for i in (0..modules.len()).rev() {
         put_body(alloc, &modules[i], pending)?;
@@ -92,7 +97,8 @@ pub(crate) fn main_pending<'t>(
     alloc: Global,
     program: &Program<'t>,
 ) -> Result<Vec<Pending<'t>>, Memory>
-    ensures { IfOk result (λ pending. (t : Tables) → remainder_of (waiting t pending.items) ≡ initialising (blocks_view t program.now.modules.items) (in_names (names_view t program.now.main.names) (body_of (block_view t program.now.main)))) }
+    ensures { IfOk result (λ pending. (t : Tables) → remainder_of (waiting t pending.items) ≡ initialising (blocks_view t program.now.modules.items)
+        (in_names (names_view t program.now.main.names) (body_of (block_view t program.now.main)))) }
 {
     let mut pending = Vec::new(alloc);
     pending.reserve(1)?;

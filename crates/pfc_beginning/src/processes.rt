@@ -20,7 +20,15 @@ const OWN_CELLS: u64 = 8;
 
 /// Main's activation alone, which has the number 0.
 fn main_activations<'t>(alloc: Global, main: &Block<'t>) -> Result<Vec<Activation<'t>>, Memory>
-    ensures { IfOk result (λ made. (t : Tables) → activations_view t made.items ≡ record { number = 0; scope = 0; mark = plain; caller = of_nobody; display = []; cells = main.now.cells + 8 } ∷ []) }
+    ensures { IfOk result (λ made. (t : Tables) → activations_view t made.items ≡ record {
+      number = 0;
+      scope = 0;
+      mark = plain;
+      caller = of_nobody;
+      display =
+          [];
+      cells = main.now.cells + 8;
+    } ∷ []) }
 {
     let activation = Activation {
         number: 0,
@@ -37,7 +45,8 @@ fn main_activations<'t>(alloc: Global, main: &Block<'t>) -> Result<Vec<Activatio
 
 /// Main, before the initialising bodies and its own.
 fn main_process<'t>(alloc: Global, source: &Source<'t>) -> Result<Activity<'t>, Memory>
-    ensures { IfOk result (λ a. (variables : List Value) → shown (main_activity (program_with source.now variables)) ≡ activity_shown source.now.program.tables a) }
+    ensures { IfOk result (λ a. (variables : List Value) →
+        shown (main_activity (program_with source.now variables)) ≡ activity_shown source.now.program.tables a) }
 {
     let main = &source.program.main;
     let names = main.names.copy(alloc)?;
@@ -64,7 +73,8 @@ fn idle_process<'t>(
     source: &Source<'t>,
     declaration: u32,
 ) -> Result<Activity<'t>, Memory>
-    ensures { IfOk result (λ a. (variables : List Value) → shown (idle_activity (program_with source.now variables) declaration) ≡ activity_shown source.now.program.tables a) }
+    ensures { IfOk result (λ a. (variables : List Value) →
+        shown (idle_activity (program_with source.now variables) declaration) ≡ activity_shown source.now.program.tables a) }
 {
     let scope = source.program.tables.scopes.process_scope(declaration);
     let block = source.program.block_at(scope);
@@ -110,7 +120,9 @@ fn declaration_at(source: &Source, i: usize) -> u32
 
 /// All processes by their numbers, main first. Its only refusal is want of memory.
 pub(crate) fn processes<'t>(alloc: Global, source: &Source<'t>) -> Result<Vec<Activity<'t>>, Memory>
-    ensures { IfOk result (λ made. (variables : List Value) → map shown (main_activity (program_with source.now variables) ∷ map (idle_activity (program_with source.now variables)) source.now.objects.processes.items) ≡ activities_shown source.now.program.tables made.items) }
+    ensures { IfOk result (λ made. (variables : List Value) →
+        map shown (main_activity (program_with source.now variables) ∷ map
+        (idle_activity (program_with source.now variables)) source.now.objects.processes.items) ≡ activities_shown source.now.program.tables made.items) }
 {
     let mut made = Vec::new(alloc);
     let main = main_process(alloc, source)?;

@@ -29,7 +29,11 @@ const MOST_ALTERNATIVES: u32 = 1_024;
 
 /// The monitors of a program, all free. A condition of a monitor that there is not, which never comes, counts as want of memory.
 fn monitors(alloc: Global, source: &Source) -> Result<Monitors, Memory>
-    ensures { IfOk result (λ made. made ≡ record { holders = replicate (of_kind false source.now.program.tables.scopes.now.modules) None; owners = source.now.objects.conditions.items }) }
+    ensures { IfOk result (λ made. made ≡ record {
+      holders = replicate (of_kind false source.now.program.tables.scopes.now.modules) None;
+      owners =
+          source.now.objects.conditions.items;
+    }) }
 {
     let count = module_count(source.program.tables.scopes, false);
     if !are_below(&source.objects.conditions, count) {

@@ -43,7 +43,15 @@ Grows homes more = (b : ℕ) (home : Home) → homes b ≡ Some home → more b 
 
 module _ (g : Program) (homes more : Homes) (grows : Grows homes more) where
   location_grown : (l : Location) (t : Option TypeId) (home : Home) (o : ℕ) → IsLocation g homes l t home o → IsLocation g more l t home o
-  location_grown l t home o x = record { at = grows l.activation home x.at; meaning = x.meaning; laid = x.laid; variable = x.variable; own = x.own; path = x.path }
+  location_grown l t home o x = record {
+    at = grows l.activation home x.at;
+    meaning = x.meaning;
+    laid = x.laid;
+    variable =
+        x.variable;
+    own = x.own;
+    path = x.path;
+  }
 
   refers_grown : (t : TypeId) (v : Value) (w : ℤ) → Refers g homes t v w → Refers g more t v w
   refers_grown t v w (to_nothing v' h) = to_nothing v' h

@@ -23,9 +23,15 @@ sub_body own kind p b around s = sub_end own kind p (body_state s (here s.blocks
 sub_inside : ℕ → KindTree → Place → BodyTree → PartTrees → ℕ → List Level → State → State
 sub_inside own kind p b ps i outer s = sub_body own kind p b (here s.blocks.scopes i outer) (parts_state elsewhere s own (here s.blocks.scopes i outer) ps)
 
-pub sub_walked : (s headed declared done last : State) (i own : ℕ) (outer around view : List Level) (x : Text) (gs : List GroupTree) (kind : KindTree) (ps : PartTrees) (b : BodyTree) (p : Place) (fits : Bool) (tree : SubTree) → tree ≡ sub x gs kind ps b p → own ≡ length s.blocks.scopes → headed ≡ sub_headed s i outer (x, p) gs kind → around ≡ here headed.blocks.scopes i outer → declared ≡ parts_state elsewhere headed own around ps → view ≡ here declared.blocks.scopes own around → done ≡ body_state declared view b → fits ≡ nat_le (scope_cells done.forms (scope_at done.blocks.scopes own) + result_cells kind) 65536 → last ≡ note done (unless fits p 304) → last ≡ sub_state s i outer tree
+pub sub_walked : (s headed declared done last : State) (i own : ℕ) (outer around view : List Level) (x : Text) (gs : List GroupTree) (kind : KindTree)
+    (ps : PartTrees) (b : BodyTree) (p : Place) (fits : Bool) (tree : SubTree) → tree ≡ sub x gs kind ps b p → own ≡ length s.blocks.scopes →
+    headed ≡ sub_headed s i outer (x, p) gs kind → around ≡ here headed.blocks.scopes i outer → declared ≡ parts_state elsewhere headed own around ps →
+    view ≡ here declared.blocks.scopes own around → done ≡ body_state declared view b →
+    fits ≡ nat_le (scope_cells done.forms (scope_at done.blocks.scopes own) + result_cells kind) 65536 →
+    last ≡ note done (unless fits p 304) → last ≡ sub_state s i outer tree
 unfolding sub_end sub_body sub_inside
-sub_walked s headed declared done last i own outer around view x gs kind ps b p fits tree tree_is own_is headed_is around_is declared_is view_is done_is fits_is last_is =
+sub_walked s headed declared done last i own outer around view x gs kind ps b p fits tree tree_is own_is headed_is around_is
+    declared_is view_is done_is fits_is last_is =
     last_is
     ∙ ap (λ (f : Bool). note done (unless f p 304)) fits_is
     ∙ ap (sub_end own kind p) done_is
@@ -47,11 +53,18 @@ process_body own p b around s = process_end own p (length s.blocks.scopes) (body
 -- a process whose heading is walked
 process_inside : ℕ → Place → BodyTree → List EntryTree → PartTrees → ℕ → List Level → State → State
 process_inside own p b es ps i outer s =
-    process_body own p b (here s.blocks.scopes i outer) (parts_state elsewhere (entries_state s own (here s.blocks.scopes i outer) 0 es) own (here s.blocks.scopes i outer) ps)
+    process_body own p b (here s.blocks.scopes i outer)
+    (parts_state elsewhere (entries_state s own (here s.blocks.scopes i outer) 0 es) own (here s.blocks.scopes i outer) ps)
 
-pub process_walked : (s headed entered declared done last : State) (i own k : ℕ) (outer around view : List Level) (many : Bool) (x : Text) (gs : List GroupTree) (es : List EntryTree) (ps : PartTrees) (b : BodyTree) (p : Place) (fits : Bool) (tree : ProcessTree) → tree ≡ process many x gs es ps b p → own ≡ length s.blocks.scopes → headed ≡ process_headed s i outer many (x, p) gs → around ≡ here headed.blocks.scopes i outer → entered ≡ entries_state headed own around 0 es → declared ≡ parts_state elsewhere entered own around ps → k ≡ length declared.blocks.scopes → view ≡ here declared.blocks.scopes own around → done ≡ body_state declared view b → fits ≡ nat_le (process_cells done own k) 65536 → last ≡ note done (unless fits p 304) → last ≡ process_state s i outer tree
+pub process_walked : (s headed entered declared done last : State) (i own k : ℕ) (outer around view : List Level) (many : Bool) (x : Text) (gs : List GroupTree)
+    (es : List EntryTree) (ps : PartTrees) (b : BodyTree) (p : Place) (fits : Bool) (tree : ProcessTree) → tree ≡ process many x gs es ps b p →
+    own ≡ length s.blocks.scopes → headed ≡ process_headed s i outer many (x, p) gs → around ≡ here headed.blocks.scopes i outer →
+    entered ≡ entries_state headed own around 0 es → declared ≡ parts_state elsewhere entered own around ps → k ≡ length declared.blocks.scopes →
+    view ≡ here declared.blocks.scopes own around → done ≡ body_state declared view b → fits ≡ nat_le (process_cells done own k) 65536 →
+    last ≡ note done (unless fits p 304) → last ≡ process_state s i outer tree
 unfolding process_end process_body process_inside
-process_walked s headed entered declared done last i own k outer around view many x gs es ps b p fits tree tree_is own_is headed_is around_is entered_is declared_is k_is view_is done_is fits_is last_is =
+process_walked s headed entered declared done last i own k outer around view many x gs es ps b p fits tree tree_is own_is headed_is around_is entered_is
+    declared_is k_is view_is done_is fits_is last_is =
     last_is
     ∙ ap (λ (f : Bool). note done (unless f p 304)) fits_is
     ∙ ap (process_end own p k) done_is

@@ -87,7 +87,8 @@ impl State {
 
     /// A sub's block has no more cells than a block may have. Its scope is `own`.
     pub(crate) fn sub_fits(&self, own: u32, kind: &SubKind) -> bool
-        ensures { result ≡ nat_le (scope_cells (state_of self.now).forms (scope_at (state_of self.now).blocks.scopes own) + result_cells (kind_view kind.now)) 65536 }
+        ensures { result ≡ nat_le (scope_cells (state_of self.now).forms (scope_at (state_of self.now).blocks.scopes own) +
+            result_cells (kind_view kind.now)) 65536 }
     {
         self.scope_cells(own) + result_cells(kind) <= MOST_CELLS
     }

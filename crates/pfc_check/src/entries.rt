@@ -41,7 +41,8 @@ impl State {
         formal: Formal,
         heading: &mut EntryHeading,
     ) -> Result<(), Memory>
-        ensures { OnOk result (entry_heading_of self.new heading.new ≡ entry_formal formal.reference formal.t (entry_heading_of self.old heading.old) (name.now, place)) }
+        ensures { OnOk result (entry_heading_of self.new heading.new ≡ entry_formal formal.reference formal.t
+            (entry_heading_of self.old heading.old) (name.now, place)) }
     {
         let copy = name.copy(self.alloc)?;
         let fresh = match heading
@@ -65,7 +66,8 @@ impl State {
         formal: Formal,
         heading: &mut EntryHeading,
     ) -> Result<(), Memory>
-        ensures { OnOk result (entry_heading_of self.new heading.new ≡ entry_formals formal.reference formal.t (entry_heading_of self.old heading.old) names.now) }
+        ensures { OnOk result (entry_heading_of self.new heading.new ≡ entry_formals formal.reference formal.t
+            (entry_heading_of self.old heading.old) names.now) }
     {
         for x in names {
             self.entry_formal(&x.0, x.1, formal, heading)?;
@@ -80,7 +82,8 @@ impl State {
         view: &View,
         heading: &mut EntryHeading,
     ) -> Result<(), Memory>
-        ensures { OnOk result (entry_heading_of self.new heading.new ≡ entry_group (levels view.now) (entry_heading_of self.old heading.old) (group_view g.now)) }
+        ensures { OnOk result (entry_heading_of self.new heading.new ≡ entry_group (levels view.now)
+            (entry_heading_of self.old heading.old) (group_view g.now)) }
     {
         let t = self.group_type(g, view)?;
         heading.whole = heading.whole && t.is_some();
@@ -93,7 +96,8 @@ impl State {
 
     /// The parameters of an entry.
     fn entry_heading(&mut self, groups: &[Group], view: &View) -> Result<EntryHeading, Memory>
-        ensures { IfOk result (λ h. entry_heading_of self.new h ≡ entry_groups (levels view.now) (entry_begun (state_of self.old)) (map group_view groups.now)) }
+        ensures { IfOk result (λ h. entry_heading_of self.new h ≡ entry_groups (levels view.now)
+            (entry_begun (state_of self.old)) (map group_view groups.now)) }
     {
         let mut heading = EntryHeading {
             own: Scope::new(self.alloc),

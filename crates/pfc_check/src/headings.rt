@@ -83,7 +83,8 @@ impl State {
         formal: Formal,
         heading: &mut Heading,
     ) -> Result<(), Memory>
-        ensures { OnOk result (heading_of self.new heading.new ≡ formal_heading i formal.reference formal.t (heading_of self.old heading.old) (name.now, place)) }
+        ensures { OnOk result (heading_of self.new heading.new ≡ formal_heading i formal.reference formal.t
+            (heading_of self.old heading.old) (name.now, place)) }
     {
         let fresh = !self.holds(i, name);
         self.declare(i, name, place, variable_meaning(formal.reference, formal.t))?;
@@ -129,7 +130,8 @@ impl State {
 
     /// The parameters of earlier groups are in view in the type of a later one.
     fn group(&mut self, g: &Group, block: Block, heading: &mut Heading) -> Result<(), Memory>
-        ensures { OnOk result (heading_of self.new heading.new ≡ group_heading block.entry.scope (around block.entry) (heading_of self.old heading.old) (group_view g.now)) }
+        ensures { OnOk result (heading_of self.new heading.new ≡ group_heading block.entry.scope (around block.entry)
+            (heading_of self.old heading.old) (group_view g.now)) }
     {
         let view = self.here(block);
         self.group_viewed(g, block.scope, &view, heading)

@@ -210,7 +210,8 @@ impl State {
         owner: Owner,
         block: Block,
     ) -> Result<(), Memory>
-        ensures { OnOk result (state_of self.new ≡ vars_state (owner_of owner) (state_of self.old) block.entry.scope (around block.entry) (vars_view items.now)) }
+        ensures { OnOk result (state_of self.new ≡ vars_state (owner_of owner) (state_of self.old) block.entry.scope
+            (around block.entry) (vars_view items.now)) }
     {
         for item in items {
             self.var_item(item, owner, block)?;

@@ -28,7 +28,8 @@ impl State {
     /// A part of a block.
     #[cycle(parts)]
     fn part(&mut self, part: &Part, owner: Owner, block: Block) -> Result<(), Memory>
-        ensures { OnOk result (state_of self.new ≡ part_state (owner_of owner) (state_of self.old) block.entry.scope (around block.entry) (part_view part.now)) }
+        ensures { OnOk result (state_of self.new ≡ part_state (owner_of owner) (state_of self.old) block.entry.scope
+            (around block.entry) (part_view part.now)) }
     {
         match part {
             Part::Consts(items) => self.consts(items, block),
@@ -44,7 +45,8 @@ impl State {
     /// The parts of a block.
     #[cycle(parts)]
     pub(crate) fn parts(&mut self, parts: &[Part], owner: Owner, block: Block) -> Result<(), Memory>
-        ensures { OnOk result (state_of self.new ≡ parts_state (owner_of owner) (state_of self.old) block.entry.scope (around block.entry) (parts_view parts.now)) }
+        ensures { OnOk result (state_of self.new ≡ parts_state (owner_of owner) (state_of self.old) block.entry.scope
+            (around block.entry) (parts_view parts.now)) }
     {
         for part in parts {
             self.part(part, owner, block)?;

@@ -13,7 +13,8 @@ use pfc_types::{Meaning, ProcessHead, TypeForm};
 impl State {
     /// Declares the type of process n.
     fn process_type(&mut self, i: u32, name: &Name, place: Place, n: u32) -> Result<(), Memory>
-        ensures { OnOk result (state_of self.new ≡ declare (add_form (state_of self.old) (TypeForm.Process n)) i (name.now, place) (Meaning.Named (record { place = length (state_of self.old).forms }))) }
+        ensures { OnOk result (state_of self.new ≡ declare (add_form (state_of self.old) (TypeForm.Process n)) i (name.now, place)
+            (Meaning.Named (record { place = length (state_of self.old).forms }))) }
     {
         let Ok(t) = self.types.add(TypeForm::Process(n)) else {
             return Err(Memory);
@@ -56,7 +57,8 @@ impl State {
         groups: &[Group],
         block: Block,
     ) -> Result<(), Memory>
-        ensures { OnOk result (state_of self.new ≡ process_headed (state_of self.old) block.entry.scope (around block.entry) many (name.now, place) (map group_view groups.now)) }
+        ensures { OnOk result (state_of self.new ≡ process_headed (state_of self.old) block.entry.scope (around block.entry) many
+            (name.now, place) (map group_view groups.now)) }
     {
         let own = self.scopes.len();
         let n = self.scopes.processes();

@@ -15,7 +15,8 @@ use pfc_types::View;
 impl State {
     /// Both bounds of a range have one simple type, and the low one is not above the high one.
     fn bounds_fault(&self, r: &Range, view: &View) -> Option<Refusal>
-        ensures { refused result ≡ bounds_rule (constant_value (state_of self.now).blocks.scopes (levels view.now) r.now.low) (constant_value (state_of self.now).blocks.scopes (levels view.now) r.now.high) (constant_place r.now.low) }
+        ensures { refused result ≡ bounds_rule (constant_value (state_of self.now).blocks.scopes (levels view.now) r.now.low)
+            (constant_value (state_of self.now).blocks.scopes (levels view.now) r.now.high) (constant_place r.now.low) }
     {
         bounds_fault(
             self.value(&r.low, view),
@@ -39,7 +40,8 @@ impl State {
 
     /// Notes the rules that are broken in the ranges of an array.
     pub(crate) fn ranges(&mut self, ranges: &[Range], view: &View) -> Result<(), Memory>
-        ensures state { OnOk result (state_of self.new ≡ note (state_of self.old) (broken_ranges (state_of self.old).blocks.scopes (levels view.now) ranges.now)) }
+        ensures state { OnOk result (state_of self.new ≡ note (state_of self.old)
+            (broken_ranges (state_of self.old).blocks.scopes (levels view.now) ranges.now)) }
         ensures scopes { OnOk result (self.new.scopes.scopes ≡ self.old.scopes.scopes) }
     {
         for r in ranges {

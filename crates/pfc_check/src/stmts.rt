@@ -89,7 +89,8 @@ impl State {
 
     /// One label. A faulty one is not compared.
     fn label(&mut self, c: &Constant, labels: &mut Labels, view: &View) -> Result<(), Memory>
-        ensures { OnOk result (labels_of self.new labels.new ≡ label_noted (constant_value (state_of self.old).blocks.scopes (levels view.now) c.now) (constant_place c.now) (labels_of self.old labels.old)) }
+        ensures { OnOk result (labels_of self.new labels.new ≡ label_noted (constant_value (state_of self.old).blocks.scopes (levels view.now) c.now)
+            (constant_place c.now) (labels_of self.old labels.old)) }
     {
         let Some(value) = self.value(c, view) else {
             return Ok(());
@@ -167,7 +168,8 @@ impl State {
     /// The arms of one `case`.
     #[cycle(stmts)]
     fn arms(&mut self, arms: &[CaseArm], view: &View) -> Result<(), Memory>
-        ensures { OnOk result (state_of self.new ≡ (arms_state (levels view.now) (record { state = state_of self.old; seen = [] }) (arms_view arms.now)).state) }
+        ensures { OnOk result
+            (state_of self.new ≡ (arms_state (levels view.now) (record { state = state_of self.old; seen = [] }) (arms_view arms.now)).state) }
     {
         let mut labels = Labels {
             seen: IndexSet::new(self.alloc),

@@ -79,7 +79,8 @@ impl State {
         kind: &SubKind,
         block: Block,
     ) -> Result<(), Memory>
-        ensures { OnOk result (state_of self.new ≡ sub_headed (state_of self.old) block.entry.scope (around block.entry) (name.now, place) (map group_view groups.now) (kind_view kind.now)) }
+        ensures { OnOk result (state_of self.new ≡ sub_headed (state_of self.old) block.entry.scope (around block.entry) (name.now, place)
+            (map group_view groups.now) (kind_view kind.now)) }
     {
         let own = self.scopes.len();
         let n = self.scopes.subs();

@@ -182,7 +182,12 @@ impl State {
         carried: bool,
         view: &View,
     ) -> Result<Option<TypeId>, Memory>
-        ensures { IfOk result (λ t. made_of self.new t ≡ record { state = note (state_of self.old) (type_name_rules carried (look (state_of self.old).blocks.scopes (levels view.now) x.now) place); t = named_type carried (look (state_of self.old).blocks.scopes (levels view.now) x.now) }) }
+        ensures { IfOk result (λ t. made_of self.new t ≡ record {
+          state =
+              note (state_of self.old) (type_name_rules carried (look (state_of self.old).blocks.scopes (levels view.now) x.now) place);
+          t =
+              named_type carried (look (state_of self.old).blocks.scopes (levels view.now) x.now);
+        }) }
     {
         let meaning = self.look(view, x);
         self.note(type_name_fault(carried, meaning, place))?;

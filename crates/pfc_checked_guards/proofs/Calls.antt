@@ -67,7 +67,8 @@ module _ (g : Program) (standing : Standing) (env : Env) (a : Around) (subs : Su
   asked_called : (c : Callee) (p : Place) (args : ActualTrees) → IsClean (asked (under env a) c p args) → SuitActuals g standing env args
   asked_called c p args h = actuals_called g standing env a subs order None c.known c.wants args h.1.0
 
-  formals_called : (formals : List Formal) (p : Place) (args : ActualTrees) → IsClean (asked_formals (under env a) formals p args) → SuitActuals g standing env args
+  formals_called : (formals : List Formal) (p : Place) (args : ActualTrees) →
+      IsClean (asked_formals (under env a) formals p args) → SuitActuals g standing env args
   formals_called formals p args h = asked_called (called_with (wants_for formals) anywhere) p args h
 
   read_called : (b : ActualTree) → IsClean (broken_read (under env a) b) → SuitsActual g standing env b
@@ -129,7 +130,8 @@ module _ (g : Program) (standing : Standing) (env : Env) (a : Around) (subs : Su
   name_called y (Some (Named t)) e p args h = (tt, unasked_called args h.1)
   name_called y (Some (Variable t reference)) e p args h = (tt, variable_called (Some t) p args h)
   name_called y (Some (Sub n)) e p args h =
-      let is = sub_called (sub_at env.state.blocks n).sort (sub_at env.state.blocks n).formals p args h in ((subs.unguarded n is.0, in_order.called y n e), is.1)
+      let is = sub_called (sub_at env.state.blocks n).sort
+      (sub_at env.state.blocks n).formals p args h in ((subs.unguarded n is.0, in_order.called y n e), is.1)
   name_called y (Some (Module n)) e p args h = (tt, unasked_called args h.1)
   name_called y (Some (Process n)) e p args h = (tt, activated_called n p args h)
   name_called y (Some (Entry n)) e p args h = (tt, unasked_called args h.1)
@@ -174,7 +176,8 @@ module _ (g : Program) (standing : Standing) (env : Env) (a : Around) (subs : Su
 
   -- ## Selectors
 
-  behind_last : (ss : SelectorTrees) (x : Text × Place) → last_field ss ≡ Some x → SuitSelectors g standing env (before_last ss) → SuitSelectors g standing env ss
+  behind_last : (ss : SelectorTrees) (x : Text × Place) → last_field ss ≡ Some x →
+      SuitSelectors g standing env (before_last ss) → SuitSelectors g standing env ss
   behind_last no_selectors x e suits = tt
   behind_last (more_selectors (index es p) no_selectors) x e suits = absurd (cc)
   behind_last (more_selectors (field y p) no_selectors) x e suits = (tt, tt)
@@ -191,7 +194,8 @@ module _ (g : Program) (standing : Standing) (env : Env) (a : Around) (subs : Su
   )
 
   unselected_called :
-      (ss : SelectorTrees) (p : Place) (args : ActualTrees) → IsClean (unselected (under env a) ss p args) → SuitSelectors g standing env ss × SuitActuals g standing env args
+      (ss : SelectorTrees) (p : Place) (args : ActualTrees) → IsClean (unselected (under env a) ss p args) →
+      SuitSelectors g standing env ss × SuitActuals g standing env args
   unselected_called ss p args h = absurd h.0
 
   exported_called : (y : Text) (n : ℕ) (x : Text) (m : Option Meaning) → meaning_of (find env y) ≡ Some (Module n)
@@ -232,7 +236,8 @@ module _ (g : Program) (standing : Standing) (env : Env) (a : Around) (subs : Su
   in_process_called n (more_selectors (field x q) (more_selectors s ss)) p args h = absurd h.0
 
   of_part_called :
-      (y : Text) (m : Option Meaning) → meaning_of (find env y) ≡ m → (ss : SelectorTrees) (p : Place) (args : ActualTrees) → IsClean (call_part_of (under env a) m ss p args)
+      (y : Text) (m : Option Meaning) → meaning_of (find env y) ≡ m → (ss : SelectorTrees) (p : Place) (args : ActualTrees) →
+      IsClean (call_part_of (under env a) m ss p args)
       → SuitsCalled g standing env m ss × SuitSelectors g standing env ss × SuitActuals g standing env args
   of_part_called y None e ss p args h = absurd h.0
   of_part_called y (Some (Constant t v)) e ss p args h = absurd h.0

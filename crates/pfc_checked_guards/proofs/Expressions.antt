@@ -61,8 +61,11 @@ module _ (g : Program) (standing : Standing) (env : Env) (a : Around) (subs : Su
       by : (m : Meaning) → f.meaning ≡ m → fits_use env.state.blocks alone bare m ≡ true → SuitsName g standing env (Some m)
       by (Sub n) same e =
           let is = and_right alone (is_function_sort (sub_at env.state.blocks n).sort) e in
-          let outside = unless_guard a.guard f n same (held (guard_allows a.guard (Some f)) q 420 h.1.1) in
-          (subs.unguarded n (no_guard_sort (sub_at env.state.blocks n).sort is), order x n outside (ap (λ (o : Option Found). meaning_of o) there ∙ ap Some same))
+          let outside = unless_guard a.guard f n same (held (guard_allows a.guard (Some f)) q 420 h.1.1) in (
+            subs.unguarded n (no_guard_sort (sub_at env.state.blocks n).sort is),
+            order x n outside
+                (ap (λ (o : Option Found). meaning_of o) there ∙ ap Some same),
+          )
       by m same e = tt
 
   mutual

@@ -96,6 +96,7 @@ within_order g tops i env n same order own =
           (behind_accept env n (Sub k) (λ y h. own.subs y k (subst (λ (s : State). meaning_in (scope_at s.blocks.scopes n) y ≡ Some (Sub k)) same h)) x e);
       entered = λ x y j k e exported.
           order.entered x y j k
-          (behind_accept env n (Module j) (λ z h. own.modules z j (subst (λ (s : State). meaning_in (scope_at s.blocks.scopes n) z ≡ Some (Module j)) same h)) x e)
+          (behind_accept env n (Module j)
+          (λ z h. own.modules z j (subst (λ (s : State). meaning_in (scope_at s.blocks.scopes n) z ≡ Some (Module j)) same h)) x e)
           exported;
     }

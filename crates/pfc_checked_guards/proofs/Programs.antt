@@ -65,7 +65,8 @@ none_there i e = cc
 
 module _ (t : ProgramTree) (subs : SubsStand (program_of t) (finished t).blocks) (modules : ModulesStand (program_of t) (finished t).blocks)
     (tops : Option Tops) (P : ℕ → Type 0)
-    (within : (i : ℕ) (env : Env) (n : ℕ) → env.state ≡ finished t → InOrder (program_of t) tops i env → P n → InOrder (program_of t) tops i (within_accept env n)) where
+    (within : (i : ℕ) (env : Env) (n : ℕ) → env.state ≡ finished t → InOrder (program_of t) tops i env → P n →
+    InOrder (program_of t) tops i (within_accept env n)) where
   abbrev g : Program
   g = program_of t
 

@@ -48,7 +48,8 @@ not_both true e h = cc
 not_both false e h = cc
 
 module _ (g : Program) (standing : Standing) (P : ℕ → Type 0)
-    (within : (env : Env) (n : ℕ) → env.state ≡ g.state → InOrder g standing.tops standing.scope env → P n → InOrder g standing.tops standing.scope (within_accept env n)) where
+    (within : (env : Env) (n : ℕ) → env.state ≡ g.state → InOrder g standing.tops standing.scope env → P n →
+    InOrder g standing.tops standing.scope (within_accept env n)) where
   first : (n a b : ℕ) → Along P n (a + b) → Along P n a
   first n a b all = λ i low high. all i low (omega (arith, high))
 
@@ -144,7 +145,8 @@ module _ (g : Program) (standing : Standing) (P : ℕ → Type 0)
         let called = requeue_called g standing env a is.subs is.order is.exported (innermost env.view) (meaning_of (find env x.0)) x.1 args h.1 in
         (by guarded (meaning_of (find env x.0)) refl called.0, called.1)
       where
-        by : a.guarded ≡ true → (m : Option Meaning) → meaning_of (find env x.0) ≡ m → IsGuardedSub g standing env a is.subs is.order is.exported m → SuitsRequeue g standing env m
+        by : a.guarded ≡ true → (m : Option Meaning) → meaning_of (find env x.0) ≡ m →
+            IsGuardedSub g standing env a is.subs is.order is.exported m → SuitsRequeue g standing env m
         by guarded (Some (Sub n)) e sort = is.requeues guarded x.0 n e sort
         by guarded m e sort = tt
 
@@ -219,7 +221,8 @@ module _ (g : Program) (standing : Standing) (P : ℕ → Type 0)
     comm_called env a is n (terminate p) h all = tt
 
     alts_called :
-        (env : Env) (a : Around) → IsPlace g standing env a → (n : ℕ) (alts : AltTrees) → IsClean (broken_alts (under env a) n alts) → Along P n (alts_scopes alts)
+        (env : Env) (a : Around) → IsPlace g standing env a → (n : ℕ) (alts : AltTrees) →
+        IsClean (broken_alts (under env a) n alts) → Along P n (alts_scopes alts)
         → SuitAlts g standing env n alts
     alts_called env a is n no_alts h all = tt
     alts_called env a is n (more_alts (alt spread guard comm ss) alts) h all = (

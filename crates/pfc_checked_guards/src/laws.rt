@@ -19,5 +19,6 @@ pub fn checked_programs_call_as_asked()
 /// And where what is named in view comes in some order of the parts of the program they call in that order.
 pub fn checked_programs_call_in_order()
     ensures { (t : ProgramTree) (tops : Option Tops) → IsLawful (forget_program t) → broken t ≡ []
-        → SubsStand (program_of t) (finished t).blocks → ModulesStand (program_of t) (finished t).blocks → ProgramInOrder (program_of t) tops → SuitsInOrder (program_of t) tops }
+        → SubsStand (program_of t) (finished t).blocks → ModulesStand (program_of t) (finished t).blocks →
+        ProgramInOrder (program_of t) tops → SuitsInOrder (program_of t) tops }
 {}

@@ -58,7 +58,8 @@ plain_sign s None = plain_nothing
 plain_sign s (Some (Plus, p)) = plain_nothing
 plain_sign s (Some (Minus, p)) = plain_one s NEG
 
-plain_function : (s : Site) (f : Function) (t : Option TypeId) (value address : Code) → IsPlain value → IsPlain address → IsPlain (function_code s f t value address)
+plain_function : (s : Site) (f : Function) (t : Option TypeId) (value address : Code) → IsPlain value → IsPlain address →
+    IsPlain (function_code s f t value address)
 plain_function s abs t value address v a = both value (one s ABS) v (plain_one s ABS)
 plain_function s sqr t value address v a = both value (one s SQR) v (plain_one s SQR)
 plain_function s odd t value address v a = both value (one s ODD) v (plain_one s ODD)
@@ -80,8 +81,11 @@ plain_name :
 plain_name s None ss address args predeclared a g p = plain_nothing
 plain_name s (Some (Constant t v)) ss address args predeclared a g p = plain_one s (LIT v)
 plain_name s (Some (Named t)) ss address args predeclared a g p = plain_nothing
-plain_name s (Some (Variable t reference)) ss address args predeclared a g p = both address (one s (LOAD (type_cells (forms_of s) (selected s.env (Some t) ss)))) a (plain_one s (LOAD (type_cells (forms_of s) (selected s.env (Some t) ss))))
-plain_name s (Some (Sub k)) ss address args predeclared a g p = both (args (sub_at (blocks_of s) k).formals) (one s (call_instr s (sub_at (blocks_of s) k))) (g (sub_at (blocks_of s) k).formals) (plain_one s (call_instr s (sub_at (blocks_of s) k)))
+plain_name s (Some (Variable t reference)) ss address args predeclared a g p =
+    both address (one s (LOAD (type_cells (forms_of s) (selected s.env (Some t) ss)))) a
+    (plain_one s (LOAD (type_cells (forms_of s) (selected s.env (Some t) ss))))
+plain_name s (Some (Sub k)) ss address args predeclared a g p = both (args (sub_at (blocks_of s) k).formals) (one s (call_instr s (sub_at (blocks_of s) k)))
+    (g (sub_at (blocks_of s) k).formals) (plain_one s (call_instr s (sub_at (blocks_of s) k)))
 plain_name s (Some (Module k)) ss address args predeclared a g p = plain_nothing
 plain_name s (Some (Process k)) ss address args predeclared a g p = plain_nothing
 plain_name s (Some (Entry k)) ss address args predeclared a g p = plain_nothing
@@ -91,21 +95,25 @@ plain_name s (Some Faulty) ss address args predeclared a g p = plain_nothing
 mutual
   pub plain_expr : (s : Site) (e : ExprTree) → IsPlain (expr_code s e)
   plain_expr s (plain a p) = plain_simple s a
-  plain_expr s (related a r b p) = both (simple_code s a) (simple_code s b ⨾ one s (relation_instr r.0)) (plain_simple s a) (both (simple_code s b) (one s (relation_instr r.0)) (plain_simple s b) (plain_one s (relation_instr r.0)))
+  plain_expr s (related a r b p) = both (simple_code s a) (simple_code s b ⨾ one s (relation_instr r.0)) (plain_simple s a)
+      (both (simple_code s b) (one s (relation_instr r.0)) (plain_simple s b) (plain_one s (relation_instr r.0)))
 
   pub plain_simple : (s : Site) (e : SimpleTree) → IsPlain (simple_code s e)
-  plain_simple s (sum sign first rest) = both (term_code s first) (sign_code s sign ⨾ summands_code s rest) (plain_term s first) (both (sign_code s sign) (summands_code s rest) (plain_sign s sign) (plain_summands s rest))
+  plain_simple s (sum sign first rest) = both (term_code s first) (sign_code s sign ⨾ summands_code s rest) (plain_term s first)
+      (both (sign_code s sign) (summands_code s rest) (plain_sign s sign) (plain_summands s rest))
 
   pub plain_summands : (s : Site) (e : SummandTrees) → IsPlain (summands_code s e)
   plain_summands s no_summands = plain_nothing
-  plain_summands s (more_summands op t rest) = both (term_code s t) (one s (add_instr op.0) ⨾ summands_code s rest) (plain_term s t) (both (one s (add_instr op.0)) (summands_code s rest) (plain_one s (add_instr op.0)) (plain_summands s rest))
+  plain_summands s (more_summands op t rest) = both (term_code s t) (one s (add_instr op.0) ⨾ summands_code s rest) (plain_term s t)
+      (both (one s (add_instr op.0)) (summands_code s rest) (plain_one s (add_instr op.0)) (plain_summands s rest))
 
   pub plain_term : (s : Site) (e : TermTree) → IsPlain (term_code s e)
   plain_term s (product f rest) = both (factor_code s f) (multipliers_code s rest) (plain_factor s f) (plain_multipliers s rest)
 
   pub plain_multipliers : (s : Site) (e : MultiplierTrees) → IsPlain (multipliers_code s e)
   plain_multipliers s no_multipliers = plain_nothing
-  plain_multipliers s (more_multipliers op f rest) = both (factor_code s f) (one s (multiply_instr op.0) ⨾ multipliers_code s rest) (plain_factor s f) (both (one s (multiply_instr op.0)) (multipliers_code s rest) (plain_one s (multiply_instr op.0)) (plain_multipliers s rest))
+  plain_multipliers s (more_multipliers op f rest) = both (factor_code s f) (one s (multiply_instr op.0) ⨾ multipliers_code s rest) (plain_factor s f)
+      (both (one s (multiply_instr op.0)) (multipliers_code s rest) (plain_one s (multiply_instr op.0)) (plain_multipliers s rest))
 
   pub plain_factor : (s : Site) (e : FactorTree) → IsPlain (factor_code s e)
   plain_factor s (number k p) = plain_one s (LIT k)
@@ -117,7 +125,8 @@ mutual
       let v = spot_of s.env found in
       plain_name s (meaning_of found) ss (base_code s v.spot ⨾ selectors_code s v.t ss) (λ formals. args_code s formals args)
       (λ f. function_code s f (first_type s.env args) (first_value s args) (first_address s args))
-      (both (base_code s v.spot) (selectors_code s v.t ss) (plain_one s (if refers s v.spot then REF (links_to s v.spot.scope) (cell_of s v.spot) else ADDR (links_to s v.spot.scope) (cell_of s v.spot))) (plain_selectors s v.t ss))
+      (both (base_code s v.spot) (selectors_code s v.t ss) (plain_one s (if refers s v.spot then
+      REF (links_to s v.spot.scope) (cell_of s v.spot) else ADDR (links_to s v.spot.scope) (cell_of s v.spot))) (plain_selectors s v.t ss))
       (λ formals. plain_args s formals args)
       (λ f. plain_function s f (first_type s.env args) (first_value s args) (first_address s args) (plain_first s args) (plain_first_address s args))
 
@@ -148,7 +157,8 @@ mutual
   plain_variable s (plain (sum None (product (applied (desig x ss r) no_actuals q) (more_multipliers op f ms)) us) p) = plain_nothing
   plain_variable s (plain (sum None (product (applied (desig x ss r) no_actuals q) no_multipliers) (more_summands op t us)) p) = plain_nothing
   plain_variable s (plain (sum None (product (applied (desig x ss r) no_actuals q) no_multipliers) no_summands) p) =
-      let v = spot_of s.env (find s.env x) in both (base_code s v.spot) (selectors_code s v.t ss) (plain_one s (if refers s v.spot then REF (links_to s v.spot.scope) (cell_of s v.spot) else ADDR (links_to s v.spot.scope) (cell_of s v.spot))) (plain_selectors s v.t ss)
+      let v = spot_of s.env (find s.env x) in both (base_code s v.spot) (selectors_code s v.t ss) (plain_one s (if refers s v.spot then
+      REF (links_to s v.spot.scope) (cell_of s v.spot) else ADDR (links_to s v.spot.scope) (cell_of s v.spot))) (plain_selectors s v.t ss)
 
   pub plain_args : (s : Site) (formals : List Formal) (args : ActualTrees) → IsPlain (args_code s formals args)
   plain_args s formals no_actuals = plain_nothing
@@ -160,11 +170,15 @@ mutual
   pub plain_selectors : (s : Site) (t : Option TypeId) (ss : SelectorTrees) → IsPlain (selectors_code s t ss)
   plain_selectors s t no_selectors = plain_nothing
   plain_selectors s t (more_selectors (index es p) ss) =
-      both (indices_code s t es) (selectors_code s (type_behind (forms_of s) t es) ss) (plain_indices s t es) (plain_selectors s (type_behind (forms_of s) t es) ss)
+      both (indices_code s t es) (selectors_code s (type_behind (forms_of s) t es) ss) (plain_indices s t es)
+      (plain_selectors s (type_behind (forms_of s) t es) ss)
   plain_selectors s t (more_selectors (field x p) ss) =
-      both (one s (FLD (field_cell (forms_of s) (form_in (forms_of s) t) x))) (selectors_code s (field_type (forms_of s) t x) ss) (plain_one s (FLD (field_cell (forms_of s) (form_in (forms_of s) t) x))) (plain_selectors s (field_type (forms_of s) t x) ss)
+      both (one s (FLD (field_cell (forms_of s) (form_in (forms_of s) t) x))) (selectors_code s (field_type (forms_of s) t x) ss)
+      (plain_one s (FLD (field_cell (forms_of s) (form_in (forms_of s) t) x))) (plain_selectors s (field_type (forms_of s) t x) ss)
 
   pub plain_indices : (s : Site) (t : Option TypeId) (es : ExprTrees) → IsPlain (indices_code s t es)
   plain_indices s t no_exprs = plain_nothing
   plain_indices s t (more_exprs e es) =
-      both (expr_code s e) (one s (index_instr (forms_of s) (form_in (forms_of s) t)) ⨾ indices_code s (element_in (forms_of s) t) es) (plain_expr s e) (both (one s (index_instr (forms_of s) (form_in (forms_of s) t))) (indices_code s (element_in (forms_of s) t) es) (plain_one s (index_instr (forms_of s) (form_in (forms_of s) t))) (plain_indices s (element_in (forms_of s) t) es))
+      both (expr_code s e) (one s (index_instr (forms_of s) (form_in (forms_of s) t)) ⨾ indices_code s (element_in (forms_of s) t) es) (plain_expr s e)
+      (both (one s (index_instr (forms_of s) (form_in (forms_of s) t))) (indices_code s (element_in (forms_of s) t) es)
+      (plain_one s (index_instr (forms_of s) (form_in (forms_of s) t))) (plain_indices s (element_in (forms_of s) t) es))

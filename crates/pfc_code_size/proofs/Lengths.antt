@@ -110,8 +110,10 @@ mutual
       (λ f. function_code s f (first_type s.env args) (first_value s args) (first_address s args))
       (1 + selectors_size (blocks_of s) s.env ss) (λ formals. args_size (blocks_of s) s.env formals args)
       (λ f. function_size f (first_value_size (blocks_of s) s.env args) (first_address_size (blocks_of s) s.env args))
-      (λ i j. behind_base s v.spot (selectors_code s v.t ss) (selectors_size (blocks_of s) s.env ss) (selectors_length s v.t ss) i j) (λ formals i j. args_length s formals args i j)
-      (λ f i j. function_length s f (first_type s.env args) (first_value s args) (first_address s args) _ _ (first_value_length s args) (first_address_length s args) i j)
+      (λ i j. behind_base s v.spot (selectors_code s v.t ss) (selectors_size (blocks_of s) s.env ss) (selectors_length s v.t ss) i j)
+      (λ formals i j. args_length s formals args i j)
+      (λ f i j. function_length s f (first_type s.env args) (first_value s args) (first_address s args) _ _
+      (first_value_length s args) (first_address_length s args) i j)
       at n
 
   pub first_value_length :

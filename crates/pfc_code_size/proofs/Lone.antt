@@ -26,11 +26,13 @@ pub simple_no :
     → is_lone_sum sign us ≡ false → lone_simple_size b c (sum sign t us) ≡ 0
 simple_no b c sign t us is = simple_is b c sign t us ∙ ap (λ x. cond x (lone_term_size b c t) 0) is
 
-term_is : (b : Blocks) (c : Env) (f : FactorTree) (ms : MultiplierTrees) → lone_term_size b c (product f ms) ≡ cond (no_multiplier ms) (lone_factor_size b c f) 0
+term_is : (b : Blocks) (c : Env) (f : FactorTree) (ms : MultiplierTrees) →
+    lone_term_size b c (product f ms) ≡ cond (no_multiplier ms) (lone_factor_size b c f) 0
 term_is b c f no_multipliers = refl
 term_is b c f (more_multipliers op g ms) = refl
 
-pub term_yes : (b : Blocks) (c : Env) (f : FactorTree) (ms : MultiplierTrees) → no_multiplier ms ≡ true → lone_term_size b c (product f ms) ≡ lone_factor_size b c f
+pub term_yes : (b : Blocks) (c : Env) (f : FactorTree) (ms : MultiplierTrees) → no_multiplier ms ≡ true →
+    lone_term_size b c (product f ms) ≡ lone_factor_size b c f
 term_yes b c f ms is = term_is b c f ms ∙ ap (λ x. cond x (lone_factor_size b c f) 0) is
 
 pub term_no : (b : Blocks) (c : Env) (f : FactorTree) (ms : MultiplierTrees) → no_multiplier ms ≡ false → lone_term_size b c (product f ms) ≡ 0

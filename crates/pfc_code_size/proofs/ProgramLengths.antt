@@ -42,7 +42,8 @@ pieces_size b (p ∷ ps) = piece_size b p + pieces_size b ps
 -- what stands before main's code, and what stands in it
 all_put :
     (g : Program) (number strings : ℕ) (ps : List Piece) (outer inner : ℕ)
-    → length (put_from outer (before_main (coded g number strings ps))) + length (put_from inner (of_main (coded g number strings ps))) ≡ pieces_size g.state.blocks ps
+    → length (put_from outer (before_main (coded g number strings ps))) + length
+    (put_from inner (of_main (coded g number strings ps))) ≡ pieces_size g.state.blocks ps
 all_put g number strings [] outer inner = refl
 all_put g number strings (a_body b ∷ ps) outer inner =
     let c = body_code g b in
@@ -108,7 +109,8 @@ initials_pieces : (b : Blocks) (xs : List Block) → pieces_size b (map an_initi
 initials_pieces b [] = refl
 initials_pieces b (x ∷ xs) = ap (λ k. statements_size b x + k) (initials_pieces b xs)
 
-ends_pieces : (b : Blocks) (q : PartTree) (qs : PartTrees) → length (ends_of_resources (more_parts q qs)) ≡ pieces_size b (resource_end q) + length (ends_of_resources qs)
+ends_pieces : (b : Blocks) (q : PartTree) (qs : PartTrees) →
+    length (ends_of_resources (more_parts q qs)) ≡ pieces_size b (resource_end q) + length (ends_of_resources qs)
 ends_pieces b (consts x) qs = omega arith
 ends_pieces b (types x) qs = omega arith
 ends_pieces b (vars x) qs = omega arith

@@ -84,7 +84,14 @@ alternatives_length :
 alternatives_length s [] branches at n = refl
 alternatives_length s (a ∷ rest) branches at n =
     let behind = alternatives_code s rest (drop 1 branches) in
-    grind (arith, length-append, replica_length s a.replica, guarded_length s a.guard a.next a.comm (behind.size + 1 + first_of branches), alternatives_length s rest (drop 1 branches))
+    grind (
+      arith,
+      length-append,
+      replica_length s a.replica,
+      guarded_length s a.guard a.next a.comm
+          (behind.size + 1 + first_of branches),
+      alternatives_length s rest (drop 1 branches),
+    )
 
 listed_both : (b : Blocks) (c : Env) (xs ys : List Alternative) → listed b c (xs ++ ys) ≡ listed b c xs + listed b c ys
 listed_both b c [] ys = sym (zero-add (listed b c ys))
@@ -172,7 +179,13 @@ tests_length :
     (s : Site) (i from : ℕ) (arms : ArmTrees) (at n : ℕ) → length ((code.tests_code s i from arms).put at n) ≡ label_count arms
 tests_length s i from no_arms at n = refl
 tests_length s i from (more_arms (arm ls t) arms) at n =
-    grind (arith, length-append, labels_length s (code.label_count arms + 1 + from) ls, tests_length s (i + arm_scopes (arm ls t)) (from + (code.stmt_code s i t).size + 1) arms)
+    grind (
+      arith,
+      length-append,
+      labels_length s (code.label_count arms + 1 + from) ls,
+      tests_length s (i + arm_scopes (arm ls t))
+          (from + (code.stmt_code s i t).size + 1) arms,
+    )
 
 mutual
   pub stmt_length : (s : Site) (i : ℕ) (t : StmtTree) (at n : ℕ) → length ((code.stmt_code s i t).put at n) ≡ stmt_size (blocks_of s) s.env i t
@@ -204,7 +217,15 @@ mutual
       let c = at_line s p.line in
       let otherwise = code.stmts_code c (i + alts_scopes alts) ss in
       let branches = code.branches_code c i alts otherwise.size in
-      grind (arith, length-append, select_length c i alts (code.distances c i 0 alts), sel_length c pri (Some branches.size), branches_length c i alts otherwise.size, stmts_length c (i + alts_scopes alts) ss)
+      grind (
+        arith,
+        length-append,
+        select_length c i alts (code.distances c i 0 alts),
+        sel_length c pri
+            (Some branches.size),
+        branches_length c i alts otherwise.size,
+        stmts_length c (i + alts_scopes alts) ss,
+      )
   stmt_length s i (assign d e p q) at n = assign_length (at_line s p.line) d e at n
   stmt_length s i (send d e p q) at n = send_length (at_line s p.line) d e at n
   stmt_length s i (receive d v p q) at n = receive_length (at_line s p.line) d v at n

@@ -21,7 +21,8 @@ use pfc_typing::selected_type;
 
 /// With a call statement.
 pub(crate) fn call(d: &Desig, args: &[Actual], env: Env, count: u32) -> Result<u32, Full>
-    ensures value { IfOk result (λ total. total ≡ count + sizes.call_size env.entry.scopes.now (env_view env.entry) (desig_view d.now) (actuals_view args.now)) }
+    ensures value { IfOk result (λ total. total ≡ count + sizes.call_size env.entry.scopes.now (env_view env.entry)
+        (desig_view d.now) (actuals_view args.now)) }
     ensures large { OnErr result (200000 < count + sizes.call_size env.entry.scopes.now (env_view env.entry) (desig_view d.now) (actuals_view args.now)) }
 {
     called(
@@ -41,8 +42,10 @@ fn called(
     env: Env,
     count: u32,
 ) -> Result<u32, Full>
-    ensures value { IfOk result (λ total. total ≡ count + sizes.called_size env.entry.scopes.now (env_view env.entry) m (selectors_view ss.now) (actuals_view args.now)) }
-    ensures large { OnErr result (200000 < count + sizes.called_size env.entry.scopes.now (env_view env.entry) m (selectors_view ss.now) (actuals_view args.now)) }
+    ensures value { IfOk result (λ total. total ≡ count + sizes.called_size env.entry.scopes.now (env_view env.entry) m
+        (selectors_view ss.now) (actuals_view args.now)) }
+    ensures large { OnErr result (200000 < count + sizes.called_size env.entry.scopes.now (env_view env.entry) m
+        (selectors_view ss.now) (actuals_view args.now)) }
 {
     match m {
         Some(Meaning::Predeclared(k)) => procedure(procedure_of(k), args, env, count),
@@ -63,8 +66,10 @@ fn call_sub(n: u32, args: &[Actual], env: Env, count: u32) -> Result<u32, Full>
 
 /// `m.p (..)` calls an exported procedure of a module.
 fn call_module(n: u32, ss: &[Selector], args: &[Actual], env: Env, count: u32) -> Result<u32, Full>
-    ensures value { IfOk result (λ total. total ≡ count + sizes.module_size env.entry.scopes.now (env_view env.entry) n (last_field (selectors_view ss.now)) (actuals_view args.now)) }
-    ensures large { OnErr result (200000 < count + sizes.module_size env.entry.scopes.now (env_view env.entry) n (last_field (selectors_view ss.now)) (actuals_view args.now)) }
+    ensures value { IfOk result (λ total. total ≡ count + sizes.module_size env.entry.scopes.now (env_view env.entry) n
+        (last_field (selectors_view ss.now)) (actuals_view args.now)) }
+    ensures large { OnErr result (200000 < count + sizes.module_size env.entry.scopes.now (env_view env.entry) n
+        (last_field (selectors_view ss.now)) (actuals_view args.now)) }
 {
     match split_field(ss) {
         Some((_before, (name, _place))) => {
@@ -90,16 +95,20 @@ fn call_named(m: Option<Meaning>, args: &[Actual], env: Env, count: u32) -> Resu
 
 /// `requeue q (..)`.
 pub(crate) fn requeue(name: &Name, args: &[Actual], env: Env, count: u32) -> Result<u32, Full>
-    ensures value { IfOk result (λ total. total ≡ count + sizes.requeue_size env.entry.scopes.now (env_view env.entry) (scopes.meaning_of (find (env_view env.entry) name.now)) (actuals_view args.now)) }
-    ensures large { OnErr result (200000 < count + sizes.requeue_size env.entry.scopes.now (env_view env.entry) (scopes.meaning_of (find (env_view env.entry) name.now)) (actuals_view args.now)) }
+    ensures value { IfOk result (λ total. total ≡ count + sizes.requeue_size env.entry.scopes.now (env_view env.entry)
+        (scopes.meaning_of (find (env_view env.entry) name.now)) (actuals_view args.now)) }
+    ensures large { OnErr result (200000 < count + sizes.requeue_size env.entry.scopes.now (env_view env.entry)
+        (scopes.meaning_of (find (env_view env.entry) name.now)) (actuals_view args.now)) }
 {
     call_named(meaning_of(find_in(env, name)), args, env, count)
 }
 
 /// A single process is activated by its name, and its entry is called behind `.`.
 fn call_process(n: u32, ss: &[Selector], args: &[Actual], env: Env, count: u32) -> Result<u32, Full>
-    ensures value { IfOk result (λ total. total ≡ count + sizes.called_process_size env.entry.scopes.now (env_view env.entry) n (last_field (selectors_view ss.now)) (actuals_view args.now)) }
-    ensures large { OnErr result (200000 < count + sizes.called_process_size env.entry.scopes.now (env_view env.entry) n (last_field (selectors_view ss.now)) (actuals_view args.now)) }
+    ensures value { IfOk result (λ total. total ≡ count + sizes.called_process_size env.entry.scopes.now (env_view env.entry) n
+        (last_field (selectors_view ss.now)) (actuals_view args.now)) }
+    ensures large { OnErr result (200000 < count + sizes.called_process_size env.entry.scopes.now (env_view env.entry) n
+        (last_field (selectors_view ss.now)) (actuals_view args.now)) }
 {
     match split_field(ss) {
         Some((_before, (name, _place))) => {
@@ -124,8 +133,10 @@ fn call_variable(
     env: Env,
     count: u32,
 ) -> Result<u32, Full>
-    ensures value { IfOk result (λ total. total ≡ count + sizes.called_variable_size env.entry.scopes.now (env_view env.entry) (selectors_view ss.now) t (last_field (selectors_view ss.now)) (actuals_view args.now)) }
-    ensures large { OnErr result (200000 < count + sizes.called_variable_size env.entry.scopes.now (env_view env.entry) (selectors_view ss.now) t (last_field (selectors_view ss.now)) (actuals_view args.now)) }
+    ensures value { IfOk result (λ total. total ≡ count + sizes.called_variable_size env.entry.scopes.now (env_view env.entry) (selectors_view ss.now) t
+        (last_field (selectors_view ss.now)) (actuals_view args.now)) }
+    ensures large { OnErr result (200000 < count + sizes.called_variable_size env.entry.scopes.now (env_view env.entry) (selectors_view ss.now) t
+        (last_field (selectors_view ss.now)) (actuals_view args.now)) }
 {
     let Some((before, (name, _place))) = split_field(ss) else {
         return activate_part(t, ss, args, env, count)
@@ -147,8 +158,12 @@ fn activate_part(
     env: Env,
     count: u32,
 ) -> Result<u32, Full>
-    ensures value { IfOk result (λ total. total ≡ count + sizes.process_size env.entry.scopes.now (env_view env.entry) (statements.process_of_type (env_view env.entry) (selected (env_view env.entry) (Some t) (selectors_view ss.now))) (sizes.part_size env.entry.scopes.now (env_view env.entry) (selectors_view ss.now)) (actuals_view args.now)) }
-    ensures large { OnErr result (200000 < count + sizes.process_size env.entry.scopes.now (env_view env.entry) (statements.process_of_type (env_view env.entry) (selected (env_view env.entry) (Some t) (selectors_view ss.now))) (sizes.part_size env.entry.scopes.now (env_view env.entry) (selectors_view ss.now)) (actuals_view args.now)) }
+    ensures value { IfOk result (λ total. total ≡ count + sizes.process_size env.entry.scopes.now (env_view env.entry)
+        (statements.process_of_type (env_view env.entry) (selected (env_view env.entry) (Some t) (selectors_view ss.now)))
+        (sizes.part_size env.entry.scopes.now (env_view env.entry) (selectors_view ss.now)) (actuals_view args.now)) }
+    ensures large { OnErr result (200000 < count + sizes.process_size env.entry.scopes.now (env_view env.entry) (statements.process_of_type (env_view env.entry)
+        (selected (env_view env.entry) (Some t) (selectors_view ss.now))) (sizes.part_size env.entry.scopes.now (env_view env.entry)
+        (selectors_view ss.now)) (actuals_view args.now)) }
 {
     match process_of_type(selected_type(ss, Some(t), env), env) {
         Some(n) => activate(n, ss, args, env, count),
@@ -158,8 +173,10 @@ fn activate_part(
 
 /// A process of the n-th declaration is activated, which is this part of a variable.
 fn activate(n: u32, ss: &[Selector], args: &[Actual], env: Env, count: u32) -> Result<u32, Full>
-    ensures value { IfOk result (λ total. total ≡ count + sizes.activation_size env.entry.scopes.now (env_view env.entry) n (sizes.part_size env.entry.scopes.now (env_view env.entry) (selectors_view ss.now)) (actuals_view args.now)) }
-    ensures large { OnErr result (200000 < count + sizes.activation_size env.entry.scopes.now (env_view env.entry) n (sizes.part_size env.entry.scopes.now (env_view env.entry) (selectors_view ss.now)) (actuals_view args.now)) }
+    ensures value { IfOk result (λ total. total ≡ count + sizes.activation_size env.entry.scopes.now (env_view env.entry) n
+        (sizes.part_size env.entry.scopes.now (env_view env.entry) (selectors_view ss.now)) (actuals_view args.now)) }
+    ensures large { OnErr result (200000 < count + sizes.activation_size env.entry.scopes.now (env_view env.entry) n
+        (sizes.part_size env.entry.scopes.now (env_view env.entry) (selectors_view ss.now)) (actuals_view args.now)) }
 {
     let process = part(ss, env, count)?;
     one(pass(args, env.scopes.process_formals(n), env, one(process)?)?)
@@ -174,8 +191,10 @@ fn call_entry(
     env: Env,
     count: u32,
 ) -> Result<u32, Full>
-    ensures value { IfOk result (λ total. total ≡ count + sizes.entry_size env.entry.scopes.now (env_view env.entry) n m (sizes.part_size env.entry.scopes.now (env_view env.entry) (selectors_view ss.now)) (actuals_view args.now)) }
-    ensures large { OnErr result (200000 < count + sizes.entry_size env.entry.scopes.now (env_view env.entry) n m (sizes.part_size env.entry.scopes.now (env_view env.entry) (selectors_view ss.now)) (actuals_view args.now)) }
+    ensures value { IfOk result (λ total. total ≡ count + sizes.entry_size env.entry.scopes.now (env_view env.entry) n m
+        (sizes.part_size env.entry.scopes.now (env_view env.entry) (selectors_view ss.now)) (actuals_view args.now)) }
+    ensures large { OnErr result (200000 < count + sizes.entry_size env.entry.scopes.now (env_view env.entry) n m
+        (sizes.part_size env.entry.scopes.now (env_view env.entry) (selectors_view ss.now)) (actuals_view args.now)) }
 {
     match m {
         Some(Meaning::Entry(e)) => {

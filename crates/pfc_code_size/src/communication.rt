@@ -37,7 +37,8 @@ fn sent<'a>(e: &'a Expr, env: Env) -> Option<&'a Expr>
 }
 
 fn message(e: Option<&Expr>, env: Env, count: u32) -> Result<u32, Full>
-    ensures value { IfOk result (λ total. total ≡ count + sizes.message_size env.entry.scopes.now (env_view env.entry) (option_map (λ x. expr_view x.now) e.entry)) }
+    ensures value { IfOk result (λ total. total ≡ count + sizes.message_size env.entry.scopes.now (env_view env.entry)
+        (option_map (λ x. expr_view x.now) e.entry)) }
     ensures large { OnErr result (200000 < count + sizes.message_size env.entry.scopes.now (env_view env.entry) (option_map (λ x. expr_view x.now) e.entry)) }
 {
     match e {
@@ -63,7 +64,8 @@ fn received<'a>(v: &'a Desig, env: Env) -> Option<&'a Desig>
 }
 
 fn receiver(v: Option<&Desig>, env: Env, count: u32) -> Result<u32, Full>
-    ensures value { IfOk result (λ total. total ≡ count + sizes.receiver_size env.entry.scopes.now (env_view env.entry) (option_map (λ x. desig_view x.now) v.entry)) }
+    ensures value { IfOk result (λ total. total ≡ count + sizes.receiver_size env.entry.scopes.now (env_view env.entry)
+        (option_map (λ x. desig_view x.now) v.entry)) }
     ensures large { OnErr result (200000 < count + sizes.receiver_size env.entry.scopes.now (env_view env.entry) (option_map (λ x. desig_view x.now) v.entry)) }
 {
     match v {

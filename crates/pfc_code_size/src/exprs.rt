@@ -111,8 +111,10 @@ fn factor(f: &Factor, env: Env, count: u32) -> Result<u32, Full>
 /// With a predeclared function and its argument.
 #[cycle(exprs)]
 fn function(f: Function, args: &[Actual], env: Env, count: u32) -> Result<u32, Full>
-    ensures value { IfOk result (λ total. total ≡ count + sizes.function_size (function_view f) (sizes.first_value_size env.entry.scopes.now (env_view env.entry) (actuals_view args.now)) (sizes.first_address_size env.entry.scopes.now (env_view env.entry) (actuals_view args.now))) }
-    ensures large { OnErr result (200000 < count + sizes.function_size (function_view f) (sizes.first_value_size env.entry.scopes.now (env_view env.entry) (actuals_view args.now)) (sizes.first_address_size env.entry.scopes.now (env_view env.entry) (actuals_view args.now))) }
+    ensures value { IfOk result (λ total. total ≡ count + sizes.function_size (function_view f) (sizes.first_value_size env.entry.scopes.now
+        (env_view env.entry) (actuals_view args.now)) (sizes.first_address_size env.entry.scopes.now (env_view env.entry) (actuals_view args.now))) }
+    ensures large { OnErr result (200000 < count + sizes.function_size (function_view f) (sizes.first_value_size env.entry.scopes.now (env_view env.entry)
+        (actuals_view args.now)) (sizes.first_address_size env.entry.scopes.now (env_view env.entry) (actuals_view args.now))) }
 {
     match f {
         Function::Ord => first_value(args, env, count),
@@ -254,8 +256,10 @@ fn lone_factor(f: &Factor, env: Env, count: u32) -> Result<u32, Full>
 /// The same of a name, where it has no arguments.
 #[cycle(exprs)]
 fn lone_name(d: &Desig, args: &[Actual], env: Env, count: u32) -> Result<u32, Full>
-    ensures value { IfOk result (λ total. total ≡ count + sizes.lone_size (actuals_view args.now) (sizes.desig_size env.entry.scopes.now (env_view env.entry) (desig_view d.now))) }
-    ensures large { OnErr result (200000 < count + sizes.lone_size (actuals_view args.now) (sizes.desig_size env.entry.scopes.now (env_view env.entry) (desig_view d.now))) }
+    ensures value { IfOk result (λ total. total ≡ count + sizes.lone_size (actuals_view args.now)
+        (sizes.desig_size env.entry.scopes.now (env_view env.entry) (desig_view d.now))) }
+    ensures large { OnErr result (200000 < count + sizes.lone_size (actuals_view args.now)
+        (sizes.desig_size env.entry.scopes.now (env_view env.entry) (desig_view d.now))) }
 {
     match args {
         [] => desig(d, env, count),
@@ -276,8 +280,10 @@ fn formals_of<'a>(m: Option<Meaning>, env: Env<'a>) -> &'a [Formal]
 /// With the arguments of what is called.
 #[cycle(exprs)]
 fn arguments(args: &[Actual], m: Option<Meaning>, env: Env, count: u32) -> Result<u32, Full>
-    ensures value { IfOk result (λ total. total ≡ count + sizes.args_size env.entry.scopes.now (env_view env.entry) (parameters.formals_of env.entry.scopes.now m) (actuals_view args.now)) }
-    ensures large { OnErr result (200000 < count + sizes.args_size env.entry.scopes.now (env_view env.entry) (parameters.formals_of env.entry.scopes.now m) (actuals_view args.now)) }
+    ensures value { IfOk result (λ total. total ≡ count + sizes.args_size env.entry.scopes.now (env_view env.entry)
+        (parameters.formals_of env.entry.scopes.now m) (actuals_view args.now)) }
+    ensures large { OnErr result (200000 < count + sizes.args_size env.entry.scopes.now (env_view env.entry)
+        (parameters.formals_of env.entry.scopes.now m) (actuals_view args.now)) }
 {
     let mut sum = count;
     let mut left = formals_of(m, env);
@@ -311,8 +317,12 @@ pub(crate) fn pass(args: &[Actual], formals: &[Formal], env: Env, count: u32) ->
 /// With an argument for a reference or for a value.
 #[cycle(exprs)]
 fn argument(a: &Actual, reference: bool, env: Env, count: u32) -> Result<u32, Full>
-    ensures value { IfOk result (λ total. total ≡ count + (if reference then sizes.lent_size env.entry.scopes.now (env_view env.entry) (actual_view a.now) else sizes.actual_size env.entry.scopes.now (env_view env.entry) (actual_view a.now))) }
-    ensures large { OnErr result (200000 < count + (if reference then sizes.lent_size env.entry.scopes.now (env_view env.entry) (actual_view a.now) else sizes.actual_size env.entry.scopes.now (env_view env.entry) (actual_view a.now))) }
+    ensures value { IfOk result (λ total. total ≡ count + (if reference then
+        sizes.lent_size env.entry.scopes.now (env_view env.entry) (actual_view a.now) else sizes.actual_size env.entry.scopes.now
+        (env_view env.entry) (actual_view a.now))) }
+    ensures large { OnErr result (200000 < count + (if reference then
+        sizes.lent_size env.entry.scopes.now (env_view env.entry) (actual_view a.now) else sizes.actual_size env.entry.scopes.now
+        (env_view env.entry) (actual_view a.now))) }
 {
     if reference {
         lent(a, env, count)

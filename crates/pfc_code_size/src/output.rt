@@ -43,8 +43,10 @@ fn item(a: &Actual, env: Env, count: u32) -> Result<u32, Full>
 }
 
 fn plain_item(e: &Expr, env: Env, count: u32) -> Result<u32, Full>
-    ensures value { IfOk result (λ total. total ≡ count + sizes.plain_item_size env.entry.scopes.now (env_view env.entry) (string_of (expr_view e.now)) (expr_view e.now)) }
-    ensures large { OnErr result (200000 < count + sizes.plain_item_size env.entry.scopes.now (env_view env.entry) (string_of (expr_view e.now)) (expr_view e.now)) }
+    ensures value { IfOk result (λ total. total ≡ count + sizes.plain_item_size env.entry.scopes.now (env_view env.entry)
+        (string_of (expr_view e.now)) (expr_view e.now)) }
+    ensures large { OnErr result (200000 < count + sizes.plain_item_size env.entry.scopes.now (env_view env.entry)
+        (string_of (expr_view e.now)) (expr_view e.now)) }
 {
     match as_string(e) {
         Some(_) => one(count),
@@ -53,8 +55,10 @@ fn plain_item(e: &Expr, env: Env, count: u32) -> Result<u32, Full>
 }
 
 fn wide_item(e: &Expr, width: &Expr, env: Env, count: u32) -> Result<u32, Full>
-    ensures value { IfOk result (λ total. total ≡ count + sizes.wide_item_size env.entry.scopes.now (env_view env.entry) (string_of (expr_view e.now)) (expr_view e.now) (expr_view width.now)) }
-    ensures large { OnErr result (200000 < count + sizes.wide_item_size env.entry.scopes.now (env_view env.entry) (string_of (expr_view e.now)) (expr_view e.now) (expr_view width.now)) }
+    ensures value { IfOk result (λ total. total ≡ count + sizes.wide_item_size env.entry.scopes.now (env_view env.entry) (string_of (expr_view e.now))
+        (expr_view e.now) (expr_view width.now)) }
+    ensures large { OnErr result (200000 < count + sizes.wide_item_size env.entry.scopes.now (env_view env.entry) (string_of (expr_view e.now))
+        (expr_view e.now) (expr_view width.now)) }
 {
     let value = match as_string(e) {
         Some(_) => count,
@@ -76,7 +80,8 @@ pub(crate) fn reads(args: &[Actual], skip: bool, env: Env, count: u32) -> Result
 }
 
 fn input(a: &Actual, env: Env, count: u32) -> Result<u32, Full>
-    ensures value { IfOk result (λ total. total ≡ count + sizes.input_size env.entry.scopes.now (env_view env.entry) (rules.as_desig (item_of (actual_view a.now)))) }
+    ensures value { IfOk result (λ total. total ≡ count + sizes.input_size env.entry.scopes.now (env_view env.entry)
+        (rules.as_desig (item_of (actual_view a.now)))) }
     ensures large { OnErr result (200000 < count + sizes.input_size env.entry.scopes.now (env_view env.entry) (rules.as_desig (item_of (actual_view a.now)))) }
 {
     match as_desig(&a.value) {

@@ -33,8 +33,10 @@ pub(crate) fn within(
     p: Phrase,
     count: u32,
 ) -> Result<u32, CountFault>
-    ensures value { IfOk result (λ total. total ≡ count + phrase_size tables.entry.scopes.now (env_within tables.entry (levels.now ++ levels_of outer.entry) around) p.entry) }
-    ensures large { IfErr result (λ f. f ≡ TooLarge → 200000 < count + phrase_size tables.entry.scopes.now (env_within tables.entry (levels.now ++ levels_of outer.entry) around) p.entry) }
+    ensures value { IfOk result (λ total. total ≡ count + phrase_size tables.entry.scopes.now
+        (env_within tables.entry (levels.now ++ levels_of outer.entry) around) p.entry) }
+    ensures large { IfErr result (λ f. f ≡ TooLarge →
+        200000 < count + phrase_size tables.entry.scopes.now (env_within tables.entry (levels.now ++ levels_of outer.entry) around) p.entry) }
 {
     match levels {
         [inner @ .., last] => {
@@ -61,7 +63,8 @@ fn phrase_within(
     count: u32,
 ) -> Result<u32, CountFault>
     ensures value { IfOk result (λ total. total ≡ count + phrase_size tables.entry.scopes.now (env_within tables.entry (levels view.now) around) p.entry) }
-    ensures large { IfErr result (λ f. f ≡ TooLarge → 200000 < count + phrase_size tables.entry.scopes.now (env_within tables.entry (levels view.now) around) p.entry) }
+    ensures large { IfErr result (λ f. f ≡ TooLarge →
+        200000 < count + phrase_size tables.entry.scopes.now (env_within tables.entry (levels view.now) around) p.entry) }
 {
     let env = Env {
         types: tables.types,

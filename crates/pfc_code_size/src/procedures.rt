@@ -15,7 +15,8 @@ use pfc_tree::{Actual, Expr};
 
 /// With a predeclared procedure and its arguments.
 pub(crate) fn procedure(p: Procedure, args: &[Actual], env: Env, count: u32) -> Result<u32, Full>
-    ensures value { IfOk result (λ total. total ≡ count + sizes.procedure_size env.entry.scopes.now (env_view env.entry) (procedure_view p) (actuals_view args.now)) }
+    ensures value { IfOk result (λ total. total ≡ count + sizes.procedure_size env.entry.scopes.now (env_view env.entry)
+        (procedure_view p) (actuals_view args.now)) }
     ensures large { OnErr result (200000 < count + sizes.procedure_size env.entry.scopes.now (env_view env.entry) (procedure_view p) (actuals_view args.now)) }
 {
     match p {
@@ -52,7 +53,8 @@ fn first_object(args: &[Actual], env: Env, count: u32) -> Result<u32, Full>
 
 /// With the count of `initial`.
 fn given(e: Option<&Expr>, env: Env, count: u32) -> Result<u32, Full>
-    ensures value { IfOk result (λ total. total ≡ count + sizes.given_size env.entry.scopes.now (env_view env.entry) (option_map (λ x. expr_view x.now) e.entry)) }
+    ensures value { IfOk result (λ total. total ≡ count + sizes.given_size env.entry.scopes.now (env_view env.entry)
+        (option_map (λ x. expr_view x.now) e.entry)) }
     ensures large { OnErr result (200000 < count + sizes.given_size env.entry.scopes.now (env_view env.entry) (option_map (λ x. expr_view x.now) e.entry)) }
 {
     match e {
@@ -63,7 +65,8 @@ fn given(e: Option<&Expr>, env: Env, count: u32) -> Result<u32, Full>
 
 /// With the rank of `delay`, which is 0 where none is given.
 fn rank(e: Option<&Expr>, env: Env, count: u32) -> Result<u32, Full>
-    ensures value { IfOk result (λ total. total ≡ count + sizes.rank_size env.entry.scopes.now (env_view env.entry) (option_map (λ x. expr_view x.now) e.entry)) }
+    ensures value { IfOk result (λ total. total ≡ count + sizes.rank_size env.entry.scopes.now (env_view env.entry)
+        (option_map (λ x. expr_view x.now) e.entry)) }
     ensures large { OnErr result (200000 < count + sizes.rank_size env.entry.scopes.now (env_view env.entry) (option_map (λ x. expr_view x.now) e.entry)) }
 {
     match e {

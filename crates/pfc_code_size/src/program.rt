@@ -38,9 +38,13 @@ fn whole(program: &Program) -> Result<u32, CountFault>
 
 /// With main's code: the initialising bodies, and the main body.
 fn main_code(program: &Program, count: u32) -> Result<u32, CountFault>
-    ensures value { IfOk result (λ total. total ≡ count + (sizes.initials_size program.now.tables.scopes.now (blocks_view program.now.tables program.now.modules.items) + sizes.body_size program.now.tables.scopes.now (block_view program.now.tables program.now.main))) }
+    ensures value { IfOk result
+        (λ total. total ≡ count + (sizes.initials_size program.now.tables.scopes.now (blocks_view program.now.tables program.now.modules.items) +
+        sizes.body_size program.now.tables.scopes.now (block_view program.now.tables program.now.main))) }
     ensures fits { IfOk result (λ total. total ≤ 200000) }
-    ensures large { IfErr result (λ f. f ≡ TooLarge → 200000 < count + (sizes.initials_size program.now.tables.scopes.now (blocks_view program.now.tables program.now.modules.items) + sizes.body_size program.now.tables.scopes.now (block_view program.now.tables program.now.main))) }
+    ensures large { IfErr result (λ f. f ≡ TooLarge →
+        200000 < count + (sizes.initials_size program.now.tables.scopes.now (blocks_view program.now.tables program.now.modules.items) +
+        sizes.body_size program.now.tables.scopes.now (block_view program.now.tables program.now.main))) }
 {
     match initials(&program.modules, program.tables, count) {
         Ok(inner) => body(&program.main, program.tables, inner),
@@ -50,8 +54,11 @@ fn main_code(program: &Program, count: u32) -> Result<u32, CountFault>
 
 /// Those that stand before main's code: the bodies, and the `SCAN` of each resource.
 fn before_main(program: &Program) -> Result<u32, CountFault>
-    ensures value { IfOk result (λ total. total ≡ sizes.bodies_size program.now.tables.scopes.now (blocks_view program.now.tables program.now.blocks.items) + length program.now.resource_ends.items) }
-    ensures large { IfErr result (λ f. f ≡ TooLarge → 200000 < sizes.bodies_size program.now.tables.scopes.now (blocks_view program.now.tables program.now.blocks.items) + length program.now.resource_ends.items) }
+    ensures value { IfOk result (λ total. total ≡ sizes.bodies_size program.now.tables.scopes.now (blocks_view program.now.tables program.now.blocks.items) +
+        length program.now.resource_ends.items) }
+    ensures large { IfErr result (λ f. f ≡ TooLarge →
+        200000 < sizes.bodies_size program.now.tables.scopes.now (blocks_view program.now.tables program.now.blocks.items) +
+        length program.now.resource_ends.items) }
 {
     let outer = bodies(&program.blocks, program.tables, 0)?;
     Ok(more(outer, program.resource_ends.len() as u64)?)

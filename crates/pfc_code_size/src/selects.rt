@@ -32,8 +32,10 @@ fn alternative(
     env: Env,
     count: u32,
 ) -> Result<u32, Full>
-    ensures value { IfOk result (λ total. total ≡ count + sizes.spread_size (env_view env.entry) spread.now (sizes.guarded_size env.entry.scopes.now (env_view env.entry) (option_map expr_view guard.now) (comm_view comm.now))) }
-    ensures large { OnErr result (200000 < count + sizes.spread_size (env_view env.entry) spread.now (sizes.guarded_size env.entry.scopes.now (env_view env.entry) (option_map expr_view guard.now) (comm_view comm.now))) }
+    ensures value { IfOk result (λ total. total ≡ count + sizes.spread_size (env_view env.entry) spread.now (sizes.guarded_size env.entry.scopes.now
+        (env_view env.entry) (option_map expr_view guard.now) (comm_view comm.now))) }
+    ensures large { OnErr result (200000 < count + sizes.spread_size (env_view env.entry) spread.now (sizes.guarded_size env.entry.scopes.now
+        (env_view env.entry) (option_map expr_view guard.now) (comm_view comm.now))) }
 {
     match spread {
         None => guarded(guard, comm, env, count),
@@ -49,8 +51,10 @@ fn replicated(
     env: Env,
     count: u32,
 ) -> Result<u32, Full>
-    ensures value { IfOk result (λ total. total ≡ count + values * (3 + sizes.guarded_size env.entry.scopes.now (env_view env.entry) (option_map expr_view guard.now) (comm_view comm.now))) }
-    ensures large { OnErr result (200000 < count + values * (3 + sizes.guarded_size env.entry.scopes.now (env_view env.entry) (option_map expr_view guard.now) (comm_view comm.now))) }
+    ensures value { IfOk result (λ total. total ≡ count + values * (3 + sizes.guarded_size env.entry.scopes.now (env_view env.entry)
+        (option_map expr_view guard.now) (comm_view comm.now))) }
+    ensures large { OnErr result (200000 < count + values * (3 + sizes.guarded_size env.entry.scopes.now (env_view env.entry)
+        (option_map expr_view guard.now) (comm_view comm.now))) }
 {
     if values == 0 {
         return Ok(count);
@@ -60,8 +64,10 @@ fn replicated(
 
 /// With the guard of an alternative and what it waits for.
 fn guarded(guard: &Option<Expr>, comm: &Comm, env: Env, count: u32) -> Result<u32, Full>
-    ensures value { IfOk result (λ total. total ≡ count + sizes.guarded_size env.entry.scopes.now (env_view env.entry) (option_map expr_view guard.now) (comm_view comm.now)) }
-    ensures large { OnErr result (200000 < count + sizes.guarded_size env.entry.scopes.now (env_view env.entry) (option_map expr_view guard.now) (comm_view comm.now)) }
+    ensures value { IfOk result (λ total. total ≡ count + sizes.guarded_size env.entry.scopes.now (env_view env.entry)
+        (option_map expr_view guard.now) (comm_view comm.now)) }
+    ensures large { OnErr result (200000 < count + sizes.guarded_size env.entry.scopes.now (env_view env.entry)
+        (option_map expr_view guard.now) (comm_view comm.now)) }
 {
     match guard {
         Some(test) => wait_for(comm, env, one(expr(test, env, count)?)?),

@@ -59,7 +59,8 @@ fn following(next: u32) -> Result<u32, Memory>
 fn stmt(s: &Stmt, env: Env, from: Reached) -> Result<Reached, CountFault>
     ensures count { IfOk result (λ r. r.count ≡ from.count + sizes.stmt_size env.entry.scopes.now (env_view env.entry) from.next (stmt_view s.now)) }
     ensures next { IfOk result (λ r. r.next ≡ from.next + rules.scopes_in (stmt_view s.now)) }
-    ensures large { IfErr result (λ f. f ≡ TooLarge → 200000 < from.count + sizes.stmt_size env.entry.scopes.now (env_view env.entry) from.next (stmt_view s.now)) }
+    ensures large { IfErr result (λ f. f ≡ TooLarge →
+        200000 < from.count + sizes.stmt_size env.entry.scopes.now (env_view env.entry) from.next (stmt_view s.now)) }
 {
     match s {
         Stmt::Empty | Stmt::Null(_) => Ok(from),
@@ -114,9 +115,11 @@ fn test(e: &Expr, env: Env, from: Reached) -> Result<Reached, CountFault>
 
 /// With what stands before the arms of a `case`: a test for each label, and the fault behind them.
 fn tests(e: &Expr, all: &[CaseArm], env: Env, from: Reached) -> Result<Reached, CountFault>
-    ensures count { IfOk result (λ r. r.count ≡ from.count + (expr_size env.entry.scopes.now (env_view env.entry) (expr_view e.now) + (sizes.label_count (arms_view all.now) + 1))) }
+    ensures count { IfOk result (λ r. r.count ≡ from.count + (expr_size env.entry.scopes.now (env_view env.entry) (expr_view e.now) +
+        (sizes.label_count (arms_view all.now) + 1))) }
     ensures next { IfOk result (λ r. r.next ≡ from.next) }
-    ensures large { IfErr result (λ f. f ≡ TooLarge → 200000 < from.count + (expr_size env.entry.scopes.now (env_view env.entry) (expr_view e.now) + (sizes.label_count (arms_view all.now) + 1))) }
+    ensures large { IfErr result (λ f. f ≡ TooLarge →
+        200000 < from.count + (expr_size env.entry.scopes.now (env_view env.entry) (expr_view e.now) + (sizes.label_count (arms_view all.now) + 1))) }
 {
     let value = expr(e, env, from.count)?;
     Ok(from.at(one(labels(all, value)?)?))
@@ -138,7 +141,8 @@ fn labels(all: &[CaseArm], count: u32) -> Result<u32, Full>
 fn turned(until: &Option<Expr>, env: Env, from: Reached) -> Result<Reached, CountFault>
     ensures count { IfOk result (λ r. r.count ≡ from.count + sizes.until_size env.entry.scopes.now (env_view env.entry) (option_map expr_view until.now)) }
     ensures next { IfOk result (λ r. r.next ≡ from.next) }
-    ensures large { IfErr result (λ f. f ≡ TooLarge → 200000 < from.count + sizes.until_size env.entry.scopes.now (env_view env.entry) (option_map expr_view until.now)) }
+    ensures large { IfErr result (λ f. f ≡ TooLarge →
+        200000 < from.count + sizes.until_size env.entry.scopes.now (env_view env.entry) (option_map expr_view until.now)) }
 {
     let count = match until {
         Some(e) => more(expr(e, env, from.count)?, 3)?,
@@ -149,9 +153,15 @@ fn turned(until: &Option<Expr>, env: Env, from: Reached) -> Result<Reached, Coun
 
 /// With what stands before the statement of a `for`: the variable, the range, and the two instructions that begin it.
 fn range(a: &Expr, b: &Expr, env: Env, from: Reached) -> Result<Reached, CountFault>
-    ensures count { IfOk result (λ r. r.count ≡ from.count + (1 + (expr_size env.entry.scopes.now (env_view env.entry) (expr_view a.now) + (expr_size env.entry.scopes.now (env_view env.entry) (expr_view b.now) + 2)))) }
+    ensures count { IfOk result
+        (λ r. r.count ≡ from.count +
+        (1 + (expr_size env.entry.scopes.now (env_view env.entry) (expr_view a.now) +
+        (expr_size env.entry.scopes.now (env_view env.entry) (expr_view b.now) + 2)))) }
     ensures next { IfOk result (λ r. r.next ≡ from.next) }
-    ensures large { IfErr result (λ f. f ≡ TooLarge → 200000 < from.count + (1 + (expr_size env.entry.scopes.now (env_view env.entry) (expr_view a.now) + (expr_size env.entry.scopes.now (env_view env.entry) (expr_view b.now) + 2)))) }
+    ensures large { IfErr result (λ f. f ≡ TooLarge →
+        200000 < from.count +
+        (1 + (expr_size env.entry.scopes.now (env_view env.entry) (expr_view a.now) +
+        (expr_size env.entry.scopes.now (env_view env.entry) (expr_view b.now) + 2)))) }
 {
     let low = expr(a, env, one(from.count)?)?;
     Ok(from.at(more(expr(b, env, low)?, 2)?))
@@ -161,7 +171,8 @@ fn range(a: &Expr, b: &Expr, env: Env, from: Reached) -> Result<Reached, CountFa
 fn decision(alts: &[Alt], env: Env, from: Reached) -> Result<Reached, CountFault>
     ensures count { IfOk result (λ r. r.count ≡ from.count + (sizes.alternatives_size env.entry.scopes.now (env_view env.entry) (alts_view alts.now) + 1)) }
     ensures next { IfOk result (λ r. r.next ≡ from.next) }
-    ensures large { IfErr result (λ f. f ≡ TooLarge → 200000 < from.count + (sizes.alternatives_size env.entry.scopes.now (env_view env.entry) (alts_view alts.now) + 1)) }
+    ensures large { IfErr result (λ f. f ≡ TooLarge →
+        200000 < from.count + (sizes.alternatives_size env.entry.scopes.now (env_view env.entry) (alts_view alts.now) + 1)) }
 {
     Ok(from.at(one(alternatives(alts, env, from.count)?)?))
 }
@@ -171,7 +182,8 @@ fn decision(alts: &[Alt], env: Env, from: Reached) -> Result<Reached, CountFault
 pub(crate) fn stmts(ss: &[Stmt], env: Env, from: Reached) -> Result<Reached, CountFault>
     ensures count { IfOk result (λ r. r.count ≡ from.count + sizes.stmts_size env.entry.scopes.now (env_view env.entry) from.next (stmts_view ss.now)) }
     ensures next { IfOk result (λ r. r.next ≡ from.next + rules.stmts_scopes (stmts_view ss.now)) }
-    ensures large { IfErr result (λ f. f ≡ TooLarge → 200000 < from.count + sizes.stmts_size env.entry.scopes.now (env_view env.entry) from.next (stmts_view ss.now)) }
+    ensures large { IfErr result (λ f. f ≡ TooLarge →
+        200000 < from.count + sizes.stmts_size env.entry.scopes.now (env_view env.entry) from.next (stmts_view ss.now)) }
 {
     let mut reached = from;
     for s in ss {
@@ -185,7 +197,8 @@ pub(crate) fn stmts(ss: &[Stmt], env: Env, from: Reached) -> Result<Reached, Cou
 fn arms(all: &[CaseArm], env: Env, from: Reached) -> Result<Reached, CountFault>
     ensures count { IfOk result (λ r. r.count ≡ from.count + sizes.arms_size env.entry.scopes.now (env_view env.entry) from.next (arms_view all.now)) }
     ensures next { IfOk result (λ r. r.next ≡ from.next + rules.arms_scopes (arms_view all.now)) }
-    ensures large { IfErr result (λ f. f ≡ TooLarge → 200000 < from.count + sizes.arms_size env.entry.scopes.now (env_view env.entry) from.next (arms_view all.now)) }
+    ensures large { IfErr result (λ f. f ≡ TooLarge →
+        200000 < from.count + sizes.arms_size env.entry.scopes.now (env_view env.entry) from.next (arms_view all.now)) }
 {
     let mut reached = from;
     for a in all {
@@ -199,7 +212,8 @@ fn arms(all: &[CaseArm], env: Env, from: Reached) -> Result<Reached, CountFault>
 fn accept(a: &Accept, env: Env, from: Reached) -> Result<Reached, CountFault>
     ensures count { IfOk result (λ r. r.count ≡ from.count + sizes.accepted_size env.entry.scopes.now (env_view env.entry) from.next (accept_view a.now)) }
     ensures next { IfOk result (λ r. r.next ≡ from.next + rules.accept_scopes (accept_view a.now)) }
-    ensures large { IfErr result (λ f. f ≡ TooLarge → 200000 < from.count + sizes.accepted_size env.entry.scopes.now (env_view env.entry) from.next (accept_view a.now)) }
+    ensures large { IfErr result (λ f. f ≡ TooLarge →
+        200000 < from.count + sizes.accepted_size env.entry.scopes.now (env_view env.entry) from.next (accept_view a.now)) }
 {
     let inner = Reached {
         count: from.count,
@@ -226,9 +240,15 @@ fn accepted<'a>(
     env: Env<'a>,
     from: Reached,
 ) -> Result<Reached, CountFault>
-    ensures count { IfOk result (λ r. r.count ≡ from.count + sizes.stmt_size env.entry.scopes.now (record (env_view env.entry) { view = levels view.now }) from.next (stmt_view s.now)) }
+    ensures count { IfOk result (λ r. r.count ≡ from.count + sizes.stmt_size env.entry.scopes.now (record (env_view env.entry) {
+      view =
+          levels view.now;
+    }) from.next (stmt_view s.now)) }
     ensures next { IfOk result (λ r. r.next ≡ from.next + rules.scopes_in (stmt_view s.now)) }
-    ensures large { IfErr result (λ f. f ≡ TooLarge → 200000 < from.count + sizes.stmt_size env.entry.scopes.now (record (env_view env.entry) { view = levels view.now }) from.next (stmt_view s.now)) }
+    ensures large { IfErr result (λ f. f ≡ TooLarge → 200000 < from.count + sizes.stmt_size env.entry.scopes.now (record (env_view env.entry) {
+      view =
+          levels view.now;
+    }) from.next (stmt_view s.now)) }
 {
     stmt(s, Env { view, ..env }, from)
 }
@@ -238,7 +258,8 @@ fn accepted<'a>(
 fn branches(alts: &[Alt], env: Env, from: Reached) -> Result<Reached, CountFault>
     ensures count { IfOk result (λ r. r.count ≡ from.count + sizes.branches_size env.entry.scopes.now (env_view env.entry) from.next (alts_view alts.now)) }
     ensures next { IfOk result (λ r. r.next ≡ from.next + rules.alts_scopes (alts_view alts.now)) }
-    ensures large { IfErr result (λ f. f ≡ TooLarge → 200000 < from.count + sizes.branches_size env.entry.scopes.now (env_view env.entry) from.next (alts_view alts.now)) }
+    ensures large { IfErr result (λ f. f ≡ TooLarge →
+        200000 < from.count + sizes.branches_size env.entry.scopes.now (env_view env.entry) from.next (alts_view alts.now)) }
 {
     let mut reached = from;
     for a in alts {
@@ -252,7 +273,8 @@ fn branches(alts: &[Alt], env: Env, from: Reached) -> Result<Reached, CountFault
 fn branch(a: &Alt, env: Env, from: Reached) -> Result<Reached, CountFault>
     ensures count { IfOk result (λ r. r.count ≡ from.count + sizes.branch_size env.entry.scopes.now (env_view env.entry) from.next (alt_view a.now)) }
     ensures next { IfOk result (λ r. r.next ≡ from.next + rules.alt_scopes (alt_view a.now)) }
-    ensures large { IfErr result (λ f. f ≡ TooLarge → 200000 < from.count + sizes.branch_size env.entry.scopes.now (env_view env.entry) from.next (alt_view a.now)) }
+    ensures large { IfErr result (λ f. f ≡ TooLarge →
+        200000 < from.count + sizes.branch_size env.entry.scopes.now (env_view env.entry) from.next (alt_view a.now)) }
 {
     if is_terminate(&a.comm) {
         return Ok(Reached {
@@ -282,7 +304,8 @@ fn is_terminate(comm: &Comm) -> bool
 fn met(comm: &Comm, env: Env, from: Reached) -> Result<Reached, CountFault>
     ensures count { IfOk result (λ r. r.count ≡ from.count + sizes.met_size env.entry.scopes.now (env_view env.entry) from.next (comm_view comm.now)) }
     ensures next { IfOk result (λ r. r.next ≡ from.next + rules.comm_scopes (comm_view comm.now)) }
-    ensures large { IfErr result (λ f. f ≡ TooLarge → 200000 < from.count + sizes.met_size env.entry.scopes.now (env_view env.entry) from.next (comm_view comm.now)) }
+    ensures large { IfErr result (λ f. f ≡ TooLarge →
+        200000 < from.count + sizes.met_size env.entry.scopes.now (env_view env.entry) from.next (comm_view comm.now)) }
 {
     match comm {
         Comm::Accept(a, _) => jump(accept(a, env, from)?),

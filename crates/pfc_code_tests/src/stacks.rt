@@ -15,7 +15,17 @@ use std::alloc::Global;
 use std::test::Fail;
 
 fn main_block(alloc: Global) -> Result<Block, Memory>
-    ensures { IfOk result (λ b. record b { label = [] } ≡ record { label = []; entry = 0; body = 0; params = 0; cells = 6; operands = 8; level = 0; line = 1 }) }
+    ensures { IfOk result (λ b. record b { label = [] } ≡ record {
+      label = [];
+      entry = 0;
+      body = 0;
+      params = 0;
+      cells =
+          6;
+      operands = 8;
+      level = 0;
+      line = 1;
+    }) }
 {
     Ok(Block {
         label: Name::new(alloc, b"p")?,
@@ -32,7 +42,14 @@ fn main_block(alloc: Global) -> Result<Block, Memory>
 /// An image whose code is one instruction, at line 7.
 fn image_of(alloc: Global, instr: Instr) -> Result<Image, Memory>
     ensures code { IfOk result (λ image. image.code.items ≡ instr ∷ []) }
-    ensures start { IfOk result (λ image. start_stacks (plain_image image) ≡ record { at = 0; base = 0; cells = replicate 14 (pos 0); operands = []; room = 8 } ∷ []) }
+    ensures start { IfOk result (λ image. start_stacks (plain_image image) ≡ record {
+      at = 0;
+      base = 0;
+      cells =
+          replicate 14 (pos 0);
+      operands = [];
+      room = 8;
+    } ∷ []) }
     ensures few { IfOk result (λ image. length image.processes.items ≡ 1) }
     ensures lines { IfOk result (λ image. image.lines.items ≡ 7 ∷ []) }
 {

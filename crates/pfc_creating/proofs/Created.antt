@@ -123,7 +123,8 @@ in_first_is :
     → doing_ahead source.program.tables doing ≡ from_remainder (block_view source.program.tables held).env (body_of (block_view source.program.tables held))
     → display
     ≡ record { scope = held.scope; activation = number; first = 0 }
-    ∷ accept_frames source.program.tables.scopes.now number held.accepts held.next (length (laid_names (scope_at source.program.tables.scopes.now.scopes held.scope)))
+    ∷ accept_frames source.program.tables.scopes.now number held.accepts held.next
+    (length (laid_names (scope_at source.program.tables.scopes.now.scopes held.scope)))
     → activations_view source.program.tables first
     ≡ record { number = number; scope = held.scope; mark = plain; caller = of_nobody; display = []; cells = cells } ∷ []
     → record {
@@ -156,7 +157,8 @@ pub begins_so :
     → doing_ahead source.program.tables doing ≡ from_remainder (block_view source.program.tables held).env (body_of (block_view source.program.tables held))
     → display
     ≡ record { scope = held.scope; activation = number; first = 0 }
-    ∷ accept_frames source.program.tables.scopes.now number held.accepts held.next (length (laid_names (scope_at source.program.tables.scopes.now.scopes held.scope)))
+    ∷ accept_frames source.program.tables.scopes.now number held.accepts held.next
+    (length (laid_names (scope_at source.program.tables.scopes.now.scopes held.scope)))
     → activations_view source.program.tables first
     ≡ record { number = number; scope = held.scope; mark = plain; caller = of_nobody; display = []; cells = cells } ∷ []
     → values_view values ≡ values_in source.program.tables.types.now held.layout.items (map (passed_in (store_view s.store) found.display) (given_view args))
@@ -171,7 +173,8 @@ pub begins_so :
     → new ≡ record s { activities = new.activities; store = new.store; world = new.world } → new.activities.items ≡ set s.activities.items n y
     → store_view new.store ≡ with_room (store_view s.store) number (values_view values) → new.world ≡ placed s.world n Is_created
     → Begins source s new p n held args
-begins_so source s new p n held args number cells doing display first values found other y is other_found apart within has numbered ahead in_view living given shows new_is items store world g c a m program is_at =
+begins_so source s new p n held args number cells doing display first values found other y is other_found apart within has numbered ahead in_view living given
+    shows new_is items store world g c a m program is_at =
     let t : Tables = source.program.tables in
     let before : IsBefore source s c p a m = is_at.before in
     let block : Block = block_view t held in
@@ -257,7 +260,8 @@ creates_so source s mid new p n cells spot args held d numbered free found has f
     (subst (λ (b : Block). IsBefore source mid (created g c n b values) p a m) same (begins g c a m program is_at))
     is_at.quiet.acting is_at.quiet.sound
     (e
-    ∙ ap (λ (i : ℕ). creates_where g c p x k (is_unfinished (tables.at c.table.rows i)) i (process_block g i) (cells_above [] (process_block g i)) values) (sym here)
+    ∙ ap (λ (i : ℕ). creates_where g c p x k (is_unfinished (tables.at c.table.rows i)) i (process_block g i)
+    (cells_above [] (process_block g i)) values) (sym here)
     ∙ ap (λ (z : Bool). creates_where g c p x k z n block (cells_above [] block) values) idle
     ∙ ap (λ (i : ℕ). creates_where g c p x k false n block i values) counted ∙ fits)
     refl on_line (sym (append-nil c.output))

@@ -135,8 +135,15 @@ fn prepare<'t>(
     block: &Block<'t>,
     args: &[Argument],
 ) -> Result<Beginning, Memory>
-    ensures display { IfOk result (λ b. b.display ≡ record { scope = block.now.scope; activation = number; first = 0 } ∷ accept_frames tables.entry.scopes.now number block.now.accepts block.now.next (length (laid_names (scope_at tables.entry.scopes.now.scopes block.now.scope)))) }
-    ensures values { IfOk result (λ b. values_view b.values.items ≡ values_in tables.entry.types.now block.now.layout.items (map (passed_in (store_view store.now) display.now) (given_view args.now))) }
+    ensures display { IfOk result (λ b. b.display ≡ record {
+      scope = block.now.scope;
+      activation = number;
+      first =
+          0;
+    } ∷ accept_frames tables.entry.scopes.now number block.now.accepts block.now.next
+        (length (laid_names (scope_at tables.entry.scopes.now.scopes block.now.scope)))) }
+    ensures values { IfOk result (λ b. values_view b.values.items ≡ values_in tables.entry.types.now block.now.layout.items
+        (map (passed_in (store_view store.now) display.now) (given_view args.now))) }
 {
     let own = Frame {
         scope: block.scope,
@@ -157,7 +164,15 @@ fn first_activation<'t>(
     scope: u32,
     cells: u64,
 ) -> Result<Vec<Activation<'t>>, Memory>
-    ensures { IfOk result (λ first. (t : Finished) → activations_view t first.items ≡ record { number = number; scope = scope; mark = plain; caller = of_nobody; display = []; cells = cells } ∷ []) }
+    ensures { IfOk result (λ first. (t : Finished) → activations_view t first.items ≡ record {
+      number = number;
+      scope = scope;
+      mark = plain;
+      caller =
+          of_nobody;
+      display = [];
+      cells = cells;
+    } ∷ []) }
 {
     let mut first = Vec::new(alloc);
     first.push(Activation {
@@ -190,7 +205,14 @@ fn enter<'t>(
     display: Display,
     first: Vec<Activation<'t>>,
 )
-    ensures { (t : Finished) → activity_shown t activity.new ≡ record { next = doing_ahead t doing.entry; display = display; activations = activations_view t first.entry.items; hand = empty_hand; line = activity.old.line } }
+    ensures { (t : Finished) → activity_shown t activity.new ≡ record {
+      next = doing_ahead t doing.entry;
+      display = display;
+      activations =
+          activations_view t first.entry.items;
+      hand = empty_hand;
+      line = activity.old.line;
+    } }
 {
     activity.doing = doing;
     activity.display = display;

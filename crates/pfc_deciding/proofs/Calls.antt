@@ -43,7 +43,8 @@ use Rattle.pfc_deciding.specs.Matching.{takes_open_in}
 use Rattle.pfc_deciding.specs.Coming.{ComesTo}
 
 pub accepts_own :
-    (source : Source) (s new : State) (w : Table) (p caller : ℕ) (accepting : Accepting) (way : Behind) (gone : Onward) (n : ℕ) (own : Activity) (m : Meeting) (d : Done)
+    (source : Source) (s new : State) (w : Table) (p caller : ℕ) (accepting : Accepting) (way : Behind) (gone : Onward) (n : ℕ)
+    (own : Activity) (m : Meeting) (d : Done)
     → own ≡ get_or s.activities.items p own → gone ≡ record { kept = n; replica = way.replica; next = way.next; stmts = way.stmts }
     → n ≡ length own.doing.pending.items → IsMeetingAt source.program.tables own.doing.names accepting gone m → w ≡ taken s.world p caller
     → HasActed s.world w → IsTaken (record s { world = w }) new p caller m d → ComesTo source s new p (accepts_it accepting way caller p) d
@@ -59,11 +60,14 @@ accepts_own source s new w p caller accepting way gone n own m d own_is gone_is 
     let left : left_of t a n ≡ k = left_whole t n a.doing.pending.items (kept ∙ ap (λ (b : Activity). length b.doing.pending.items) same) in
     let effects : Ok (accepts_from g c1 p x (accepting_view accepting) (opened (to_accept (accepting_view accepting)) plain) caller (left_of t a plain.kept))
     ≡ Ok (accepts_from g c1 p x (accepting_view accepting) (opened (to_accept (accepting_view accepting)) gone) caller (left_of t a gone.kept))
-    = ap (λ (o : Onward). (let r : Effect = Ok (accepts_from g c1 p x (accepting_view accepting) (opened (to_accept (accepting_view accepting)) o) caller (left_of t a o.kept)) in r)) (sym gone_is) in
+    = ap (λ (o : Onward). (let r : Effect =
+    Ok (accepts_from g c1 p x (accepting_view accepting) (opened (to_accept (accepting_view accepting)) o) caller (left_of t a o.kept)) in r))
+    (sym gone_is) in
     takes source g c c1 choice a act accepting gone (to_accept (accepting_view accepting)) (other_table source s w table c p a act is_at acted table_is)
     (ap (λ (b : Table). b.acting) (sym table_is) ∙ acted.acting) is_at.quiet.sound
     (subst (λ (b : Activity). IsMeetingAt t b.doing.names accepting gone m) same at_meeting)
-    (e ∙ ap (λ (j : Remainder). (let r : Effect = Ok (accepts_from g c1 p x (accepting_view accepting) (accept_open accepting way) caller j) in r)) (sym left) ∙ effects) lines refl
+    (e ∙ ap (λ (j : Remainder). (let r : Effect = Ok (accepts_from g c1 p x (accepting_view accepting) (accept_open accepting way) caller j) in r)) (sym left) ∙
+    effects) lines refl
 
 -- what an action comes to in more room it comes to
 pub comes_in_room :
@@ -90,10 +94,13 @@ accepts_ok source s new p found m way (Ok d) accepting entry is arm way_is h =
     let here : Behind = record { replica = found.replica; next = found.next; stmts = found.stmts } in
     h g c choice a n program is_at
     (e
-    ∙ ap (λ (b : Arm). (let y : Effect = Ok (with_table (communicates_by g c p x (open_view found) k m.partner (offer_view found.offer) (Some b)) (communicated_with (Some m.partner) c.table p b)) in y)) arm
+    ∙ ap (λ (b : Arm). (let y : Effect =
+    Ok (with_table (communicates_by g c p x (open_view found) k m.partner (offer_view found.offer) (Some b))
+    (communicated_with (Some m.partner) c.table p b)) in y)) arm
     ∙ ap
     (λ (f : HeldOffer).
-    (let y : Effect = Ok (with_table (communicates_by g c p x (record (open_view found) { offer = offer_view f }) k m.partner (offer_view f) (Some (Entry entry))) (taken c.table p m.partner)) in y))
+    (let y : Effect = Ok (with_table (communicates_by g c p x (record (open_view found) { offer = offer_view f }) k m.partner (offer_view f)
+    (Some (Entry entry))) (taken c.table p m.partner)) in y))
     is
     ∙ ap (λ (w : Behind). accepts_it accepting w m.partner p g c x k) (sym way_is))
     lines

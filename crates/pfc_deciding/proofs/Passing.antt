@@ -50,13 +50,15 @@ own_way t g c p a b k f names left =
 -- ## `c ! e`
 
 pub sends_own :
-    (s mid under new : State) (p q channel : ℕ) (way : Behind) (v message : HeldValue) (into : Option HeldLocation) (other_way : Onward) (found : Activity) (d : Done)
+    (s mid under new : State) (p q channel : ℕ) (way : Behind) (v message : HeldValue) (into : Option HeldLocation)
+    (other_way : Onward) (found : Activity) (d : Done)
     → q ≢ p → IsRoomier s mid q → IsUnderWay mid under p way → q < length mid.activities.items → found ≡ get_or mid.activities.items q found
     → ((t : Tables) (g : Program) (c : Config) (q : ℕ) (v : Value) → c.store ≡ store_view mid.store → (activity_of g c q).display ≡ found.display
     → sent_to g c q v (side_held t (store_view mid.store) found (From channel)) ≡ doing_next g (delivered_into c into v) q (doing_onward t found other_way))
     → value_view message ≡ value_view v → IsPassed under new p q into message other_way d
     → (source : Source) → ComesTo source s new p (sends_it way p q channel v) d
-sends_own s mid under new p q channel way v message into other_way found d other roomier goes within is meets same passes source g c choice a n program is_at e lines =
+sends_own s mid under new p q channel way v message into other_way found d other roomier goes within is meets same passes
+    source g c choice a n program is_at e lines =
     let t : Tables = source.program.tables in
     let k : Remainder = left_behind way (remainder_of (pending_of t a.doing)) in
     let at_mid : IsAt source mid c p a n = roomier.same source c p a n other is_at in
@@ -75,7 +77,9 @@ sends_own s mid under new p q channel way v message into other_way found d other
     ∙ own_way t g c p a own.0 k (λ (y : Config). Ok (with_table (sent_to g y q (value_view v) (side_of g c q (From channel))) (placed c.table q Is_ready)))
     own.1.names own.1.left
     ∙ ap
-    (λ (w : Value). (let r : Effect = Ok (with_table (sent_to g (doing_next g c p (going (context_of t own.0.doing).env (remainder_of (pending_of t own.0.doing)))) q w (side_of g c q (From channel))) (placed c.table q Is_ready)) in r))
+    (λ (w : Value). (let r : Effect =
+    Ok (with_table (sent_to g (doing_next g c p (going (context_of t own.0.doing).env (remainder_of (pending_of t own.0.doing)))) q w
+    (side_of g c q (From channel))) (placed c.table q Is_ready)) in r))
     (sym same))
     (lines ∙ sym own.1.line)
 
@@ -87,11 +91,13 @@ pub receives_own :
     → q ≢ p → IsRoomier s mid q → IsUnderWay mid under p way → q < length mid.activities.items → found ≡ get_or mid.activities.items q found
     → acting ≡ get_or mid.activities.items p acting
     → ((t : Tables) (g : Program) (c : Config) (p q : ℕ) (target : Option Spot)
-    → received_from g c p target q (side_held t (store_view mid.store) found (To channel)) ≡ doing_next g (delivered g c p target (value_view v)) q (doing_onward t found other_way))
+    → received_from g c p target q (side_held t (store_view mid.store) found (To channel)) ≡ doing_next g
+    (delivered g c p target (value_view v)) q (doing_onward t found other_way))
     → option_map location_view into ≡ option_map (λ s. located (store_view mid.store) acting.display (spot_view s)) target
     → IsPassed under new p q into v other_way d
     → (source : Source) → ComesTo source s new p (receives_it way p q channel target) d
-receives_own s mid under new p q channel way target v into other_way found acting d other roomier goes within is acting_is meets place passes source g c choice a n program is_at e lines =
+receives_own s mid under new p q channel way target v into other_way found acting d other roomier goes within is acting_is meets place passes
+    source g c choice a n program is_at e lines =
     let t : Tables = source.program.tables in
     let k : Remainder = left_behind way (remainder_of (pending_of t a.doing)) in
     let at_mid : IsAt source mid c p a n = roomier.same source c p a n other is_at in
@@ -106,7 +112,8 @@ receives_own s mid under new p q channel way target v into other_way found actin
     (sym (own.1.at.before.there.is own.0))
     (subst
     (λ (st : Store). ((t : Tables) (g : Program) (c : Config) (p q : ℕ) (target : Option Spot)
-    → received_from g c p target q (side_held t st found (To channel)) ≡ doing_next g (delivered g c p target (value_view v)) q (doing_onward t found other_way)))
+    → received_from g c p target q (side_held t st found (To channel)) ≡ doing_next g
+    (delivered g c p target (value_view v)) q (doing_onward t found other_way)))
     store meets)
     (place ∙ ap (λ (st : Store). option_map (λ s. located st acting.display (spot_view s)) target) store
     ∙ ap (λ (ds : Display). option_map (λ s. located (store_view under.store) ds (spot_view s)) target) display)

@@ -47,14 +47,16 @@ use Rattle.pfc_deciding.specs.Matching.{AreArms, IsMatched, takes_open_in, takes
 
 -- the walk stands at the k-th where no matched alternative is left before it
 pub matched_here : (rows : List Stand) (p place : ℕ) (arms : List Arm) (d : Arm) (left k q : ℕ) → place < length arms
-    → slice_get (matched_from place rows p (drop place arms)) left ≡ slice_get (matched rows p arms) k → left ≡ 0 → partner rows p (get_or arms place d) ≡ Some q
+    → slice_get (matched_from place rows p (drop place arms)) left ≡ slice_get (matched rows p arms) k → left ≡ 0 →
+    partner rows p (get_or arms place d) ≡ Some q
     → IsMatched rows p arms k (record { place = place; arm = get_or arms place d; partner = q })
 matched_here rows p place arms d left k q lt h zero_left meets =
     record {
       kth = sym h
           ∙ ap (λ n. slice_get (matched_from place rows p (drop place arms)) n) zero_left
           ∙ ap (λ rest. slice_get (matched_from place rows p rest) 0) (drop-cons arms place d lt)
-          ∙ ap (λ (o : Option ℕ). slice_get (cond (is_some o) (place ∷ matched_from (place + 1) rows p (drop (suc place) arms)) (matched_from (place + 1) rows p (drop (suc place) arms))) 0) meets;
+          ∙ ap (λ (o : Option ℕ). slice_get (cond (is_some o) (place ∷ matched_from (place + 1) rows p (drop (suc place) arms))
+          (matched_from (place + 1) rows p (drop (suc place) arms))) 0) meets;
       own = slice_get-get_or arms place d lt;
       meets = meets;
     }
@@ -105,7 +107,8 @@ arm_head :
     (store : Store) (display : Display) (x : remainders.Open) (f : remainders.Offer) (os : List remainders.Open) (i : ℕ) (arm : Arm) (o : remainders.Open)
     → ((j : ℕ) → slice_get (arms_in store display os) j ≡ Some arm → slice_get (communications os) j ≡ Some o → arm_in store display o.offer ≡ Some arm)
     → slice_get (listed_arm (arm_in store display f) (arms_in store display os)) i ≡ Some arm
-    → slice_get (if is_communication f then record x { offer = f } ∷ communications os else communications os) i ≡ Some o → arm_in store display o.offer ≡ Some arm
+    → slice_get (if is_communication f then record x { offer = f } ∷ communications os else communications os) i ≡ Some o →
+    arm_in store display o.offer ≡ Some arm
 arm_head store display x (to_send ch v) os zero arm o rest h e =
     let same : record x { offer = to_send ch v } ≡ o = cc in ap (λ (y : remainders.Open). arm_in store display y.offer) (sym same) ∙ h
 arm_head store display x (to_receive ch v) os zero arm o rest h e =
@@ -163,7 +166,8 @@ takes_so source s new p select arms place found m d are is at_place comes g c ch
 -- ## What it communicates
 
 pub sends_ok :
-    (source : Source) (s new : State) (p : ℕ) (found : Open) (m : Matched) (way : Behind) (r : Result Done Memory) (spot : HeldSpot) (v : HeldValue) (channel : ℕ)
+    (source : Source) (s new : State) (p : ℕ) (found : Open) (m : Matched) (way : Behind) (r : Result Done Memory)
+    (spot : HeldSpot) (v : HeldValue) (channel : ℕ)
     → found.offer ≡ offer.Send spot v → m.arm ≡ To channel
     → way ≡ record { replica = found.replica; next = found.next; stmts = found.stmts }
     → IfOk r (λ d. (source : Source) → ComesTo source s new p (sends_it way p m.partner channel v) d)
@@ -174,14 +178,18 @@ sends_ok source s new p found m way (Ok d) spot v channel is arm way_is h =
     let k : Remainder = remainder_of (pending_of source.program.tables a.doing) in
     h source g c choice a n program is_at
     (e
-    ∙ ap (λ (f : HeldOffer). (let y : Effect = Ok (with_table (communicates_by g c p x (open_view found) k m.partner (offer_view f) (Some m.arm)) (communicated_with (Some m.partner) c.table p m.arm)) in y)) is
-    ∙ ap (λ (b : Arm). (let y : Effect = Ok (with_table (communicates_by g c p x (open_view found) k m.partner (offer_view (offer.Send spot v)) (Some b)) (communicated_with (Some m.partner) c.table p b)) in y)) arm
+    ∙ ap (λ (f : HeldOffer). (let y : Effect =
+    Ok (with_table (communicates_by g c p x (open_view found) k m.partner (offer_view f) (Some m.arm))
+    (communicated_with (Some m.partner) c.table p m.arm)) in y)) is
+    ∙ ap (λ (b : Arm). (let y : Effect = Ok (with_table (communicates_by g c p x (open_view found) k m.partner (offer_view (offer.Send spot v)) (Some b))
+    (communicated_with (Some m.partner) c.table p b)) in y)) arm
     ∙ ap (λ (w : Behind). sends_it w p m.partner channel v g c x k) (sym way_is))
     lines
 sends_ok source s new p found m way (Err given) spot v channel is arm way_is h = h
 
 pub receives_ok :
-    (source : Source) (s new : State) (p : ℕ) (found : Open) (m : Matched) (way : Behind) (r : Result Done Memory) (spot : HeldSpot) (target : Option HeldSpot) (channel : ℕ)
+    (source : Source) (s new : State) (p : ℕ) (found : Open) (m : Matched) (way : Behind) (r : Result Done Memory) (spot : HeldSpot)
+    (target : Option HeldSpot) (channel : ℕ)
     → found.offer ≡ offer.Receive spot target → m.arm ≡ From channel
     → way ≡ record { replica = found.replica; next = found.next; stmts = found.stmts }
     → IfOk r (λ d. (source : Source) → ComesTo source s new p (receives_it way p m.partner channel target) d)
@@ -192,8 +200,12 @@ receives_ok source s new p found m way (Ok d) spot target channel is arm way_is 
     let k : Remainder = remainder_of (pending_of source.program.tables a.doing) in
     h source g c choice a n program is_at
     (e
-    ∙ ap (λ (f : HeldOffer). (let y : Effect = Ok (with_table (communicates_by g c p x (open_view found) k m.partner (offer_view f) (Some m.arm)) (communicated_with (Some m.partner) c.table p m.arm)) in y)) is
-    ∙ ap (λ (b : Arm). (let y : Effect = Ok (with_table (communicates_by g c p x (open_view found) k m.partner (offer_view (offer.Receive spot target)) (Some b)) (communicated_with (Some m.partner) c.table p b)) in y)) arm
+    ∙ ap (λ (f : HeldOffer). (let y : Effect =
+    Ok (with_table (communicates_by g c p x (open_view found) k m.partner (offer_view f) (Some m.arm))
+    (communicated_with (Some m.partner) c.table p m.arm)) in y)) is
+    ∙ ap (λ (b : Arm). (let y : Effect =
+    Ok (with_table (communicates_by g c p x (open_view found) k m.partner (offer_view (offer.Receive spot target)) (Some b))
+    (communicated_with (Some m.partner) c.table p b)) in y)) arm
     ∙ ap (λ (w : Behind). receives_it w p m.partner channel target g c x k) (sym way_is))
     lines
 receives_ok source s new p found m way (Err given) spot target channel is arm way_is h = h

@@ -51,7 +51,8 @@ use Rattle.pfc_deciding.proofs.Taking.{arms_here}
 -- ## The process waits with all that is open
 
 pub shows_all :
-    (s mid new : State) (p : ℕ) (opens : List Open) (arms : List Arm) (kept : ℕ) (due : Option ℕ) (terminate : Bool) (items : List Activity) (found z : Activity)
+    (s mid new : State) (p : ℕ) (opens : List Open) (arms : List Arm) (kept : ℕ) (due : Option ℕ) (terminate : Bool)
+    (items : List Activity) (found z : Activity)
     (line r : ℕ)
     → found ≡ get_or s.activities.items p found → ((t : Tables) → activity_shown t z ≡ offers_all t found opens kept)
     → ((y : Activity) → IsIn s.activities.items p y → line ≡ y.doing.line)
@@ -60,7 +61,8 @@ pub shows_all :
     → mid.world ≡ select_waited (begun s.world p) r arms due terminate → items ≡ set s.activities.items p z
     → ((y : Activity) → IsIn items p y → new.activities.items ≡ set items p (at_line y line))
     → IsKept mid new → new.world ≡ ticked mid.world → IsNew new.world.rows new.world.done → ShowsAll s new p opens arms kept due Stepped
-shows_all s mid new p opens arms kept due terminate items found z line r is shows of_line same_process ends mid_is store world first last held ticks fresh source g c choice a n is_at e lines =
+shows_all s mid new p opens arms kept due terminate items found z line r is shows of_line same_process ends mid_is store world first last held ticks
+    fresh source g c choice a n is_at e lines =
     let t : Tables = source.program.tables in
     let before : IsBefore source s c p a n = is_at.before in
     let table : Table = select_waited c.table p arms due (may_terminate_at (opens_view opens)) in
@@ -70,7 +72,8 @@ shows_all s mid new p opens arms kept due terminate items found z line r is show
     ∙ ap (λ (b : Bool). select_waited s.world p arms due b) ends
     ∙ ap (λ (w : Table). select_waited w p arms due (may_terminate_at (opens_view opens))) before.agrees.table in
     shown_so source g s mid new c p choice a z n table hand items line is_at
-    (shows t ∙ ap (λ (b : Activity). offers_all t b opens kept) (is ∙ before.there.is found)) e (lines ∙ sym (of_line a before.there)) mid_is store in_table refl
+    (shows t ∙ ap (λ (b : Activity). offers_all t b opens kept) (is ∙ before.there.is found)) e (lines ∙
+    sym (of_line a before.there)) mid_is store in_table refl
     (length-set c.table.rows p (Waits (Select due (may_terminate_at (opens_view opens))) (c.table.done + 1) arms)) first
     (last z (subst (λ (l : List Activity). IsIn l p z) (sym first) (now_in s.activities.items p a z before.there))) held ticks fresh
 
@@ -87,7 +90,8 @@ pub closes_so :
 closes_so s new p select d none fault source g c choice a n program is_at e lines =
     fault source g c choice a n is_at
     (e ∙ ap
-    (λ (l : List Open). waits_or_closed g c p (context_of source.program.tables a.doing) (select_view select) (remainder_of (pending_of source.program.tables a.doing)) None (opens_view l))
+    (λ (l : List Open). waits_or_closed g c p (context_of source.program.tables a.doing) (select_view select)
+    (remainder_of (pending_of source.program.tables a.doing)) None (opens_view l))
     none)
     lines
 
@@ -103,9 +107,12 @@ waits_so s new p select arms kept d some are all shows source g c choice a n pro
     let os : List remainders.Open = opens_view select.offered.items in
     shows source g c choice a n is_at
     (e ∙ no_open g c p x (select_view select) k select.offered.items some
-    ∙ ap (λ (l : List Arm). (let r : Effect = Ok (with_table (showing g (goes_on g c p x k) p (offering x os k)) (select_waited c.table p l None (may_terminate_at os))) in r))
+    ∙ ap (λ (l : List Arm). (let r : Effect =
+    Ok (with_table (showing g (goes_on g c p x k) p (offering x os k)) (select_waited c.table p l None (may_terminate_at os))) in r))
     (arms_here source g s c p a n select.offered.items arms is_at are)
-    ∙ ap (λ (l : List Pending). (let r : Effect = Ok (with_table (showing g (goes_on g c p x k) p (offering x os (remainder_of (waiting t l)))) (select_waited c.table p arms None (may_terminate_at os))) in r))
+    ∙ ap (λ (l : List Pending). (let r : Effect =
+    Ok (with_table (showing g (goes_on g c p x k) p (offering x os (remainder_of (waiting t l))))
+    (select_waited c.table p arms None (may_terminate_at os))) in r))
     (sym (all a is_at.before.there)))
     lines
 
@@ -159,11 +166,15 @@ waits_for_so s mid new p select arms kept seconds due way d are many found goes 
     (e
     ∙ is_due (nat_le moment latest) moment due (λ j. Ok (waits_until g c p x (select_view select) k (Some j) (left_behind way k))) stop
     (found ∙ ap (λ (w : Table). due_at w.moment seconds) is_at.before.agrees.table)
-    ∙ ap (λ (l : List Arm). (let r : Effect = Ok (with_table (showing g (goes_on g c p x (left_behind way k)) p (offering x os k)) (select_waited c.table p l (Some due) end)) in r))
+    ∙ ap (λ (l : List Arm). (let r : Effect =
+    Ok (with_table (showing g (goes_on g c p x (left_behind way k)) p (offering x os k)) (select_waited c.table p l (Some due) end)) in r))
     (arms_here source g s c p a n select.offered.items arms is_at are)
-    ∙ ap (λ (l : Remainder). (let r : Effect = Ok (with_table (showing g (goes_on g c p x l) p (offering x os k)) (select_waited c.table p arms (Some due) end)) in r)) (sym own.1.left)
-    ∙ ap (λ (l : Remainder). (let r : Effect = Ok (with_table (showing g (goes_on g c p x later) p (offering x os l)) (select_waited c.table p arms (Some due) end)) in r)) below
-    ∙ ap (λ (z : Context). (let r : Effect = Ok (with_table (showing g (goes_on g c p z later) p (offering z os (left_of t b kept))) (select_waited c.table p arms (Some due) end)) in r)) same)
+    ∙ ap (λ (l : Remainder). (let r : Effect =
+    Ok (with_table (showing g (goes_on g c p x l) p (offering x os k)) (select_waited c.table p arms (Some due) end)) in r)) (sym own.1.left)
+    ∙ ap (λ (l : Remainder). (let r : Effect =
+    Ok (with_table (showing g (goes_on g c p x later) p (offering x os l)) (select_waited c.table p arms (Some due) end)) in r)) below
+    ∙ ap (λ (z : Context). (let r : Effect =
+    Ok (with_table (showing g (goes_on g c p z later) p (offering z os (left_of t b kept))) (select_waited c.table p arms (Some due) end)) in r)) same)
     (lines ∙ sym own.1.line)
 
 -- ## The steps one after the other
@@ -206,7 +217,8 @@ pub timeout_later :
     (s new : State) (p : ℕ) (select : Selecting) (delay : Delay) (way : Behind) (d : Done)
     → open_timeout (opens_view select.offered.items) ≡ Some (delay_view delay) → delay.seconds ≢ 0
     → way ≡ record { replica = delay.at.now.replica; next = delay.at.now.next; stmts = delay.at.now.stmts }
-    → ((source : Source) → ComesTo source s new p (waits_for_in select delay.seconds way p) d) → (source : Source) → ComesTo source s new p (times_out_in select p) d
+    → ((source : Source) → ComesTo source s new p (waits_for_in select delay.seconds way p) d) → (source : Source) →
+    ComesTo source s new p (times_out_in select p) d
 timeout_later s new p select delay way d some seconds way_is comes source =
     let now : Behind = record { replica = delay.at.now.replica; next = delay.at.now.next; stmts = delay.at.now.stmts } in
     comes_as source s new p (waits_for_in select delay.seconds way p) (times_out_in select p) d

@@ -153,13 +153,15 @@ goes_so s mid new p way d under goes source g c choice a n program is_at e lines
     goes source g c c choice found.0 n (going x.env k) [] found.1.at e (going_is t a found.0 k found.1.names found.1.left) (lines ∙ sym found.1.line)
     (sym (append-nil c.output))
 
-pub room_under : (s mid : State) (p q : ℕ) (way : Behind) (b : Activity) → IsUnderWay s mid p way → q ≢ p → IsIn s.activities.items q b → HasRoomAt s.activities.items q → HasRoomAt mid.activities.items q
+pub room_under : (s mid : State) (p q : ℕ) (way : Behind) (b : Activity) → IsUnderWay s mid p way → q ≢ p → IsIn s.activities.items q b →
+    HasRoomAt s.activities.items q → HasRoomAt mid.activities.items q
 room_under s mid p q way b under other there room d =
     subst (λ (x : Activity). HasRoom x 2) (there.is d ∙ sym ((under.others q b other there).is d)) (room d)
 
 -- a process waits still
 pub waits_under :
-    (s mid under : State) (p q : ℕ) (way : Behind) → IsRoomier s mid q → IsUnderWay mid under p way → IsWaiting (at s.world.rows q) → IsWaiting (at under.world.rows q)
+    (s mid under : State) (p q : ℕ) (way : Behind) → IsRoomier s mid q → IsUnderWay mid under p way →
+    IsWaiting (at s.world.rows q) → IsWaiting (at under.world.rows q)
 waits_under s mid under p q way roomier goes waits =
     subst (λ (w : Table). IsWaiting (at w.rows q)) (sym (ap (λ (x : State). x.world) goes.alike.rest ∙ roomier.world)) waits
 

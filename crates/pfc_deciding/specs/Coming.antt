@@ -89,4 +89,5 @@ sends_it way p q channel v g c x k =
 -- it comes from process q
 abbrev pub receives_it : Behind → ℕ → ℕ → ℕ → Option HeldSpot → Program → Config → Context → Remainder → Effect
 receives_it way p q channel target g c x k =
-    Ok (with_table (received_from g (goes_on g c p x (left_behind way k)) p (option_map spot_view target) q (side_of g c q (To channel))) (placed c.table q Is_ready))
+    Ok (with_table (received_from g (goes_on g c p x (left_behind way k)) p (option_map spot_view target) q
+    (side_of g c q (To channel))) (placed c.table q Is_ready))

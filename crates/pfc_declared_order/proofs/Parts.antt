@@ -50,7 +50,8 @@ module _ (s : State) (lo hi m : ℕ) where
     parts_in in_process i n outer next no_parts a b seen low fit = tt
     parts_in in_process i n outer next (more_parts q qs) a b seen low fit =
         all_joined Of (part_blocks s in_process i n outer next q) _ (part_in in_process i n outer next q a b seen low (omega (arith, fit)))
-        (parts_in in_process i (passed_part (scope_at s.blocks.scopes i) n q) outer (next + part_scopes q) qs a b seen (omega (arith, low)) (omega (arith, fit)))
+        (parts_in in_process i (passed_part (scope_at s.blocks.scopes i) n q) outer (next + part_scopes q) qs a b seen
+        (omega (arith, low)) (omega (arith, fit)))
 
     sub_in :
         (in_process : Bool) (i n : ℕ) (outer : List Level) (next : ℕ) (q : SubTree) → IsInPart lo hi i

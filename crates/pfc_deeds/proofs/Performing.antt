@@ -70,11 +70,13 @@ reads_so s new p spot v found d is held goes source g c choice a program is_at =
     let value : value_view v ≡ value_for g c p (spot_view spot)
     = held ∙ ap (value_at (store_view s.store)) (found_location source g s c p a found n (spot_view spot) is_at is)
     ∙ ap (λ (store : Store). value_at store (location_for g c p (spot_view spot))) is_at.before.agrees.store in
-    goes source g c c choice a n (holding x (value_for g c p (spot_view spot)) u) [] is_at refl (ap (λ (w : Value). from_value x u w) (sym value)) refl (sym (append-nil c.output))
+    goes source g c c choice a n (holding x (value_for g c p (spot_view spot)) u) [] is_at refl
+    (ap (λ (w : Value). from_value x u w) (sym value)) refl (sym (append-nil c.output))
 
 -- a value was put where the spot lies
 stored_there :
-    (source : Source) (g : Program) (s : State) (c : Config) (p : ℕ) (a : Activity) (found : Display) (n : Action) (spot : Spot) (l : HeldLocation) (v : Value) (after : Store)
+    (source : Source) (g : Program) (s : State) (c : Config) (p : ℕ) (a : Activity) (found : Display) (n : Action) (spot : Spot)
+    (l : HeldLocation) (v : Value) (after : Store)
     → IsAt source s c p a n → IsFound s p found → location_view l ≡ located (store_view s.store) found spot
     → after ≡ stored (store_view s.store) (location_view l) v → after ≡ stored c.store (location_for g c p spot) v
 stored_there source g s c p a found n spot l v after is_at is there put =
@@ -106,7 +108,8 @@ pub turns_so : (s new : State) (p : ℕ) (d : Done) → GoesOn s new p at.Rest d
 turns_so s new p d goes source g c choice a program is_at =
     let t : Tables = source.program.tables in
     let x : Context = context_of t a.doing in
-    goes source g c c choice a (deed_of t a.doing deed.Turns) (going x.env (remainder_of (pending_of t a.doing))) [] is_at refl refl refl (sym (append-nil c.output))
+    goes source g c c choice a (deed_of t a.doing deed.Turns) (going x.env (remainder_of (pending_of t a.doing)))
+    [] is_at refl refl refl (sym (append-nil c.output))
 
 pub faults_so : (s new : State) (p : ℕ) (f : RunFault) (d : Done) → IsFault s new p f d → IsPerformed s new p (deed.Faults f) [] d
 faults_so s new p f d ends source g c choice a program is_at = ends source g c choice a (deed_of source.program.tables a.doing (deed.Faults f)) is_at refl refl
@@ -180,7 +183,8 @@ left_is :
     (source : Source) (s mid : State) (c : Config) (p : ℕ) (a : Activity) (n : Action)
     → IsAt source s c p a n → mid.input.whole_lines ≡ s.input.whole_lines → mid.input ≡ record c.input { bytes = mid.input.bytes }
 left_is source s mid c p a n is_at whole =
-    ap (λ (b : Bool). (let l : InputLeft = record { bytes = mid.input.bytes; whole_lines = b } in l)) (whole ∙ ap (λ (l : InputLeft). l.whole_lines) is_at.before.agrees.input)
+    ap (λ (b : Bool). (let l : InputLeft = record { bytes = mid.input.bytes; whole_lines = b } in l)) (whole ∙
+    ap (λ (l : InputLeft). l.whole_lines) is_at.before.agrees.input)
 
 pub inputs_so :
     (s mid new : State) (p : ℕ) (t : Option TypeId) (spot : HeldSpot) (n : ℤ) (v : HeldValue) (l : HeldLocation) (found : Display) (d : Done)

@@ -32,7 +32,8 @@ pub fn prints<'t>(
     out: &mut Output,
 ) -> Result<Done, Memory>
     requires { MayAct state.old p }
-    ensures ok { IfOk result (λ d. (added : List ℕ) × (out.new ≡ out.old ++ added) × IsPerformed state.old state.new p (deed.Prints bytes.entry width) added d) }
+    ensures ok { IfOk result (λ d. (added : List ℕ) × (out.new ≡ out.old ++ added) ×
+        IsPerformed state.old state.new p (deed.Prints bytes.entry width) added d) }
     ensures err { OnErr result (state.new ≡ state.old) }
     ensures kept { OnErr result (out.new ≡ out.old) }
 {

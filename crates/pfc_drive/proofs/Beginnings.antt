@@ -72,5 +72,6 @@ module _ (t : ProgramTree) where
     input = refl;
     words = refl;
     in_line = refl;
-    goes_on = λ sound going_on. task_follows (program_of t) (tree_checked t whole built) (going (body_rest t.body)) 0 [] (tree_stands t small.lawful whole built);
+    goes_on = λ sound going_on. task_follows (program_of t) (tree_checked t whole built) (going (body_rest t.body)) 0 []
+        (tree_stands t small.lawful whole built);
   }

@@ -16,9 +16,11 @@ use Rattle.pfc_drive.specs.Standing.{Stands}
 use Rattle.pfc_drive.proofs.Outputs.{run_prints}
 
 -- a front of bytes and of the first of others is one of all of them
-front_of_more : (before after : Option (List ℕ)) (held bytes : List ℕ) (n : ℕ) → AppendsFront before after (held ++ take n bytes) → AppendsFront before after (held ++ bytes)
+front_of_more : (before after : Option (List ℕ)) (held bytes : List ℕ) (n : ℕ) → AppendsFront before after (held ++ take n bytes) →
+    AppendsFront before after (held ++ bytes)
 front_of_more before after held bytes n front =
-    subst (λ (x : List ℕ). AppendsFront before after x) (append_assoc held (take n bytes) (drop n bytes) ∙ ap (λ (x : List ℕ). held ++ x) (take-append-drop n bytes))
+    subst (λ (x : List ℕ). AppendsFront before after x) (append_assoc held (take n bytes) (drop n bytes) ∙
+    ap (λ (x : List ℕ). held ++ x) (take-append-drop n bytes))
     (AppendsFront-append before after (held ++ take n bytes) (drop n bytes) front)
 
 three : (a b c d : List ℕ) → (a ++ (b ++ c)) ++ d ≡ a ++ (b ++ (c ++ d))
@@ -29,7 +31,8 @@ four a b c d = simp append_assoc
 
 module _ (g : Program) (limit : ℕ) (first : Picking) (a : Config) where
   -- before the first turn
-  pub nothing_held : (s : State) (held : List ℕ) (start : Option (List ℕ)) → Stands g s a → a.fault ≡ None → held ≡ [] → Gathers g limit first first a s held start start
+  pub nothing_held : (s : State) (held : List ℕ) (start : Option (List ℕ)) → Stands g s a → a.fault ≡ None → held ≡ [] →
+      Gathers g limit first first a s held start start
   nothing_held s held start stands sound empty = record {
     config = a;
     stands = stands;
@@ -43,7 +46,8 @@ module _ (g : Program) (limit : ℕ) (first : Picking) (a : Config) where
   module _ (picking : Picking) (s : State) (held : List ℕ) (start now : Option (List ℕ)) (p : Gathers g limit first picking a s held start now) where
     -- an action, and perhaps a piece to the sink
     pub gathers_more : (picking' : Picking) (new : State) (more rest : List ℕ) (after : Option (List ℕ))
-        → IsTurn g limit picking picking' p.config new None (Some held) (Some more) → IsSent more rest now after → Gathers g limit first picking' a new rest start after
+        → IsTurn g limit picking picking' p.config new None (Some held) (Some more) → IsSent more rest now after →
+        Gathers g limit first picking' a new rest start after
     gathers_more picking' new more rest after (c, q, few, same) piece = record {
       config = c;
       stands = q.stands;
@@ -59,7 +63,8 @@ module _ (g : Program) (limit : ℕ) (first : Picking) (a : Config) where
 
     -- a sink that took no more of a piece
     pub breaks_off : (picking' : Picking) (new end : State) (more : List ℕ) (after : Option (List ℕ))
-        → IsTurn g limit picking picking' p.config new None (Some held) (Some more) → AppendsFront now after more → IsCourse g (run_left g limit first a) a end SinkFailed start after
+        → IsTurn g limit picking picking' p.config new None (Some held) (Some more) → AppendsFront now after more →
+        IsCourse g (run_left g limit first a) a end SinkFailed start after
     breaks_off picking' new end more after (c, q, few, same) front =
         let e = run_prints g.env limit _ picking' c in
         let ends : run_left g limit first a ≡ run_left g limit picking' c = sym (same ∙ p.same) in
@@ -68,7 +73,8 @@ module _ (g : Program) (limit : ℕ) (first : Picking) (a : Config) where
           output =
               ap (λ (f : Final). f.config.output) ends ∙ e.more
               ∙ ap (λ (x : List ℕ). x ++ e.bytes)
-              (q.output ∙ ap (λ (x : List ℕ). x ++ q.bytes) p.output ∙ three a.output p.sent held q.bytes ∙ ap (λ (x : List ℕ). a.output ++ (p.sent ++ x)) (sym q.written))
+              (q.output ∙ ap (λ (x : List ℕ). x ++ q.bytes) p.output ∙ three a.output p.sent held q.bytes ∙
+              ap (λ (x : List ℕ). a.output ++ (p.sent ++ x)) (sym q.written))
               ∙ three a.output p.sent more e.bytes;
           front = AppendsFront-after start now after p.sent (more ++ e.bytes) p.written (AppendsFront-append now after more e.bytes front);
         }
@@ -118,7 +124,8 @@ module _ (g : Program) (limit : ℕ) (first : Picking) (a : Config) where
       cut_course SinkFailed q front = broken_here q front
       cut_course Memory q front = broken_here q front
 
-      whole_course : (ending : Ending) → IsCourse g (run_left g limit picking p.config) p.config new ending (Some held) (Some more) → Appends now after more → AppendsFront now after more
+      whole_course : (ending : Ending) → IsCourse g (run_left g limit picking p.config) p.config new ending (Some held) (Some more) →
+          Appends now after more → AppendsFront now after more
           → IsCourse g (run_left g limit first a) a new ending start after
       whole_course Finished q written front = completes_here Finished q written
       whole_course (Fault process line fault) q written front = completes_here (Fault process line fault) q written

@@ -11,7 +11,8 @@ ends_behind [] b bytes = refl
 ends_behind (x ∷ []) b bytes = refl
 ends_behind (x ∷ y ∷ old) b bytes = ends_behind (y ∷ old) b bytes
 
-pub open_is : (before : Bool) (old bytes out : List ℕ) (n : ℕ) → length old ≡ n → out ≡ old ++ bytes → n < length out → is_open_line out ≡ open_behind before bytes
+pub open_is : (before : Bool) (old bytes out : List ℕ) (n : ℕ) → length old ≡ n → out ≡ old ++ bytes → n < length out →
+    is_open_line out ≡ open_behind before bytes
 open_is before old [] out n size is more =
     let same : length out ≡ length old + 0 = ap length is ∙ length-append old [] in
     absurd (omega arith)

@@ -26,12 +26,14 @@ three : (a b c d : List ℤ) → ((a ++ b) ++ c) ++ d ≡ a ++ ((b ++ c) ++ d)
 three a b c d = simp append_assoc
 
 -- behind the own cells
-behind_own : (own cells : List ℤ) (k : ℕ) (words : List ℤ) → length own ≡ own_cells → with_words (own ++ cells) (own_cells + k) words ≡ own ++ with_words cells k words
+behind_own : (own cells : List ℤ) (k : ℕ) (words : List ℤ) → length own ≡ own_cells →
+    with_words (own ++ cells) (own_cells + k) words ≡ own ++ with_words cells k words
 behind_own own cells k words size =
     subst (λ (n : ℕ). with_words (own ++ cells) (n + k) words ≡ own ++ with_words cells k words) size
     (let front : take (length own + k) (own ++ cells) ≡ own ++ take k cells = take-append-add own cells k in
     let same : length own + k + length words ≡ length own + (k + length words) = omega arith in
-    let back : drop (length own + k + length words) (own ++ cells) ≡ drop (k + length words) cells = ap (λ (n : ℕ). drop n (own ++ cells)) same ∙ drop-append-add own cells (k + length words) in
+    let back : drop (length own + k + length words) (own ++ cells) ≡ drop (k + length words) cells = ap (λ (n : ℕ). drop n (own ++ cells)) same ∙
+    drop-append-add own cells (k + length words) in
     ap₂ (λ (a b : List ℤ). a ++ words ++ b) front back ∙ three own (take k cells) words (drop (k + length words) cells))
 
 module _ (g : Program) (checked : IsChecked g) (start : g.start ≡ own_cells) (stack : Stack) (own cells : List ℤ) (values : List Value)
@@ -57,7 +59,8 @@ module _ (g : Program) (checked : IsChecked g) (start : g.start ≡ own_cells) (
       subst (λ (r : Ref). AreLive (stack ∷ []) r z) (sym (word_ref l t w is)) (omega arith)
 
   -- what is read there
-  pub word_read : (l : Location) (t : TypeId) (w : ℤ) (z : ℕ) → IsWord g l t w → z ≡ cells_in (forms_of g) t → cells_at (stack ∷ []) (ref_of w) z ≡ words_of (value_at (values ∷ []) l)
+  pub word_read : (l : Location) (t : TypeId) (w : ℤ) (z : ℕ) → IsWord g l t w → z ≡ cells_in (forms_of g) t →
+      cells_at (stack ∷ []) (ref_of w) z ≡ words_of (value_at (values ∷ []) l)
   word_read l t w z is size =
       ap (λ (r : Ref). cells_at (stack ∷ []) r z) (word_ref l t w is)
       ∙ ap₂ (λ (n : ℕ) (cs : List ℤ). take n (drop (own_cells + is.cell) cs)) size all
@@ -72,7 +75,8 @@ module _ (g : Program) (checked : IsChecked g) (start : g.start ≡ own_cells) (
   abbrev pub rewritten : (l : Location) (t : TypeId) (w : ℤ) → IsWord g l t w → Value → List ℤ
   rewritten l t w is v = with_words cells is.cell (words_of v)
 
-  pub word_written : (l : Location) (t : TypeId) (w : ℤ) (is : IsWord g l t w) (v : Value) → written (stack ∷ []) (ref_of w) (words_of v) ≡ record stack { cells = own ++ rewritten l t w is v } ∷ []
+  pub word_written : (l : Location) (t : TypeId) (w : ℤ) (is : IsWord g l t w) (v : Value) →
+      written (stack ∷ []) (ref_of w) (words_of v) ≡ record stack { cells = own ++ rewritten l t w is v } ∷ []
   word_written l t w is v =
       ap (λ (r : Ref). written (stack ∷ []) r (words_of v)) (word_ref l t w is)
       ∙ ap (λ (cs : List ℤ). (let s : Stack = record stack { cells = with_words cs (own_cells + is.cell) (words_of v) } in s ∷ [])) all

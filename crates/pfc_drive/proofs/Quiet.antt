@@ -23,7 +23,8 @@ quiet_row (STORE z) stack to left base h = cc
 quiet_row FORW stack to left base h = cc
 quiet_row i stack to left base h = ap (λ (a : Alone). within (stack ∷ []) 0 a) h
 
-quiet_adds : (i : Instr) (start at : ℕ) (ops : List ℤ) (to room : ℕ) (left : List ℤ) → quietly start i at ops ≡ quiet to left → length left ≤ room → adds i ≤ room - length ops
+quiet_adds : (i : Instr) (start at : ℕ) (ops : List ℤ) (to room : ℕ) (left : List ℤ) → quietly start i at ops ≡ quiet to left →
+    length left ≤ room → adds i ≤ room - length ops
 quiet_adds (LIT n) start at ops to room left h few =
     let same : suc (length ops) ≡ length left = ap (λ (a : Alone). held a) h in
     omega arith
@@ -50,7 +51,8 @@ quiet_adds EOF start at ops to room left h few = cc
 quiet_adds EOLN start at ops to room left h few = cc
 quiet_adds i start at ops to room left h few = omega arith
 
-quiet_reaches : (i : Instr) (stack : Stack) (start to : ℕ) (left : List ℤ) → quietly start i stack.at stack.operands ≡ quiet to left → Reckons i stack.operands → Reaches i 0 (stack ∷ [])
+quiet_reaches : (i : Instr) (stack : Stack) (start to : ℕ) (left : List ℤ) → quietly start i stack.at stack.operands ≡ quiet to left →
+    Reckons i stack.operands → Reaches i 0 (stack ∷ [])
 quiet_reaches (ADDR zero d) stack start to left h r = tt
 quiet_reaches (ADDR (suc l) d) stack start to left h r = absurd cc
 quiet_reaches (LOAD z) stack start to left h r = absurd cc
@@ -59,9 +61,15 @@ quiet_reaches FORW stack start to left h r = absurd cc
 quiet_reaches i stack start to left h r = r
 
 pub quiet_fits :
-    (i : Instr) (stack : Stack) (start to : ℕ) (left : List ℤ) → quietly start i stack.at stack.operands ≡ quiet to left → length left ≤ stack.room → IsFit i stack.operands → Fits i 0 (stack ∷ [])
+    (i : Instr) (stack : Stack) (start to : ℕ) (left : List ℤ) → quietly start i stack.at stack.operands ≡ quiet to left → length left ≤ stack.room →
+    IsFit i stack.operands → Fits i 0 (stack ∷ [])
 quiet_fits i stack start to left h few fit =
-    record { held = fit.held; room = quiet_adds i start stack.at stack.operands to stack.room left h few; reach = quiet_reaches i stack start to left h fit.reckons }
+    record {
+      held = fit.held;
+      room = quiet_adds i start stack.at stack.operands to stack.room left h few;
+      reach =
+          quiet_reaches i stack start to left h fit.reckons;
+    }
 
 -- ## Instructions that end in a fault
 
@@ -84,7 +92,12 @@ fault_reaches FORW stack f h r = absurd cc
 fault_reaches i stack f h r = r
 
 pub fault_fits : (i : Instr) (stack : Stack) (f : RunFault) → alone i stack.at stack.operands ≡ fault f → IsFit i stack.operands → Fits i 0 (stack ∷ [])
-fault_fits i stack f h fit = record { held = fit.held; room = fault_adds i stack.at stack.operands f (stack.room - length stack.operands) h; reach = fault_reaches i stack f h fit.reckons }
+fault_fits i stack f h fit = record {
+  held = fit.held;
+  room = fault_adds i stack.at stack.operands f (stack.room - length stack.operands) h;
+  reach =
+      fault_reaches i stack f h fit.reckons;
+}
 
 pub fault_row : (i : Instr) (stack : Stack) (f : RunFault) → alone i stack.at stack.operands ≡ fault f → row i 0 (stack ∷ []) ≡ ends_in f
 fault_row (ADDR l d) stack f h = cc
@@ -94,7 +107,8 @@ fault_row FORW stack f h = cc
 fault_row i stack f h = ap (λ (a : Alone). within (stack ∷ []) 0 a) h
 
 -- such an instruction is none of the outward ones
-pub fault_manages : (i : Instr) (stack : Stack) (texts : List (List ℕ)) (f : RunFault) → alone i stack.at stack.operands ≡ fault f → Manages i texts 0 (stack ∷ [])
+pub fault_manages : (i : Instr) (stack : Stack) (texts : List (List ℕ)) (f : RunFault) →
+    alone i stack.at stack.operands ≡ fault f → Manages i texts 0 (stack ∷ [])
 fault_manages (WRS s w) stack texts f h = absurd cc
 fault_manages RDI stack texts f h = absurd cc
 fault_manages RDC stack texts f h = absurd cc

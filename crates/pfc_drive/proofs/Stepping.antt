@@ -55,7 +55,8 @@ pub main_alone : (b : Bool) (rows : List Stand) (p : ℕ) → rows ≡ main_stan
 main_alone b rows zero h ready = refl
 main_alone b rows (suc p) h ready = absurd (let none : at rows (suc p) ≡ at [] p = ap (λ (rs : List Stand). at rs (suc p)) h in cc)
 
-module _ (g : Program) (checked : IsChecked g) (s : State) (c : Config) (stands : Stands g s c) (sound : c.fault ≡ None) (ready : at c.table.rows 0 ≡ Is_ready) where
+module _ (g : Program) (checked : IsChecked g) (s : State) (c : Config) (stands : Stands g s c) (sound : c.fault ≡ None)
+    (ready : at c.table.rows 0 ≡ Is_ready) where
   abbrev n : Next
   n = next g.env stands.task
 
@@ -115,7 +116,8 @@ module _ (g : Program) (checked : IsChecked g) (s : State) (c : Config) (stands 
       subst (λ (x : Done). IsStep g final c 0 out out' x) (sym d_is)
       (record {
         stands = subst (λ (f : State). Stands g f (step g.env c 0)) (sym final_left)
-            (subst (λ (k : Config). Stands g (left stacks input words s.in_line line) k) (sym config) (made stacks input words s.in_line values task line c.output memory task_at stands.in_line));
+            (subst (λ (k : Config). Stands g (left stacks input words s.in_line line) k) (sym config)
+            (made stacks input words s.in_line values task line c.output memory task_at stands.in_line));
         bytes = [];
         output = ap (λ (k : Config). k.output) config ∙ sym (append-nil c.output);
         out_is = out_is ∙ sym (append-nil out);
@@ -127,14 +129,16 @@ module _ (g : Program) (checked : IsChecked g) (s : State) (c : Config) (stands 
       → (mid : State) → mid ≡ record s { stacks = stacks; table = begun s.table 0; in_line = open_behind s.in_line bytes }
       → (final : State) (out out' : List ℕ) (d : Done) → final ≡ stepped mid 0 line → out' ≡ out ++ bytes → d ≡ Stepped → IsStep g final c 0 out out' d
   finish_puts line _ _ (printing stacks bytes task memory task_at steps) mid mid_is final out out' d final_is out_is d_is =
-      let config : step g.env c 0 ≡ acted (record (with_parts c stands.values s.input s.words) { output = c.output ++ bytes }) 0 line task = step_is ∙ act_is ∙ steps c in
+      let config : step g.env c 0 ≡ acted (record (with_parts c stands.values s.input s.words) { output = c.output ++ bytes }) 0 line task = step_is ∙ act_is ∙
+      steps c in
       let in_line : Bool = open_behind s.in_line bytes in
       let final_left : final ≡ left stacks s.input s.words in_line line = final_is ∙ ap (λ (m : State). stepped m 0 line) mid_is in
       let same_line : in_line ≡ is_open_line (c.output ++ bytes) = ap (λ (b : Bool). open_behind b bytes) stands.in_line ∙ sym (open_grown c.output bytes) in
       subst (λ (x : Done). IsStep g final c 0 out out' x) (sym d_is)
       (record {
         stands = subst (λ (f : State). Stands g f (step g.env c 0)) (sym final_left)
-            (subst (λ (k : Config). Stands g (left stacks s.input s.words in_line line) k) (sym config) (made stacks s.input s.words in_line stands.values task line (c.output ++ bytes) memory task_at same_line));
+            (subst (λ (k : Config). Stands g (left stacks s.input s.words in_line line) k) (sym config)
+            (made stacks s.input s.words in_line stands.values task line (c.output ++ bytes) memory task_at same_line));
         bytes = bytes;
         output = ap (λ (k : Config). k.output) config;
         out_is = out_is;
@@ -229,10 +233,13 @@ module _ (g : Program) (checked : IsChecked g) (s : State) (c : Config) (stands 
       → (final : State) (out out' : List ℕ) (d : Done) → IsOutward deed 0 line mid final out out' d → IsStep g final c 0 out out' d
   finish_outward line goes_on leaves stacks memory mid mid_is final out out' d h = absurd h
   finish_outward line (does new input words) leaves stacks memory mid mid_is final out out' d h =
-      finish_does line new input words leaves h.0 (h.1.0 ∙ ap (λ (m : State). (let x : State = record m { stacks = new; input = input; words = words } in x)) mid_is) final out out' d h.2 h.1.1 h.3
+      finish_does line new input words leaves h.0 (h.1.0 ∙
+      ap (λ (m : State). (let x : State = record m { stacks = new; input = input; words = words } in x)) mid_is) final out out' d h.2 h.1.1 h.3
   finish_outward line (puts new bytes) leaves stacks memory mid mid_is final out out' d h =
-      finish_puts line new bytes leaves h.0 (h.1.0 ∙ ap (λ (m : State). (let x : State = record m { stacks = new; in_line = open_behind m.in_line bytes } in x)) mid_is) final out out' d h.2 h.1.1 h.3
-  finish_outward line (refuses f) leaves stacks memory mid mid_is final out out' d h = finish_refuses line f leaves stacks memory mid mid_is final out out' d h.0 h.1 h.2
+      finish_puts line new bytes leaves h.0 (h.1.0 ∙
+      ap (λ (m : State). (let x : State = record m { stacks = new; in_line = open_behind m.in_line bytes } in x)) mid_is) final out out' d h.2 h.1.1 h.3
+  finish_outward line (refuses f) leaves stacks memory mid mid_is final out out' d h =
+      finish_refuses line f leaves stacks memory mid mid_is final out out' d h.0 h.1 h.2
   finish_outward line ends leaves stacks memory mid mid_is final out out' d h = finish_ends line leaves stacks memory mid mid_is final out out' d h.0 h.1 h.2
 
 -- ## Behind the quiet instructions
@@ -347,9 +354,11 @@ module _ (g : Program) (image : PlainImage) (program : IsProgram g image) (check
         finish_refuses g checked s c stands sound ready line f (by_its_row (ends_in f) h.0) r.before m (begun_with new) (ap begun_with h.1) final out out' x
         (done.0 ∙ ap (λ (k : ℕ). stepped (begun_with new) k line) none) done.1 done.2
     carried_of (Outward q i) h action none final out out' x done =
-        finish_outward g checked s c stands sound ready line (outward_deed r.instr g.texts 0 r.before s.input s.words) (by_its_row outward h.0) r.before m (begun_with new) (ap begun_with h.2) final out out' x
+        finish_outward g checked s c stands sound ready line (outward_deed r.instr g.texts 0 r.before s.input s.words) (by_its_row outward h.0) r.before m
+        (begun_with new) (ap begun_with h.2) final out out' x
         (subst (λ (ss : Stacks). IsOutward (outward_deed r.instr g.texts 0 ss s.input s.words) 0 line (begun_with new) final out out' x) h.2
-        (subst (λ (texts : List (List ℕ)). IsOutward (outward_deed r.instr texts 0 new s.input s.words) 0 line (begun_with new) final out out' x) (sym program.texts)
+        (subst (λ (texts : List (List ℕ)). IsOutward (outward_deed r.instr texts 0 new s.input s.words) 0 line
+        (begun_with new) final out out' x) (sym program.texts)
         (subst (λ (k : ℕ). IsOutward (outward_deed r.instr image.texts k new s.input s.words) k line (begun_with new) final out out' x) none
         (subst (λ (j : Instr). IsOutward (outward_deed j image.texts q.number new s.input s.words) q.number line (begun_with new) final out out' x) h.1 done))))
 
@@ -362,12 +371,14 @@ module _ (g : Program) (image : PlainImage) (program : IsProgram g image) (check
 -- ## As an action has it
 
 -- where main is ready, it is before its next action
-pub before_action : (g : Program) (s : State) (c : Config) (stands : Stands g s c) → c.fault ≡ None → at c.table.rows 0 ≡ Is_ready → IsBefore g s.stacks stands.values (next g.env stands.task)
+pub before_action : (g : Program) (s : State) (c : Config) (stands : Stands g s c) → c.fault ≡ None → at c.table.rows 0 ≡ Is_ready →
+    IsBefore g s.stacks stands.values (next g.env stands.task)
 before_action g s c stands sound ready = record { memory = stands.memory; follows = stands.goes_on sound (not_over stands.over c.table.rows stands.rows ready) }
 
 -- main came to its next action, whatever that is
 abbrev pub ReachedAll : PlainImage → State → ℕ → Instructed → Stacks → Type 0
-ReachedAll image s line did new = (g : Program) (values : List Value) (n : Next) → IsProgram g image → IsChecked g → IsBefore g s.stacks values n → Reached g values n line did new
+ReachedAll image s line did new = (g : Program) (values : List Value) (n : Next) → IsProgram g image → IsChecked g →
+    IsBefore g s.stacks values n → Reached g values n line did new
 
 module _ (g : Program) (image : PlainImage) (s : State) (c : Config) (p : ℕ) (h : IsReady g image s c p) where
   pub is_main : p ≡ 0
@@ -376,7 +387,8 @@ module _ (g : Program) (image : PlainImage) (s : State) (c : Config) (p : ℕ) (
   main_ready : at c.table.rows 0 ≡ Is_ready
   main_ready = subst (λ (q : ℕ). at c.table.rows q ≡ Is_ready) is_main h.ready
 
-  module _ (line : ℕ) (did : Instructed) (new : Stacks) (all : ReachedAll image s line did new) (none : number_in did ≡ 0) (mid : State) (mid_is : mid ≡ record s { stacks = new; table = begun s.table p }) where
+  module _ (line : ℕ) (did : Instructed) (new : Stacks) (all : ReachedAll image s line did new) (none : number_in did ≡ 0) (mid : State)
+      (mid_is : mid ≡ record s { stacks = new; table = begun s.table p }) where
     r : Reached g h.stands.values (next g.env h.stands.task) line did new
     r = all g h.stands.values (next g.env h.stands.task) h.program h.checked (before_action g s c h.stands h.sound main_ready)
 
@@ -392,10 +404,12 @@ module _ (g : Program) (image : PlainImage) (s : State) (c : Config) (p : ℕ) (
         (carried g image h.program h.checked s c h.stands line did new r h.sound main_ready mid mid_main none final out out' d done)
 
     pub action_stays : (final : State) → is_left did ≡ true → final ≡ stopped mid → Stands g final c
-    action_stays final is final_is = subst (λ (x : State). Stands g x c) (sym final_is) (still g image h.program h.checked s c h.stands line did new r mid mid_main is)
+    action_stays final is final_is =
+        subst (λ (x : State). Stands g x c) (sym final_is) (still g image h.program h.checked s c h.stands line did new r mid mid_main is)
 
 -- the session once process p began to act, and main came to its next action
-pub mid_is_so : (inside now : State) (new : Stacks) (table : Table) (p : ℕ) → inside ≡ now → table ≡ begun inside.table p → record inside { stacks = new; table = table } ≡ record now { stacks = new; table = begun now.table p }
+pub mid_is_so : (inside now : State) (new : Stacks) (table : Table) (p : ℕ) → inside ≡ now → table ≡ begun inside.table p →
+    record inside { stacks = new; table = table } ≡ record now { stacks = new; table = begun now.table p }
 mid_is_so inside now new table p same table_so =
     ap (λ (t : Table). (let x : State = record inside { stacks = new; table = t } in x)) table_so
     ∙ ap (λ (y : State). (let x : State = record y { stacks = new; table = begun y.table p } in x)) same

@@ -112,8 +112,10 @@ module _ (g : Program) (s : State) (c : Config) (h : Stands g s c) where
     here = ap (λ (d : Config). unless_ended d (final d (Limit limit)) (ending_at d)) config_same
 
     there : (left : ℕ) → run_from g.env limit (suc left) picking c
-        ≡ unless_ended c (by_pick c (after_pick picking c.table.rows) (λ p. run_from g.env limit left (after_pick picking c.table.rows) (step g.env c p)) (picked picking c.table.rows)) (ending_at c)
-    there left = ap (λ (d : Config). unless_ended d (by_pick d (after_pick picking d.table.rows) (λ p. run_from g.env limit left (after_pick picking d.table.rows) (step g.env d p)) (picked picking d.table.rows)) (ending_at d)) config_same
+        ≡ unless_ended c (by_pick c (after_pick picking c.table.rows) (λ p. run_from g.env limit left (after_pick picking c.table.rows) (step g.env c p))
+        (picked picking c.table.rows)) (ending_at c)
+    there left = ap (λ (d : Config). unless_ended d (by_pick d (after_pick picking d.table.rows)
+        (λ p. run_from g.env limit left (after_pick picking d.table.rows) (step g.env d p)) (picked picking d.table.rows)) (ending_at d)) config_same
 
     ended : (ending : Ending) → ending_at c ≡ Some ending → (n : ℕ) → run_from g.env limit n picking c ≡ final c ending
     ended ending e zero = here ∙ ap (unless_ended c (final c (Limit limit))) e
@@ -133,14 +135,17 @@ module _ (g : Program) (s : State) (c : Config) (h : Stands g s c) where
 
     -- the pick decides
     pub run_picked : (pick : Pick) → c.fault ≡ None → is_done (at s.table.rows 0) ≡ false → s.table.done < limit → pick ≡ picked picking s.table.rows
-        → run_left g limit picking c ≡ by_pick c (after_pick picking s.table.rows) (λ p. run_from g.env limit (limit - (c.table.done + 1)) (after_pick picking s.table.rows) (step g.env c p)) pick
+        → run_left g limit picking c ≡ by_pick c (after_pick picking s.table.rows) (λ p. run_from g.env limit (limit - (c.table.done + 1))
+        (after_pick picking s.table.rows) (step g.env c p)) pick
     run_picked pick sound o low e =
         let count : s.table.done ≡ c.table.done = ap (λ (t : Table). t.done) h.table in
         let some : limit - c.table.done ≡ suc (limit - (c.table.done + 1)) = omega (arith, count, low) in
         let rows : c.table.rows ≡ s.table.rows = sym (ap (λ (t : Table). t.rows) h.table) in
         ap (λ (n : ℕ). run_from g.env limit n picking c) some ∙ there (limit - (c.table.done + 1)) ∙ ap (unless_ended c _) (ends_none sound (sym over_is ∙ o))
-        ∙ ap (λ (r : List Stand). by_pick c (after_pick picking r) (λ p. run_from g.env limit (limit - (c.table.done + 1)) (after_pick picking r) (step g.env c p)) (picked picking r)) rows
-        ∙ ap (by_pick c (after_pick picking s.table.rows) (λ p. run_from g.env limit (limit - (c.table.done + 1)) (after_pick picking s.table.rows) (step g.env c p))) (sym e)
+        ∙ ap (λ (r : List Stand). by_pick c (after_pick picking r) (λ p. run_from g.env limit (limit - (c.table.done + 1)) (after_pick picking r)
+        (step g.env c p)) (picked picking r)) rows
+        ∙ ap (by_pick c (after_pick picking s.table.rows) (λ p. run_from g.env limit (limit - (c.table.done + 1))
+        (after_pick picking s.table.rows) (step g.env c p))) (sym e)
 
     -- a fault ends it
     run_fault : (f : Fault_at) → c.fault ≡ Some f → (n : ℕ) → run_from g.env limit n picking c ≡ final c (Fault f.process f.line f.fault)
@@ -161,7 +166,8 @@ module _ (g : Program) (s : State) (c : Config) (h : Stands g s c) where
   -- an action led to another configuration, and the run goes on from there, or ended
   pub turned : (limit : ℕ) (picking : Picking) (p : ℕ) (new : State) (result : Option Ending) (before after : Option (List ℕ))
       → c.fault ≡ None → is_done (at s.table.rows 0) ≡ false → s.table.done < limit → Process p ≡ picked picking s.table.rows
-      → IsActed g c (step g.env c p) new result (run_from g.env limit (limit - (c.table.done + 1)) (after_pick picking s.table.rows) (step g.env c p)) before after
+      → IsActed g c (step g.env c p) new result (run_from g.env limit (limit - (c.table.done + 1))
+      (after_pick picking s.table.rows) (step g.env c p)) before after
       → IsTurn g limit picking (after_pick picking s.table.rows) c new result before after
   turned limit picking p new result before after sound o low e = go result
     where
@@ -177,7 +183,9 @@ module _ (g : Program) (s : State) (c : Config) (h : Stands g s c) where
       left : run_left g limit (after_pick picking s.table.rows) (step g.env c p) ≡ run_left g limit picking c
       left = ap (λ (n : ℕ). run_from g.env limit (limit - n) (after_pick picking s.table.rows) (step g.env c p)) (step_counts g.env c p) ∙ sym whole
 
-      go : (result : Option Ending) → IsActed g c (step g.env c p) new result (run_from g.env limit (limit - (c.table.done + 1)) (after_pick picking s.table.rows) (step g.env c p)) before after
+      go : (result : Option Ending) →
+          IsActed g c (step g.env c p) new result (run_from g.env limit (limit - (c.table.done + 1))
+          (after_pick picking s.table.rows) (step g.env c p)) before after
           → IsTurn g limit picking (after_pick picking s.table.rows) c new result before after
       go None acted = (step g.env c p, acted, few, left)
       go (Some ending) acted = subst (λ (f : Final). IsCourse g f c new ending before after) (sym whole) acted
@@ -189,7 +197,12 @@ module _ (g : Program) (c : Config) (p : ℕ) (limit left : ℕ) (picking : Pick
   pub none_printed : (old out : List ℕ) → out ≡ old → IsBrokenOff (run_from g.env limit left picking (step g.env c p)) c (Some old) (Some out)
   none_printed old out same =
       let e = later_prints g.env limit left picking c p in
-      record { bytes = e.bytes; output = e.more; front = subst (λ (x : List ℕ). AppendsFront (Some old) (Some x) e.bytes) (sym same) (AppendsFront-none (Some old) e.bytes) }
+      record {
+        bytes = e.bytes;
+        output = e.more;
+        front = subst (λ (x : List ℕ). AppendsFront (Some old) (Some x) e.bytes) (sym same)
+            (AppendsFront-none (Some old) e.bytes);
+      }
 
   -- a fault
   pub ends_in_fault : (new : State) (old out : List ℕ) (line : ℕ) (f : _) → IsStep g new c p old out (Faulted line f)
@@ -215,7 +228,8 @@ module _ (g : Program) (c : Config) (p : ℕ) (limit left : ℕ) (picking : Pick
   }
 
 -- and one action more
-pub counted : (g : Program) (c : Config) (p : ℕ) (s new : State) (old out : List ℕ) (d : Done) → Stands g s c → IsStep g new c p old out d → new.table.done ≡ s.table.done + 1
+pub counted : (g : Program) (c : Config) (p : ℕ) (s new : State) (old out : List ℕ) (d : Done) → Stands g s c →
+    IsStep g new c p old out d → new.table.done ≡ s.table.done + 1
 counted g c p s new old out d h is =
     let new_is : new.table.done ≡ (step g.env c p).table.done = ap (λ (t : Table). t.done) is.stands.table in
     let old_is : s.table.done ≡ c.table.done = ap (λ (t : Table). t.done) h.table in

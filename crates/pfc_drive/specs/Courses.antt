@@ -74,7 +74,8 @@ IsTurn g limit picking picking' c new (Some ending) before after = IsCourse g (r
 
 -- Turns led from a configuration to a further one without a fault, from which the run is what it was: of what they printed the first bytes
 -- were sent to the sink, and the others are held.
-pub record Gathers (g : Program) (limit : ℕ) (first picking : Picking) (c : Config) (now : State) (held : List ℕ) (before after : Option (List ℕ)) : Type 0 where
+pub record Gathers (g : Program) (limit : ℕ) (first picking : Picking) (c : Config) (now : State) (held : List ℕ)
+    (before after : Option (List ℕ)) : Type 0 where
   pub config : Config
   pub stands : Stands g now config
   pub sound : config.fault ≡ None

@@ -55,7 +55,8 @@ text_printed text w stacks p = printed stacks p (min w 1) (piece (width_of w (op
 -- an item is written at the address on top
 abbrev pub item_read : Stacks → ℕ → Left → Lcg → Result Item RunFault → Deed
 item_read stacks p input words (Ok i) =
-    let ops = operands_of stacks p in does (passed (written stacks (ref_of (operand ops 0)) (i.value ∷ [])) p (drop 1 ops)) (record input { bytes = i.left }) words
+    let ops = operands_of stacks p in does (passed (written stacks (ref_of (operand ops 0)) (i.value ∷ [])) p (drop 1 ops))
+    (record input { bytes = i.left }) words
 item_read stacks p input words (Err f) = refuses f
 
 abbrev pub line_skipped : Stacks → ℕ → Left → Lcg → Result (List ℕ) RunFault → Deed

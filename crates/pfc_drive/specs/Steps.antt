@@ -51,8 +51,10 @@ stopped s = record s { table = rested s.table }
 
 abbrev pub IsOutward : Deed → ℕ → ℕ → State → State → List ℕ → List ℕ → Done → Type 0
 IsOutward goes_on p line old new out out' d = ⊥
-IsOutward (does stacks input words) p line old new out out' d = (mid : State) × IsDeed (does stacks input words) old mid out out' × (new ≡ stepped mid p line) × (d ≡ Stepped)
-IsOutward (puts stacks bytes) p line old new out out' d = (mid : State) × IsDeed (puts stacks bytes) old mid out out' × (new ≡ stepped mid p line) × (d ≡ Stepped)
+IsOutward (does stacks input words) p line old new out out' d = (mid : State) × IsDeed (does stacks input words) old mid out out' ×
+    (new ≡ stepped mid p line) × (d ≡ Stepped)
+IsOutward (puts stacks bytes) p line old new out out' d = (mid : State) × IsDeed (puts stacks bytes) old mid out out' ×
+    (new ≡ stepped mid p line) × (d ≡ Stepped)
 IsOutward (refuses f) p line old new out out' d = (new ≡ stepped old p line) × (out' ≡ out) × (d ≡ Faulted line f)
 IsOutward ends p line old new out out' d = (new ≡ over old p line) × (out' ≡ out) × (d ≡ Stepped)
 
@@ -61,7 +63,8 @@ abbrev pub IsCarried : Instructed → List (List ℕ) → ℕ → State → Stat
 IsCarried (Quiet r) texts line old new out out' d = (new ≡ stepped old r.number line) × (out' ≡ out) × (d ≡ Stepped)
 IsCarried (Acted r) texts line old new out out' d = (new ≡ stepped old r.number line) × (out' ≡ out) × (d ≡ Stepped)
 IsCarried (Fault r f) texts line old new out out' d = (new ≡ stepped old r.number line) × (out' ≡ out) × (d ≡ Faulted line f)
-IsCarried (Outward r i) texts line old new out out' d = IsOutward (outward_deed i texts r.number old.stacks old.input old.words) r.number line old new out out' d
+IsCarried (Outward r i) texts line old new out out' d =
+    IsOutward (outward_deed i texts r.number old.stacks old.input old.words) r.number line old new out out' d
 
 -- ## Steps
 

@@ -31,7 +31,8 @@ impl Session {
     pub fn act(&mut self, image: &Image, p: u32, out: &mut Output) -> Result<Done, Memory>
         requires ready { (g : Program) × (c : Config) × IsReady g (plain_image image.now) self.old c p }
         requires few { self.old.table.done < 10 ^ 18 }
-        ensures step { IfOk result (λ d. (g : Program) (c : Config) → IsReady g (plain_image image.now) self.old c p → IsStep g self.new c p out.old out.new d) }
+        ensures step { IfOk result (λ d. (g : Program) (c : Config) → IsReady g (plain_image image.now) self.old c p →
+            IsStep g self.new c p out.old out.new d) }
         ensures err { OnErr result ((g : Program) (c : Config) → IsReady g (plain_image image.now) self.old c p → Stands g self.new c) }
         ensures kept { OnErr result (out.new ≡ out.old) }
     {
@@ -82,7 +83,8 @@ impl Session {
         requires done { self.old.table.done < 10 ^ 18 }
         requires moment { self.old.table.moment < 2 * 10 ^ 18 }
         requires manages { Manages instr image.now.texts.items r.number self.old.stacks }
-        ensures ok { IfOk result (λ d. IsOutward (outward_deed instr image.now.texts.items r.number self.old.stacks self.old.input self.old.words) r.number line self.old self.new out.old out.new d) }
+        ensures ok { IfOk result (λ d. IsOutward (outward_deed instr image.now.texts.items r.number self.old.stacks self.old.input self.old.words) r.number
+            line self.old self.new out.old out.new d) }
         ensures err { OnErr result ((self.new ≡ stopped self.old) × (out.new ≡ out.old)) }
     {
         if instr == Instr::END {

@@ -19,7 +19,8 @@ pub(crate) fn advance(store: &mut Store, image: &Image, r: Running) -> (u32, Ins
     requires main { r.number ≡ 0 }
     requires before { (g : Program) × (values : List Value) × (n : Next) × IsProgram g (plain_image image.now) × IsChecked g × IsBefore g store.old values n }
     ensures who { number_in result.1 ≡ 0 }
-    ensures reached { (g : Program) (values : List Value) (n : Next) → IsProgram g (plain_image image.now) → IsChecked g → IsBefore g store.old values n → Reached g values n result.0 result.1 store.new }
+    ensures reached { (g : Program) (values : List Value) (n : Next) → IsProgram g (plain_image image.now) → IsChecked g → IsBefore g store.old values n →
+        Reached g values n result.0 result.1 store.new }
 {
     let mut r = r;
     loop {

@@ -35,7 +35,8 @@ impl Session {
         requires one { length self.old.stacks ≡ 1 }
         requires next { (stack_of self.old.stacks p).at + 1 < 2 ^ 32 }
         requires manages { Manages instr image.now.texts.items p self.old.stacks }
-        ensures ok { OnOk result (IsDeed (outward_deed instr image.now.texts.items p self.old.stacks self.old.input self.old.words) self.old self.new out.old out.new) }
+        ensures ok { OnOk result
+            (IsDeed (outward_deed instr image.now.texts.items p self.old.stacks self.old.input self.old.words) self.old self.new out.old out.new) }
         ensures fault { IfErr result (IsRefused (outward_deed instr image.now.texts.items p self.old.stacks self.old.input self.old.words)) }
         ensures err { OnErr result ((self.new ≡ self.old) × (out.new ≡ out.old)) }
     {
@@ -101,7 +102,8 @@ impl Session {
 
     /// Notes whether the output ends inside a line, where something was printed behind its first `before` bytes.
     fn note(&mut self, before: usize, out: &Output)
-        ensures { (old bytes : List ℕ) → length old ≡ before → out.now ≡ old ++ bytes → self.new ≡ record self.old { in_line = open_behind self.old.in_line bytes } }
+        ensures { (old bytes : List ℕ) → length old ≡ before → out.now ≡ old ++ bytes →
+            self.new ≡ record self.old { in_line = open_behind self.old.in_line bytes } }
     {
         if before < out.bytes().len() {
             self.in_line = out.ends_inside_line();
@@ -114,7 +116,8 @@ impl Session {
         requires next { (stack_of self.old.stacks p).at + 1 < 2 ^ 32 }
         requires some { 1 ≤ length (operands_of self.old.stacks p) }
         requires live { AreLive self.old.stacks (ref_of (operand (operands_of self.old.stacks p) 0)) 1 }
-        ensures ok { (out : List ℕ) → OnOk result (IsDeed (item_read self.old.stacks p self.old.input self.old.words (item t self.old.input.bytes)) self.old self.new out out) }
+        ensures ok { (out : List ℕ) →
+            OnOk result (IsDeed (item_read self.old.stacks p self.old.input self.old.words (item t self.old.input.bytes)) self.old self.new out out) }
         ensures fault { IfErr result (IsRefused (item_read self.old.stacks p self.old.input self.old.words (item t self.old.input.bytes))) }
         ensures err { OnErr result (self.new ≡ self.old) }
     {
@@ -126,8 +129,11 @@ impl Session {
     fn skip(&mut self, p: u32) -> Result<(), PieceFault>
         requires process { p < length self.old.stacks }
         requires next { (stack_of self.old.stacks p).at + 1 < 2 ^ 32 }
-        ensures ok { (out : List ℕ) → OnOk result (IsDeed (line_skipped self.old.stacks p self.old.input self.old.words (skipped self.old.input.whole_lines self.old.input.bytes)) self.old self.new out out) }
-        ensures fault { IfErr result (IsRefused (line_skipped self.old.stacks p self.old.input self.old.words (skipped self.old.input.whole_lines self.old.input.bytes))) }
+        ensures ok { (out : List ℕ) →
+            OnOk result (IsDeed (line_skipped self.old.stacks p self.old.input self.old.words
+            (skipped self.old.input.whole_lines self.old.input.bytes)) self.old self.new out out) }
+        ensures fault { IfErr result
+            (IsRefused (line_skipped self.old.stacks p self.old.input self.old.words (skipped self.old.input.whole_lines self.old.input.bytes))) }
         ensures err { OnErr result (self.new ≡ self.old) }
     {
         self.input.skip_line()?;
@@ -139,8 +145,12 @@ impl Session {
         requires process { p < length self.old.stacks }
         requires next { (stack_of self.old.stacks p).at + 1 < 2 ^ 32 }
         requires some { 1 ≤ length (operands_of self.old.stacks p) }
-        ensures ok { (out : List ℕ) → OnOk result (IsDeed (number_drawn self.old.stacks p self.old.input (after_draw self.old.words (operand (operands_of self.old.stacks p) 0)) (drawn self.old.words (operand (operands_of self.old.stacks p) 0))) self.old self.new out out) }
-        ensures fault { IfErr result (IsRefused (number_drawn self.old.stacks p self.old.input (after_draw self.old.words (operand (operands_of self.old.stacks p) 0)) (drawn self.old.words (operand (operands_of self.old.stacks p) 0)))) }
+        ensures ok { (out : List ℕ) →
+            OnOk result (IsDeed (number_drawn self.old.stacks p self.old.input (after_draw self.old.words (operand (operands_of self.old.stacks p) 0))
+            (drawn self.old.words (operand (operands_of self.old.stacks p) 0))) self.old self.new out out) }
+        ensures fault { IfErr result
+            (IsRefused (number_drawn self.old.stacks p self.old.input (after_draw self.old.words (operand (operands_of self.old.stacks p) 0))
+            (drawn self.old.words (operand (operands_of self.old.stacks p) 0)))) }
         ensures err { OnErr result (self.new ≡ self.old) }
     {
         let drawn = self.draws.draw(self.store.top(p, 0))?;

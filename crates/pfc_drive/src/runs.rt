@@ -41,7 +41,8 @@ impl Session {
         requires before { (g : Program) × (c : Config) × IsProgram g (plain_image image.now) × IsChecked g × Stands g self.old c × (c.fault ≡ None) }
         requires few { self.old.table.done ≤ limit }
         requires most { limit ≤ 10 ^ 18 }
-        ensures run { (g : Program) (c : Config) → IsProgram g (plain_image image.now) → IsChecked g → Stands g self.old c → c.fault ≡ None → IsCourse g (run_left g limit picker.old c) c self.new result (O.written sink.old) (O.written sink.new) }
+        ensures run { (g : Program) (c : Config) → IsProgram g (plain_image image.now) → IsChecked g → Stands g self.old c → c.fault ≡ None →
+            IsCourse g (run_left g limit picker.old c) c self.new result (O.written sink.old) (O.written sink.new) }
         ensures faults { O.faults sink.old ≤ O.faults sink.new }
         ensures failed { result ≡ Ending.SinkFailed → Rose (O.faults sink.old) (O.faults sink.new) }
         ensures main { IsOfMain result }
@@ -69,7 +70,8 @@ impl Session {
         requires before { (g : Program) × (c : Config) × IsProgram g (plain_image image.now) × IsChecked g × Stands g self.old c × (c.fault ≡ None) }
         requires few { self.old.table.done ≤ limit }
         requires most { limit ≤ 10 ^ 18 }
-        ensures turn { (g : Program) (c : Config) → IsProgram g (plain_image image.now) → IsChecked g → Stands g self.old c → c.fault ≡ None → IsTurn g limit picker.old picker.new c self.new result (Some out.old) (Some out.new) }
+        ensures turn { (g : Program) (c : Config) → IsProgram g (plain_image image.now) → IsChecked g → Stands g self.old c → c.fault ≡ None →
+            IsTurn g limit picker.old picker.new c self.new result (Some out.old) (Some out.new) }
         ensures up { result ≡ None → self.new.table.done ≡ self.old.table.done + 1 }
         ensures written { result ≢ Some Ending.SinkFailed }
         ensures main { IfSome result IsOfMain }
@@ -116,7 +118,8 @@ impl Session {
         requires ready { (g : Program) × (c : Config) × IsReady g (plain_image image.now) self.old c p }
         requires few { self.old.table.done < 10 ^ 18 }
         ensures up { result ≡ None → self.new.table.done ≡ self.old.table.done + 1 }
-        ensures acted { (g : Program) (c : Config) → IsReady g (plain_image image.now) self.old c p → (limit left : ℕ) (picking : Picking) → IsActed g c (step g.env c p) self.new result (run_from g.env limit left picking (step g.env c p)) (Some out.old) (Some out.new) }
+        ensures acted { (g : Program) (c : Config) → IsReady g (plain_image image.now) self.old c p → (limit left : ℕ) (picking : Picking) →
+            IsActed g c (step g.env c p) self.new result (run_from g.env limit left picking (step g.env c p)) (Some out.old) (Some out.new) }
         ensures written { result ≢ Some Ending.SinkFailed }
         ensures main { IfSome result IsOfMain }
     {

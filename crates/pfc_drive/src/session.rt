@@ -51,7 +51,8 @@ impl Session {
     pub fn start(alloc: Global, image: &Image, input: &[u8], seed: u64) -> Result<Session, Memory>
         requires tree { (t : ProgramTree) × (plain_image image.now ≡ image_of t) }
         ensures state { IfOk result (λ s. s ≡ start_state (plain_image image.now) input.now seed) }
-        ensures stands { IfOk result (λ s. (t : ProgramTree) → plain_image image.now ≡ image_of t → IsSmall (forget_program t) → first_fault t ≡ None → unbuilt t ≡ false → Stands (program_of t) s (start t input.now seed)) }
+        ensures stands { IfOk result (λ s. (t : ProgramTree) → plain_image image.now ≡ image_of t → IsSmall (forget_program t) → first_fault t ≡ None →
+            unbuilt t ≡ false → Stands (program_of t) s (start t input.now seed)) }
     {
         let session = Session::at_start(alloc, image, input, seed)?;
         Ok(session)

@@ -94,7 +94,8 @@ pub enters_monitor_so :
     → held_in after.world after.monitors.holders ≡ entered (held_in mid.world mid.monitors.holders) p m
     → after.monitors.owners ≡ mid.monitors.owners → after.resources ≡ mid.resources
     → EndsAt after new p line d → EntersMonitor source s new p m scope args d
-enters_monitor_so source s mid after new p scope m line cells args held doing d found has few lines ahead activates changed acted rule owners resources ends g c choice a n program is_at e on_line =
+enters_monitor_so source s mid after new p scope m line cells args held doing d found has few lines ahead activates changed acted rule owners resources ends
+    g c choice a n program is_at e on_line =
     let t : Tables = source.program.tables in
     let block : Block = block_at g scope in
     let same : block_view t held ≡ block = block_is source g scope held program found in
@@ -141,7 +142,8 @@ pub enters_resource_so :
     → HoldersChanged mid after → HasActed mid.world after.world
     → held_in after.world after.resources ≡ resource_entered (held_in mid.world mid.resources) p r → after.monitors ≡ mid.monitors
     → EndsAt after new p line d → EntersResource source s new p r scope args d
-enters_resource_so source s mid after new p scope r line cells procedure args held doing d found has few lines numbered ahead activates changed acted rule monitors ends g c choice a n program is_at e on_line =
+enters_resource_so source s mid after new p scope r line cells procedure args held doing d found has few lines numbered ahead activates changed acted rule
+    monitors ends g c choice a n program is_at e on_line =
     let t : Tables = source.program.tables in
     let block : Block = block_at g scope in
     let same : block_view t held ≡ block = block_is source g scope held program found in
@@ -202,7 +204,8 @@ pub enters_as_resource :
 enters_as_resource source s new p n number scope args d kind numbered enters g c choice a m program is_at e on_line =
     enters g c choice a m program is_at
     (e
-    ∙ enters_one source g c p n number (block_at g scope) (caller_of source.program.tables a.doing waits.Statement) (given_view args) true program kind numbered)
+    ∙ enters_one source g c p n number (block_at g scope) (caller_of source.program.tables a.doing waits.Statement)
+    (given_view args) true program kind numbered)
     on_line
 
 pub enters_as_monitor :
@@ -212,5 +215,6 @@ pub enters_as_monitor :
 enters_as_monitor source s new p n number scope args d kind numbered enters g c choice a m program is_at e on_line =
     enters g c choice a m program is_at
     (e
-    ∙ enters_one source g c p n number (block_at g scope) (caller_of source.program.tables a.doing waits.Statement) (given_view args) false program kind numbered)
+    ∙ enters_one source g c p n number (block_at g scope) (caller_of source.program.tables a.doing waits.Statement)
+    (given_view args) false program kind numbered)
     on_line

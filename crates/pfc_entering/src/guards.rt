@@ -49,7 +49,8 @@ pub(crate) fn at_guarded_body<'t>(
     resource: u32,
     procedure: u32,
 ) -> Result<Doing<'t>, Memory>
-    ensures { IfOk result (λ d. (t : Tables) → doing_ahead t d ≡ from_remainder (block_view t block.now).env (guarded_in resource procedure (block_view t block.now) (block_view t block.now).guard)) }
+    ensures { IfOk result (λ d. (t : Tables) →
+        doing_ahead t d ≡ from_remainder (block_view t block.now).env (guarded_in resource procedure (block_view t block.now) (block_view t block.now).guard)) }
 {
     match bar_at(block, resource, procedure) {
         Some(bar) => at_front(alloc, block, Pending::TryGuard(bar)),
@@ -59,14 +60,18 @@ pub(crate) fn at_guarded_body<'t>(
 
 /// A scan is at hand, and behind it a body. Its only refusal is want of memory.
 pub fn at_scan<'t>(alloc: Global, block: &Block<'t>, scan: Scan<'t>) -> Result<Doing<'t>, Memory>
-    ensures { IfOk result (λ d. (t : Tables) → doing_ahead t d ≡ from_remainder (block_view t block.now).env (scan_on (scan_view t scan.entry) (in_names (block_view t block.now).env (body_of (block_view t block.now))))) }
+    ensures { IfOk result (λ d. (t : Tables) →
+        doing_ahead t d ≡ from_remainder (block_view t block.now).env
+        (scan_on (scan_view t scan.entry) (in_names (block_view t block.now).env (body_of (block_view t block.now))))) }
 {
     at_front(alloc, block, Pending::ScanOn(scan))
 }
 
 /// What is pending in front of a body is at hand. Its only refusal is want of memory.
 fn at_front<'t>(alloc: Global, block: &Block<'t>, front: Pending<'t>) -> Result<Doing<'t>, Memory>
-    ensures { IfOk result (λ d. (t : Tables) → doing_ahead t d ≡ from_remainder (block_view t block.now).env (remainder_of (over t (behind_statement (in_names (block_view t block.now).env (body_of (block_view t block.now)))) front.entry))) }
+    ensures { IfOk result (λ d. (t : Tables) →
+        doing_ahead t d ≡ from_remainder (block_view t block.now).env
+        (remainder_of (over t (behind_statement (in_names (block_view t block.now).env (body_of (block_view t block.now)))) front.entry))) }
 {
     Ok(Doing {
         names: block.names.copy(alloc)?,
@@ -82,7 +87,8 @@ fn in_front<'t>(
     block: &Block<'t>,
     front: Pending<'t>,
 ) -> Result<Vec<Pending<'t>>, Memory>
-    ensures { IfOk result (λ parts. (t : Tables) → waiting t parts.items ≡ over t (behind_statement (in_names (block_view t block.now).env (body_of (block_view t block.now)))) front.entry) }
+    ensures { IfOk result (λ parts. (t : Tables) →
+        waiting t parts.items ≡ over t (behind_statement (in_names (block_view t block.now).env (body_of (block_view t block.now)))) front.entry) }
 {
     let names = Pending::InNames(block.names.copy(alloc)?);
     let ends = Pending::Ends(block.last_line);

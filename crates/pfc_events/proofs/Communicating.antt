@@ -68,7 +68,8 @@ side_writes_are g c q display args (Some s) h = beside_is g c q display args s.a
 
 -- ## With a partner
 
-module _ (source : Source) (g : Program) (s : State) (c : Config) (p q : ℕ) (a b : Activity) (n : Action) (before : IsBefore source s c p a n) (other : q ≢ p) (there : IsIn s.activities.items q b) where
+module _ (source : Source) (g : Program) (s : State) (c : Config) (p q : ℕ) (a b : Activity) (n : Action) (before : IsBefore source s c p a n) (other : q ≢ p)
+    (there : IsIn s.activities.items q b) where
   abbrev t : Tables
   t = source.program.tables
 
@@ -78,7 +79,8 @@ module _ (source : Source) (g : Program) (s : State) (c : Config) (p q : ℕ) (a
   shows : shown (activity_of g c q) ≡ activity_shown t b
   shows = other_is source g s c p q a b n before other there
 
-  pub written_is : (args : List Value) (arm : Arm) → accesses_seen (written_at g c q args (side_of g c q arm)) ≡ written_in store b.display args (side_held t store b arm)
+  pub written_is : (args : List Value) (arm : Arm) →
+      accesses_seen (written_at g c q args (side_of g c q arm)) ≡ written_in store b.display args (side_held t store b arm)
   written_is args arm =
       side_writes_are g c q b.display args (side_of g c q arm) (ap (λ (x : Shown). x.display) shows)
       ∙ ap (written_in c.store b.display args) (side_is t g c q arm store b shows before.agrees.store)
@@ -118,7 +120,8 @@ pub written_apart :
     (s : State) (p : ℕ) (own : Activity) (offer : HeldOffer) (accesses : List AccessSeen)
     → own ≡ get_or s.activities.items p own → None ≡ arm_in (store_view s.store) own.display (offer_view offer) → accesses ≡ [] → AreWritten s p offer accesses
 written_apart s p own offer accesses is held none source g c a n o before same =
-    none ∙ sym (ap (λ (x : Option Arm). accesses_seen (met_writes g c p o (partner_at c p x))) (arm_held source g s c p a own n o offer None before is same held))
+    none ∙ sym (ap (λ (x : Option Arm). accesses_seen (met_writes g c p o (partner_at c p x)))
+    (arm_held source g s c p a own n o offer None before is same held))
 
 abbrev seen_with : Program → Config → ℕ → Open → Option ℕ → List AccessSeen
 seen_with g c p o q = accesses_seen (met_writes g c p o q)
@@ -155,7 +158,8 @@ written_with s p q own b offer arm accesses is within there ready waits held met
     ∙ ap (λ (x : Activity). between t (store_view s.store) x b (offer_view offer) arm) (is ∙ before.there.is own)
     ∙ sym (between_is source g s c p q a b n before other (there_is s.activities.items q b within there) (offer_view offer) arm)
     ∙ sym (ap (λ (x : Offer). accesses_seen (communication_writes g c p q x (Some arm))) same)
-    ∙ sym (ap (λ (x : Option Arm). accesses_seen (communication_writes g c p q o.offer x)) (arm_held source g s c p a own n o offer (Some arm) before is same held))
+    ∙ sym (ap (λ (x : Option Arm). accesses_seen (communication_writes g c p q o.offer x))
+    (arm_held source g s c p a own n o offer (Some arm) before is same held))
     ∙ sym (met_held source g s c p a own n o offer arm (Some q) before is same held met)
 
 -- ## By a call of an entry
@@ -165,7 +169,8 @@ writes_where accepting writes = if accepting then writes else []
 
 -- as the state tells it
 called_held :
-    (source : Source) (g : Program) (s : State) (c : Config) (p q entry : ℕ) (a own : Activity) (n : Action) (spot : HeldSpot) (args : List Argument) (accepting : Bool)
+    (source : Source) (g : Program) (s : State) (c : Config) (p q entry : ℕ) (a own : Activity) (n : Action) (spot : HeldSpot)
+    (args : List Argument) (accepting : Bool)
     → IsBefore source s c p a n → own ≡ get_or s.activities.items p own → q ≡ number_in (store_view s.store) own.display (spot_view spot)
     → accepting ≡ is_accepting s.world.rows q entry
     → accesses_seen (writes_where accepting (written_at g c q (all_passed g c p (given_view args)) (side_of g c q (Entry entry))))

@@ -37,7 +37,9 @@ arms_are : (g : Program) (c : Config) (p : ℕ) (os : List remainders.Open) → 
 arms_are g c p [] = refl
 arms_are g c p (o ∷ os) = ap₂ listed_arm (arm_is g c p o.offer) (arms_are g c p os)
 
-module _ (source : Source) (g : Program) (s : State) (c : Config) (p : ℕ) (a own : Activity) (n : Action) (select : Selecting) (arms : List Arm) (before : IsBefore source s c p a n) (is : own ≡ get_or s.activities.items p own) (held : arms ≡ arms_in (store_view s.store) own.display (opens_view select.offered.items)) where
+module _ (source : Source) (g : Program) (s : State) (c : Config) (p : ℕ) (a own : Activity) (n : Action) (select : Selecting) (arms : List Arm)
+    (before : IsBefore source s c p a n) (is : own ≡ get_or s.activities.items p own) (held : arms ≡ arms_in (store_view s.store) own.display
+    (opens_view select.offered.items)) where
   places_are : matched s.world.rows p arms ≡ matched_places g c p (select_view select)
   places_are =
       ap (matched s.world.rows p)

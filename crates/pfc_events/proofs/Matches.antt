@@ -10,7 +10,8 @@ use Rattle.pfc_world.specs.Selects.{matched_from}
 pub matched_step :
     (rows : List Stand) (p : ℕ) (arms : List Arm) (i : ℕ) (d : Arm) → i < length arms
     → matched_from i rows p (drop i arms)
-    ≡ (if is_some (partner rows p (get_or arms i d)) then i ∷ matched_from (i + 1) rows p (drop (i + 1) arms) else matched_from (i + 1) rows p (drop (i + 1) arms))
+    ≡ (if is_some (partner rows p (get_or arms i d)) then
+    i ∷ matched_from (i + 1) rows p (drop (i + 1) arms) else matched_from (i + 1) rows p (drop (i + 1) arms))
 matched_step rows p arms i d h = ap (matched_from i rows p) (drop-cons arms i d h ∙ ap (λ n. get_or arms i d ∷ drop n arms) (sym (add-one i)))
 
 pub matched_end : (rows : List Stand) (p : ℕ) (arms : List Arm) (i : ℕ) → length arms ≤ i → matched_from i rows p (drop i arms) ≡ []

@@ -41,7 +41,8 @@ opens_step os i d h = drop-cons os i d h ∙ ap (λ n. get_or os i d ∷ drop n 
 pub things_step :
     (store : Store) (display : Display) (p : ℕ) (os : List Open) (i : ℕ) (d : Open) → i < length os
     → things_seen (open_things_in store display p (opens_view (drop i os)))
-    ≡ things_seen (open_thing_in store display p (offer_view (get_or os i d).offer)) ++ things_seen (open_things_in store display p (opens_view (drop (i + 1) os)))
+    ≡ things_seen (open_thing_in store display p (offer_view (get_or os i d).offer)) ++ things_seen
+    (open_things_in store display p (opens_view (drop (i + 1) os)))
 things_step store display p os i d h =
     ap (λ (l : List Open). things_seen (open_things_in store display p (opens_view l))) (opens_step os i d h)
     ∙ map-append _ (open_thing_in store display p (offer_view (get_or os i d).offer)) (open_things_in store display p (opens_view (drop (i + 1) os)))
@@ -60,7 +61,8 @@ of_piece g c p x k (Err f) = refl
 
 -- ## On both sides
 
-module _ (source : Source) (g : Program) (s : State) (c : Config) (p : ℕ) (a : Activity) (n : Action) (program : IsProgram source g) (before : IsBefore source s c p a n) where
+module _ (source : Source) (g : Program) (s : State) (c : Config) (p : ℕ) (a : Activity) (n : Action) (program : IsProgram source g)
+    (before : IsBefore source s c p a n) where
   abbrev store : Store
   store = store_view s.store
 

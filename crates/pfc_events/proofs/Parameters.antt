@@ -13,7 +13,8 @@ first_is f i (compound w) vs = refl
 
 pub parameters_step :
     (f : Frame) (values : List HeldValue) (i : ℕ) (d : HeldValue) → i < length values
-    → parameters_of f i (values_view (drop i values)) ≡ parameter_write f i (value_view (get_or values i d)) ++ parameters_of f (i + 1) (values_view (drop (i + 1) values))
+    → parameters_of f i (values_view (drop i values)) ≡ parameter_write f i (value_view (get_or values i d)) ++ parameters_of f
+    (i + 1) (values_view (drop (i + 1) values))
 parameters_step f values i d h =
     ap (λ (l : List HeldValue). parameters_of f i (values_view l)) (drop-cons values i d h ∙ ap (λ n. get_or values i d ∷ drop n values) (sym (add-one i)))
     ∙ first_is f i (value_view (get_or values i d)) (values_view (drop (i + 1) values))

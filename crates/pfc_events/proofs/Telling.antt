@@ -91,7 +91,8 @@ coming_so source s p d picking own coming is line things accesses ready g c a pr
 
 -- ## Behind it
 
-module _ (source : Source) (g : Program) (c : Config) (p choice : ℕ) (n : Action) (bytes : List ℕ) (coming : Coming) (new : State) (joins : Bool) (told : Foretells g c p choice n coming) (ends : Ends source g new c p choice n bytes Stepped) where
+module _ (source : Source) (g : Program) (c : Config) (p choice : ℕ) (n : Action) (bytes : List ℕ) (coming : Coming) (new : State) (joins : Bool)
+    (told : Foretells g c p choice n coming) (ends : Ends source g new c p choice n bytes Stepped) where
   event_by : (e : Effect) → effect g c p choice n ≡ e → event_held coming new p joins ≡ event_seen joins (event_of g c p choice n e)
   event_by (Ok d) is =
       let seen : EventSeen = event_seen joins (event_of g c p choice n (Ok d)) in

@@ -17,7 +17,8 @@ woken_is q (before ∷ rows) (now ∷ others) =
 pub woken_step :
     (ready : List Bool) (rows : List Stand) (q : ℕ) (d : Bool) → q < length ready → q < length rows
     → woken_by q (drop q ready) (drop q rows)
-    ≡ (if not (get_or ready q d) && is_ready (at rows q) then q ∷ woken_by (q + 1) (drop (q + 1) ready) (drop (q + 1) rows) else woken_by (q + 1) (drop (q + 1) ready) (drop (q + 1) rows))
+    ≡ (if not (get_or ready q d) && is_ready (at rows q) then q ∷ woken_by (q + 1) (drop (q + 1) ready) (drop (q + 1) rows) else woken_by (q + 1)
+    (drop (q + 1) ready) (drop (q + 1) rows))
 woken_step ready rows q d h k =
     ap₂ (woken_by q) (drop-cons ready q d h ∙ ap (λ n. get_or ready q d ∷ drop n ready) (sym (add-one q)))
     (drop-cons rows q Is_idle k ∙ ap (λ n. get_or rows q Is_idle ∷ drop n rows) (sym (add-one q)))
@@ -41,7 +42,8 @@ woken_last ready rows q h = ap (λ (l : List Stand). woken_by q (drop q ready) l
 -- ## One after the other
 
 where_woken :
-    (b : Bool) (q : ℕ) (items more rest : List ℕ) → (b ≡ true → more ≡ items ++ q ∷ []) → (b ≡ false → more ≡ items) → more ++ rest ≡ items ++ (if b then q ∷ rest else rest)
+    (b : Bool) (q : ℕ) (items more rest : List ℕ) → (b ≡ true → more ≡ items ++ q ∷ []) → (b ≡ false → more ≡ items) →
+    more ++ rest ≡ items ++ (if b then q ∷ rest else rest)
 where_woken true q items more rest woke slept = ap (λ (l : List ℕ). l ++ rest) (woke refl) ∙ append_assoc items (q ∷ []) rest
 where_woken false q items more rest woke slept = ap (λ (l : List ℕ). l ++ rest) (slept refl)
 

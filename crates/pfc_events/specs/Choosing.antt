@@ -25,4 +25,5 @@ IsTaken s p select picking taken =
     (source : Source) (g : Program) (c : Config) (a : Activity) (n : Action)
     → IsBefore source s c p a n
     → option_map (λ o. open_view o.now) taken
-    ≡ open_at (select_view select).offered (slice_get (matched_places g c p (select_view select)) (place_taken select.pri (choice_among picking (choices_in g c p select))))
+    ≡ open_at (select_view select).offered (slice_get (matched_places g c p (select_view select))
+    (place_taken select.pri (choice_among picking (choices_in g c p select))))

@@ -28,7 +28,8 @@ fn place_among(picker: &Picker, pri: bool, matched: u32) -> u32
 /// The place, from 0, of the alternative that is taken among these of process p that communicate; None where none of them is matched.
 fn place_of(world: &World, p: u32, arms: &[Arm], pri: bool, picker: &Picker) -> Option<u32>
     requires { length arms.now < 4294967296 }
-    ensures { result ≡ slice_get (matched world.now.rows p arms.now) (place_taken pri (choice_among picker.now (if pri then 0 else length (matched world.now.rows p arms.now)))) }
+    ensures { result ≡ slice_get (matched world.now.rows p arms.now) (place_taken pri (choice_among picker.now (if pri then
+        0 else length (matched world.now.rows p arms.now)))) }
 {
     let found = matches(world, p, arms);
     if found == 0 {

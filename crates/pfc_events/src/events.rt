@@ -62,7 +62,8 @@ pub fn foretell<'t>(
 /// The event that the action of process p was which came, by the state behind it; whether it joins behind a `coend` is known of main. It takes
 /// no memory.
 pub fn happened<'t>(told: Coming, state: &State<'t>, p: u32, joins: bool) -> Event
-    ensures { (source : HeldSource) (g : Program) (c : Config) (choice : ℕ) (n : Action) (bytes : List ℕ) → Foretells g c p choice n told → Ends source g state.now c p choice n bytes Stepped → result ≡ event_meant g c p choice n joins }
+    ensures { (source : HeldSource) (g : Program) (c : Config) (choice : ℕ) (n : Action) (bytes : List ℕ) → Foretells g c p choice n told →
+        Ends source g state.now c p choice n bytes Stepped → result ≡ event_meant g c p choice n joins }
 {
     let Coming {
         line,

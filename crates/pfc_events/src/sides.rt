@@ -50,7 +50,8 @@ fn side_writes<'t>(
     arm: Arm,
     args: &[Value],
 ) -> Result<Vec<Access>, Memory>
-    ensures { IfOk result (λ accesses. (t : Tables) → accesses.items ≡ written_in (store_view store.now) activity.now.display (values_view args.now) (side_held t (store_view store.now) activity.now arm)) }
+    ensures { IfOk result (λ accesses. (t : Tables) → accesses.items ≡ written_in (store_view store.now) activity.now.display (values_view args.now)
+        (side_held t (store_view store.now) activity.now arm)) }
 {
     let Some(met) = met_at(store, activity, arm)? else {
         return Ok(Vec::new(alloc));

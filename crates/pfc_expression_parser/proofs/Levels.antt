@@ -25,14 +25,17 @@ factor_plain (suc n) ts e =
     branch_not_taken (as_word NOT) (λ t. bind (factor_at n) (λ x. pure (negation x t.1))) (plain_factor (expr_with (factor_at n))) ts e
 
 -- a `not` where no level is left
-pub factor_deep : (n : ℕ) (ts more : List Token) (o : Unit {0} × Place) → n ≡ zero → taken (as_word NOT) ts ≡ Some (o, more) → factor_at n ts ≡ Err (deep (length ts))
+pub factor_deep : (n : ℕ) (ts more : List Token) (o : Unit {0} × Place) → n ≡ zero → taken (as_word NOT) ts ≡ Some (o, more) →
+    factor_at n ts ≡ Err (deep (length ts))
 unfolding factor_at stop_deep
 factor_deep n ts more o k e = ap (λ m. factor_at m ts) k ∙ choose_seen (is_word NOT) stop_deep (plain_factor no_expr) ts (seen_taken (as_word NOT) ts more o e)
 
 -- a `not` and the factor behind it
-pub factor_not : (n m : ℕ) (ts more : List Token) (o : Unit {0} × Place) → n ≡ suc m → taken (as_word NOT) ts ≡ Some (o, more) → factor_at n ts ≡ bind (factor_at m) (λ x. pure (negation x o.1)) more
+pub factor_not : (n m : ℕ) (ts more : List Token) (o : Unit {0} × Place) → n ≡ suc m → taken (as_word NOT) ts ≡ Some (o, more) →
+    factor_at n ts ≡ bind (factor_at m) (λ x. pure (negation x o.1)) more
 unfolding factor_at factor_with
-factor_not n m ts more o k e = ap (λ l. factor_at l ts) k ∙ branch_taken (as_word NOT) (λ t. bind (factor_at m) (λ x. pure (negation x t.1))) (plain_factor (expr_with (factor_at m))) ts more o e
+factor_not n m ts more o k e = ap (λ l. factor_at l ts) k ∙ branch_taken (as_word NOT) (λ t. bind (factor_at m) (λ x. pure (negation x t.1)))
+    (plain_factor (expr_with (factor_at m))) ts more o e
 
 -- no items, where no token is taken
 pub many_ended : {O A : Type 0} (f : Symbol → Option O) (g : O × Place → Reader A) (ts : List Token) → taken f ts ≡ None → many f g ts ≡ Ok ([], ts)

@@ -97,7 +97,8 @@ fn related(
     tokens: &[Token],
     alloc: Global,
 ) -> Result<(Expr, &[Token]), Halt>
-    ensures gives { Gives (λ r. (expr_view r.0, r.1.now)) result (bind (simple_with (factor_at levels)) (λ right. pure (trees.related (simple_view left) op right place)) tokens.now) }
+    ensures gives { Gives (λ r. (expr_view r.0, r.1.now)) result
+        (bind (simple_with (factor_at levels)) (λ right. pure (trees.related (simple_view left) op right place)) tokens.now) }
     ensures kept { IfOk result (λ r. length r.1.now < length tokens.now) }
 {
     let (right, rest) = simple(levels, tokens, alloc)?;
@@ -187,7 +188,8 @@ fn multipliers(
     tokens: &[Token],
     alloc: Global,
 ) -> Result<(Vec<((MulOp, Place), Factor)>, &[Token]), Halt>
-    ensures gives { Gives (λ r. (map (λ m. (m.0, factor_view m.1)) r.0.items, r.1.now)) result (many as_mul_op (multiplier_behind (factor_at levels)) tokens.now) }
+    ensures gives { Gives (λ r. (map (λ m. (m.0, factor_view m.1)) r.0.items, r.1.now)) result
+        (many as_mul_op (multiplier_behind (factor_at levels)) tokens.now) }
     ensures kept { IfOk result (λ r. length r.1.now ≤ length tokens.now) }
 {
     match mul_op(tokens) {
@@ -204,7 +206,8 @@ fn some_multipliers(
     tokens: &[Token],
     alloc: Global,
 ) -> Result<(Vec<((MulOp, Place), Factor)>, &[Token]), Halt>
-    ensures gives { Gives (λ r. (map (λ m. (m.0, factor_view m.1)) r.0.items, r.1.now)) result (many as_mul_op (multiplier_behind (factor_at levels)) tokens.now) }
+    ensures gives { Gives (λ r. (map (λ m. (m.0, factor_view m.1)) r.0.items, r.1.now)) result
+        (many as_mul_op (multiplier_behind (factor_at levels)) tokens.now) }
     ensures kept { IfOk result (λ r. length r.1.now ≤ length tokens.now) }
 {
     let mut multipliers = Vec::new(alloc);
@@ -452,7 +455,8 @@ fn actuals_within(
     alloc: Global,
 ) -> Result<(Vec<Actual>, &[Token]), Halt>
     ensures gives { Gives (λ r. (actuals_view r.0.items, r.1.now)) result
-        (bind (list_of (as_sign COMMA) (actual_with (expr_at levels))) (λ args. bind (take_as (as_sign CLOSE_PAREN)) (λ u. pure (actuals_of args))) tokens.now) }
+        (bind (list_of (as_sign COMMA) (actual_with (expr_at levels))) (λ args. bind (take_as (as_sign CLOSE_PAREN))
+        (λ u. pure (actuals_of args))) tokens.now) }
     ensures kept { IfOk result (λ r. length r.1.now ≤ length tokens.now) }
 {
     let (first, rest) = actual(levels, tokens, alloc)?;
@@ -485,7 +489,8 @@ fn wide(
     tokens: &[Token],
     alloc: Global,
 ) -> Result<(Actual, &[Token]), Halt>
-    ensures gives { Gives (λ r. (actual_view r.0, r.1.now)) result (bind (expr_at levels) (λ width. pure (trees.actual_width (expr_view value) width)) tokens.now) }
+    ensures gives { Gives (λ r. (actual_view r.0, r.1.now)) result
+        (bind (expr_at levels) (λ width. pure (trees.actual_width (expr_view value) width)) tokens.now) }
     ensures kept { IfOk result (λ r. length r.1.now < length tokens.now) }
 {
     let (width, rest) = expr(levels, tokens, alloc)?;
@@ -501,7 +506,8 @@ fn actuals_behind(
     tokens: &[Token],
     alloc: Global,
 ) -> Result<(Vec<Actual>, &[Token]), Halt>
-    ensures gives { Gives (λ r. (map actual_view r.0.items, r.1.now)) result (many_onto (actual_view first ∷ []) (as_sign COMMA) (λ t. actual_with (expr_at levels)) tokens.now) }
+    ensures gives { Gives (λ r. (map actual_view r.0.items, r.1.now)) result (many_onto (actual_view first ∷ []) (as_sign COMMA)
+        (λ t. actual_with (expr_at levels)) tokens.now) }
     ensures kept { IfOk result (λ r. length r.1.now ≤ length tokens.now) }
 {
     let mut args = Vec::new(alloc);

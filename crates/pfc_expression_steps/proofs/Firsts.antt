@@ -50,7 +50,8 @@ sum_alone c t (x ∷ us) u none = absurd (omega (arith, none))
 pub sum_begun :
     (c : Context) (t : TermTree) (us : List ((AddOp × Place) × Term)) (u : AwaitsValue)
     → 1 ≤ length us
-    → from_term c t (begin_sum None (summands_view us) u) (from_value c (begin_sum None (summands_view us) u)) ≡ from_simple c (sum None t (summands_view us)) u (from_value c u)
+    → from_term c t (begin_sum None (summands_view us) u) (from_value c (begin_sum None (summands_view us) u)) ≡ from_simple c
+    (sum None t (summands_view us)) u (from_value c u)
 sum_begun c t [] u some = absurd (omega (arith, some))
 sum_begun c t (x ∷ us) u some = refl
 
@@ -62,7 +63,8 @@ pub simple_as :
     → from_simple c (sum sign (term_view (out-Simple s).first) (summands_view us)) u (from_value c u) ≡ from_simple c (simple_view s) u (from_value c u)
 simple_as c s sign us u signed all =
     ap (λ (l : List ((AddOp × Place) × Term)). from_simple c (sum sign (term_view (out-Simple s).first) (summands_view l)) u (from_value c u)) all
-    ∙ ap (λ (g : Option (Sign × Place)). from_simple c (sum g (term_view (out-Simple s).first) (summands_view (out-Simple s).rest.items)) u (from_value c u)) (sym signed)
+    ∙ ap (λ (g : Option (Sign × Place)). from_simple c (sum g (term_view (out-Simple s).first) (summands_view (out-Simple s).rest.items)) u (from_value c u))
+    (sym signed)
     ∙ ap (λ (x : SimpleTree). from_simple c x u (from_value c u)) (sym (simple_view-out s))
 
 product_alone :
@@ -74,7 +76,8 @@ product_alone c f (x ∷ us) u none = absurd (omega (arith, none))
 product_begun :
     (c : Context) (f : FactorTree) (us : List ((MulOp × Place) × Factor)) (u : AwaitsValue)
     → 1 ≤ length us
-    → from_factor c f (begin_product (multipliers_view us) u) (from_value c (begin_product (multipliers_view us) u)) ≡ from_term c (product f (multipliers_view us)) u (from_value c u)
+    → from_factor c f (begin_product (multipliers_view us) u) (from_value c (begin_product (multipliers_view us) u)) ≡ from_term c
+    (product f (multipliers_view us)) u (from_value c u)
 product_begun c f [] u some = absurd (omega (arith, some))
 product_begun c f (x ∷ us) u some = refl
 

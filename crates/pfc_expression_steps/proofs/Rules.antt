@@ -55,14 +55,16 @@ add_step c v n op t rest u is = ap (λ (m : ℤ). from_term c t (add_to m op.0 r
 pub multiply_step :
     (c : Context) (v : Value) (n : ℤ) (op : MulOp × Place) (f : FactorTree) (rest : MultiplierTrees) (u : AwaitsValue)
     → n ≡ ordinal_of v
-    → from_factor c f (multiply_by n op.0 rest u) (from_value c (multiply_by n op.0 rest u)) ≡ from_multipliers c v (more_multipliers op f rest) u (from_value c u)
+    → from_factor c f (multiply_by n op.0 rest u) (from_value c (multiply_by n op.0 rest u)) ≡ from_multipliers c v
+    (more_multipliers op f rest) u (from_value c u)
 multiply_step c v n op f rest u is = ap (λ (m : ℤ). from_factor c f (multiply_by m op.0 rest u) (from_value c (multiply_by m op.0 rest u))) is
 
 pub ruleset rules = (related_step, signed_step, add_step, multiply_step)
 
 -- ## Names
 
-pub read_step : (c : Context) (s : TypedSpot) (ss : SelectorTrees) (u : AwaitsValue) → from_selectors c s ss (read_for u) (from_location c (read_for u)) ≡ from_selectors c s ss (read_for u) (λ last. reads c last.spot u)
+pub read_step : (c : Context) (s : TypedSpot) (ss : SelectorTrees) (u : AwaitsValue) →
+    from_selectors c s ss (read_for u) (from_location c (read_for u)) ≡ from_selectors c s ss (read_for u) (λ last. reads c last.spot u)
 read_step c s ss u = refl
 
 pub ruleset names = read_step
@@ -82,7 +84,8 @@ is_evaluated f = true
 type_step :
     (c : Context) (f : Function) (args : ActualTrees) (u : AwaitsValue) (t : Option TypeId)
     → t ≡ first_type c.env args
-    → from_argument c args (apply f t u) (from_value c (apply f t u)) ≡ from_argument c args (apply f (first_type c.env args) u) (from_value c (apply f (first_type c.env args) u))
+    → from_argument c args (apply f t u) (from_value c (apply f t u)) ≡ from_argument c args (apply f (first_type c.env args) u)
+    (from_value c (apply f (first_type c.env args) u))
 type_step c f args u t is = ap (λ (x : Option TypeId). from_argument c args (apply f x u) (from_value c (apply f x u))) is
 
 pub evaluated_step :
@@ -105,7 +108,8 @@ evaluated_step c no_function args u t is so = type_step c no_function args u t i
 
 pub evaluated_kind :
     (f : HeldFunction)
-    → f ≡ held.Abs ⊎ (f ≡ held.Sqr ⊎ (f ≡ held.Odd ⊎ (f ≡ held.Ord ⊎ (f ≡ held.Chr ⊎ (f ≡ held.Succ ⊎ (f ≡ held.Pred ⊎ (f ≡ held.Random ⊎ f ≡ held.NoFunction)))))))
+    → f ≡ held.Abs ⊎ (f ≡ held.Sqr ⊎
+    (f ≡ held.Odd ⊎ (f ≡ held.Ord ⊎ (f ≡ held.Chr ⊎ (f ≡ held.Succ ⊎ (f ≡ held.Pred ⊎ (f ≡ held.Random ⊎ f ≡ held.NoFunction)))))))
     → is_evaluated (function_view f) ≡ true
 evaluated_kind f (inl is) = ap (λ x. is_evaluated (function_view x)) is
 evaluated_kind f (inr (inl is)) = ap (λ x. is_evaluated (function_view x)) is
@@ -131,7 +135,8 @@ first_evaluated c (x ∷ rest) a u go e some is item =
 pub reference_step :
     (c : Context) (f : Formal) (formals : List Formal) (a : ActualTree) (rest : ActualTrees) (given : List Argument) (call : Call)
     → f.reference ≡ true
-    → from_lent c a (pass_variable formals rest given call) (from_location c (pass_variable formals rest given call)) ≡ from_args c (f ∷ formals) (more_actuals a rest) given call
+    → from_lent c a (pass_variable formals rest given call) (from_location c (pass_variable formals rest given call)) ≡ from_args c
+    (f ∷ formals) (more_actuals a rest) given call
 reference_step c f formals a rest given call is =
     sym (ap (λ (b : Bool).
     if b
@@ -141,7 +146,8 @@ reference_step c f formals a rest given call is =
 pub value_step :
     (c : Context) (f : Formal) (formals : List Formal) (a : ActualTree) (rest : ActualTrees) (given : List Argument) (call : Call) (e : ExprTree)
     → f.reference ≡ false → e ≡ item_of a
-    → from_expr c e (pass_value formals rest given call) (from_value c (pass_value formals rest given call)) ≡ from_args c (f ∷ formals) (more_actuals a rest) given call
+    → from_expr c e (pass_value formals rest given call) (from_value c (pass_value formals rest given call)) ≡ from_args c
+    (f ∷ formals) (more_actuals a rest) given call
 value_step c f formals a rest given call e is item =
     first_given c a rest (pass_value formals rest given call) (from_value c (pass_value formals rest given call)) e item
     ∙ sym (ap (λ (b : Bool).
@@ -162,19 +168,23 @@ index_step c s e es ss goal = refl
 pub ruleset indices = index_step
 
 pub assign_step :
-    (c : Context) (e : ExprTree) (k : Remainder) (s : TypedSpot) → from_expr c e (store_at s.spot k) (from_value c (store_at s.spot k)) ≡ from_location c (assign_to e k) s
+    (c : Context) (e : ExprTree) (k : Remainder) (s : TypedSpot) →
+    from_expr c e (store_at s.spot k) (from_value c (store_at s.spot k)) ≡ from_location c (assign_to e k) s
 assign_step c e k s = refl
 
 pub initial_step :
-    (c : Context) (e : ExprTree) (k : Remainder) (s : TypedSpot) → from_expr c e (set_count s.spot k) (from_value c (set_count s.spot k)) ≡ from_location c (initial_to e k) s
+    (c : Context) (e : ExprTree) (k : Remainder) (s : TypedSpot) →
+    from_expr c e (set_count s.spot k) (from_value c (set_count s.spot k)) ≡ from_location c (initial_to e k) s
 initial_step c e k s = refl
 
 pub delay_step :
-    (c : Context) (e : ExprTree) (k : Remainder) (s : TypedSpot) → from_expr c e (delay_with s.spot k) (from_value c (delay_with s.spot k)) ≡ from_location c (delay_at (Some e) k) s
+    (c : Context) (e : ExprTree) (k : Remainder) (s : TypedSpot) →
+    from_expr c e (delay_with s.spot k) (from_value c (delay_with s.spot k)) ≡ from_location c (delay_at (Some e) k) s
 delay_step c e k s = refl
 
 pub send_step :
-    (c : Context) (e : ExprTree) (k : Remainder) (s : TypedSpot) → from_expr c e (send_on s.spot k) (from_value c (send_on s.spot k)) ≡ from_location c (send_to (Some e) k) s
+    (c : Context) (e : ExprTree) (k : Remainder) (s : TypedSpot) →
+    from_expr c e (send_on s.spot k) (from_value c (send_on s.spot k)) ≡ from_location c (send_to (Some e) k) s
 send_step c e k s = refl
 
 pub receive_step :
@@ -207,13 +217,15 @@ pub element_step :
     → element_spot c.env.state.forms s (ordinal_of a) ≡ Some x
     → from_indices c x es ss goal (λ last. from_selectors c last ss goal (from_location c goal)) ≡ from_value c (index_into s es ss goal) a
 element_step c s es ss goal a x is =
-    sym (ap (λ (found : Option TypedSpot). with_element c found (λ t. from_indices c t es ss goal (λ last. from_selectors c last ss goal (from_location c goal)))) is)
+    sym (ap (λ (found : Option TypedSpot). with_element c found
+    (λ t. from_indices c t es ss goal (λ last. from_selectors c last ss goal (from_location c goal)))) is)
 
 pub outside_step :
     (c : Context) (s : TypedSpot) (es : ExprTrees) (ss : SelectorTrees) (goal : AwaitsLocation) (a : Value)
     → element_spot c.env.state.forms s (ordinal_of a) ≡ None → faults c Index ≡ from_value c (index_into s es ss goal) a
 outside_step c s es ss goal a is =
-    sym (ap (λ (found : Option TypedSpot). with_element c found (λ t. from_indices c t es ss goal (λ last. from_selectors c last ss goal (from_location c goal)))) is)
+    sym (ap (λ (found : Option TypedSpot). with_element c found
+    (λ t. from_indices c t es ss goal (λ last. from_selectors c last ss goal (from_location c goal)))) is)
 
 pub ruleset values = (with_ok, with_fault, compared_step, wide_step)
 

@@ -27,7 +27,8 @@ use Rattle.pfc_expression_steps.specs.declared.variables.Reason.TheVariants as r
 abbrev pub reached_ahead : Tables → Context → Waiting → SelectorTrees → Reached → Action
 reached_ahead s c w ss (reached.Step step) = step_ahead s c w step
 reached_ahead s c w ss (reached.Back reason.Select spot goal) = from_location c (goal_over w goal) (typed_spot_view spot)
-reached_ahead s c w ss (reached.Back reason.Memory spot goal) = from_selectors c (typed_spot_view spot) ss (goal_over w goal) (from_location c (goal_over w goal))
+reached_ahead s c w ss (reached.Back reason.Memory spot goal) =
+    from_selectors c (typed_spot_view spot) ss (goal_over w goal) (from_location c (goal_over w goal))
 
 -- what waits for a variable in a select
 abbrev pub is_of_select : Goal → Bool

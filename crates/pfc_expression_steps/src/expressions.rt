@@ -26,7 +26,8 @@ use pfc_tree::{AddOp, Expr, Factor, MulOp, Relation, Sign, Simple, Term};
 /// An expression: its left side, or the only one, which is read at once.
 #[inline(always)]
 pub fn expr<'t>(e: &'t Expr, site: Site<'t, '_>) -> Step<'t>
-    ensures { (t : Tables) (line : ℕ) (w : Waiting) → let c = context (env_view site.entry.env) line in step_ahead t c w result ≡ ahead t c w (at.Expr e.entry) }
+    ensures { (t : Tables) (line : ℕ) (w : Waiting) → let c =
+        context (env_view site.entry.env) line in step_ahead t c w result ≡ ahead t c w (at.Expr e.entry) }
 {
     match sides(e) {
         Step::On(At::Simple(only)) => simple(only, site),
@@ -62,7 +63,8 @@ fn related<'a>(
 /// A sum: its first term, under the sign and the terms behind it where there are any.
 #[inline(always)]
 pub fn simple<'t>(s: &'t Simple, site: Site<'t, '_>) -> Step<'t>
-    ensures { (t : Tables) (line : ℕ) (w : Waiting) → let c = context (env_view site.entry.env) line in step_ahead t c w result ≡ ahead t c w (at.Simple s.entry) }
+    ensures { (t : Tables) (line : ℕ) (w : Waiting) → let c =
+        context (env_view site.entry.env) line in step_ahead t c w result ≡ ahead t c w (at.Simple s.entry) }
 {
     match s.sign {
         None => unsigned(&s.first, s.rest.as_slice(), site),
@@ -74,7 +76,8 @@ pub fn simple<'t>(s: &'t Simple, site: Site<'t, '_>) -> Step<'t>
 #[tactic(auto, using(crate::proofs::Firsts::sums))]
 #[inline(always)]
 fn unsigned<'t>(first: &'t Term, rest: &'t [((AddOp, Place), Term)], site: Site<'t, '_>) -> Step<'t>
-    ensures { (t : Tables) (line : ℕ) (w : Waiting) → let c = context (env_view site.entry.env) line in step_ahead t c w result ≡ from_simple c (trees.sum None (term_view first.now) (summands_view rest.now)) (awaits_of w) (from_value c (awaits_of w)) }
+    ensures { (t : Tables) (line : ℕ) (w : Waiting) → let c = context (env_view site.entry.env) line in step_ahead t c w result ≡ from_simple c
+        (trees.sum None (term_view first.now) (summands_view rest.now)) (awaits_of w) (from_value c (awaits_of w)) }
 {
     match rest {
         [] => term(first, site),
@@ -86,7 +89,9 @@ fn unsigned<'t>(first: &'t Term, rest: &'t [((AddOp, Place), Term)], site: Site<
 #[tactic(auto, using(crate::proofs::Rules::rules))]
 #[inline(always)]
 fn signed<'a>(sign: (Sign, Place), first: &'a Term, rest: &'a [((AddOp, Place), Term)]) -> Step<'a>
-    ensures { (t : Tables) (c : Context) (w : Waiting) → step_ahead t c w result ≡ from_simple c (trees.sum (Some sign) (term_view first.now) (summands_view rest.now)) (awaits_of w) (from_value c (awaits_of w)) }
+    ensures { (t : Tables) (c : Context) (w : Waiting) →
+        step_ahead t c w result ≡ from_simple c (trees.sum (Some sign) (term_view first.now) (summands_view rest.now))
+        (awaits_of w) (from_value c (awaits_of w)) }
 {
     Step::Under(Pending::BeginSum(Some(sign), rest), At::Term(first))
 }
@@ -119,7 +124,8 @@ fn add<'a>(
 /// A product: its first factor, under the factors behind it where there are any.
 #[inline(always)]
 pub fn term<'t>(t: &'t Term, site: Site<'t, '_>) -> Step<'t>
-    ensures { (tables : Tables) (line : ℕ) (w : Waiting) → let c = context (env_view site.entry.env) line in step_ahead tables c w result ≡ ahead tables c w (at.Term t.entry) }
+    ensures { (tables : Tables) (line : ℕ) (w : Waiting) → let c =
+        context (env_view site.entry.env) line in step_ahead tables c w result ≡ ahead tables c w (at.Term t.entry) }
 {
     match t.rest.as_slice() {
         [] => factor(&t.first, site),

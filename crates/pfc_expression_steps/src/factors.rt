@@ -27,7 +27,8 @@ use pfc_typing::first_type;
 
 /// A factor.
 pub fn factor<'t>(f: &'t Factor, site: Site<'t, '_>) -> Step<'t>
-    ensures { (t : Tables) (line : ℕ) (w : Waiting) → let c = context (env_view site.entry.env) line in step_ahead t c w result ≡ ahead t c w (at.Factor f.entry) }
+    ensures { (t : Tables) (line : ℕ) (w : Waiting) → let c =
+        context (env_view site.entry.env) line in step_ahead t c w result ≡ ahead t c w (at.Factor f.entry) }
 {
     match f {
         Factor::Number(n, _place) => Step::On(At::Value(Value::of(*n as i64))),
@@ -80,7 +81,8 @@ fn meant<'t>(
 /// The value of a variable, or of the part of it that selectors lead to.
 #[tactic(auto, using(crate::proofs::Rules::names))]
 fn value_of<'t>(spot: TypedSpot, ss: &'t [Selector]) -> Step<'t>
-    ensures { (t : Tables) (c : Context) (w : Waiting) → step_ahead t c w result ≡ from_selectors c (typed_spot_view spot) (selectors_view ss.now) (read_for (awaits_of w)) (λ last. reads c last.spot (awaits_of w)) }
+    ensures { (t : Tables) (c : Context) (w : Waiting) → step_ahead t c w result ≡ from_selectors c (typed_spot_view spot) (selectors_view ss.now)
+        (read_for (awaits_of w)) (λ last. reads c last.spot (awaits_of w)) }
 {
     match ss {
         [] => Step::On(At::Deed(Deed::Reads(spot.spot))),
@@ -91,7 +93,8 @@ fn value_of<'t>(spot: TypedSpot, ss: &'t [Selector]) -> Step<'t>
 /// A function of the program with its arguments.
 #[inline(never)]
 fn call<'t>(n: u32, args: &'t Vec<Actual>, site: Site<'t, '_>) -> Step<'t>
-    ensures { (t : Tables) (line : ℕ) (w : Waiting) → let c = context (env_view site.entry.env) line in let head = sub_at (env_view site.entry.env).state.blocks n in
+    ensures { (t : Tables) (line : ℕ) (w : Waiting) → let c = context (env_view site.entry.env) line in let head =
+        sub_at (env_view site.entry.env).state.blocks n in
         step_ahead t c w result ≡ from_args c head.formals (actuals_view args.now.items) [] (to_function head.scope (awaits_of w)) }
 {
     let scopes = site.scopes();

@@ -23,7 +23,8 @@ use pfc_types::Formal;
 
 /// The arguments that are left of a call: the first of them, or the call where none or no parameter is left.
 pub fn pass<'t>(p: Passing<'t>, site: Site<'t, '_>) -> Step<'t>
-    ensures { (t : Tables) (line : ℕ) (w : Waiting) → let c = context (env_view site.entry.env) line in step_ahead t c w result ≡ ahead t c w (at.Passing p.entry) }
+    ensures { (t : Tables) (line : ℕ) (w : Waiting) → let c =
+        context (env_view site.entry.env) line in step_ahead t c w result ≡ ahead t c w (at.Passing p.entry) }
 {
     let Some((actual, rest)) = first(p.rest) else {
         return Step::On(At::Deed(Deed::Calls(p.callee, p.given)))

@@ -176,7 +176,8 @@ fn begin_sum<'t>(
     rest: &'t [((AddOp, Place), Term)],
     v: Value,
 ) -> Step<'t>
-    ensures { (t : Tables) (c : Context) (w : Waiting) → step_ahead t c w result ≡ from_value c (remainders.begin_sum sign (summands_view rest.now) (awaits_of w)) (value_view v) }
+    ensures { (t : Tables) (c : Context) (w : Waiting) →
+        step_ahead t c w result ≡ from_value c (remainders.begin_sum sign (summands_view rest.now) (awaits_of w)) (value_view v) }
 {
     match signed(sign, v.ordinal()) {
         Ok(n) => summands(Value::of(n), rest),
@@ -188,7 +189,8 @@ fn begin_sum<'t>(
 #[tactic(auto, using(crate::proofs::Rules::values))]
 #[inline(always)]
 fn add_to<'t>(n: i64, op: AddOp, rest: &'t [((AddOp, Place), Term)], v: Value) -> Step<'t>
-    ensures { (t : Tables) (c : Context) (w : Waiting) → step_ahead t c w result ≡ from_value c (remainders.add_to n op (summands_view rest.now) (awaits_of w)) (value_view v) }
+    ensures { (t : Tables) (c : Context) (w : Waiting) →
+        step_ahead t c w result ≡ from_value c (remainders.add_to n op (summands_view rest.now) (awaits_of w)) (value_view v) }
 {
     match added(op, n, v.ordinal()) {
         Ok(sum) => summands(Value::of(sum), rest),
@@ -200,7 +202,8 @@ fn add_to<'t>(n: i64, op: AddOp, rest: &'t [((AddOp, Place), Term)], v: Value) -
 #[tactic(auto, using(crate::proofs::Rules::values))]
 #[inline(always)]
 fn multiply_by<'t>(n: i64, op: MulOp, rest: &'t [((MulOp, Place), Factor)], v: Value) -> Step<'t>
-    ensures { (t : Tables) (c : Context) (w : Waiting) → step_ahead t c w result ≡ from_value c (remainders.multiply_by n op (multipliers_view rest.now) (awaits_of w)) (value_view v) }
+    ensures { (t : Tables) (c : Context) (w : Waiting) →
+        step_ahead t c w result ≡ from_value c (remainders.multiply_by n op (multipliers_view rest.now) (awaits_of w)) (value_view v) }
 {
     match multiplied(op, n, v.ordinal()) {
         Ok(product) => multipliers(Value::of(product), rest),
@@ -212,7 +215,8 @@ fn multiply_by<'t>(n: i64, op: MulOp, rest: &'t [((MulOp, Place), Factor)], v: V
 #[tactic(auto, using(crate::proofs::Rules::values))]
 #[inline(always)]
 fn compare_with<'t>(relation: Relation, right: &'t Simple, v: Value) -> Step<'t>
-    ensures { (t : Tables) (c : Context) (w : Waiting) → step_ahead t c w result ≡ from_value c (remainders.compare_with relation (simple_view right.now) (awaits_of w)) (value_view v) }
+    ensures { (t : Tables) (c : Context) (w : Waiting) →
+        step_ahead t c w result ≡ from_value c (remainders.compare_with relation (simple_view right.now) (awaits_of w)) (value_view v) }
 {
     Step::Under(Pending::CompareTo(v.ordinal(), relation), At::Simple(right))
 }
@@ -220,7 +224,8 @@ fn compare_with<'t>(relation: Relation, right: &'t Simple, v: Value) -> Step<'t>
 /// The right side of a relation.
 #[inline(always)]
 fn compare_to<'t>(n: i64, relation: Relation, v: Value) -> Step<'t>
-    ensures { (t : Tables) (c : Context) (w : Waiting) → step_ahead t c w result ≡ from_value c (remainders.compare_to n relation (awaits_of w)) (value_view v) }
+    ensures { (t : Tables) (c : Context) (w : Waiting) →
+        step_ahead t c w result ≡ from_value c (remainders.compare_to n relation (awaits_of w)) (value_view v) }
 {
     Step::On(At::Value(Value::of(compared(relation, n, v.ordinal()))))
 }
@@ -235,7 +240,8 @@ fn invert<'t>(v: Value) -> Step<'t>
 
 /// The argument of a function.
 fn finish<'t>(f: Function, t: Option<TypeId>, v: Value) -> Step<'t>
-    ensures { (s : Tables) (c : Context) (w : Waiting) → step_ahead s c w result ≡ from_value c (remainders.apply (function_view f) t (awaits_of w)) (value_view v) }
+    ensures { (s : Tables) (c : Context) (w : Waiting) →
+        step_ahead s c w result ≡ from_value c (remainders.apply (function_view f) t (awaits_of w)) (value_view v) }
 {
     match f {
         Function::Random => Step::On(At::Deed(Deed::Draws(v.ordinal()))),
@@ -293,14 +299,16 @@ fn show<'t>(t: Option<TypeId>, v: Value) -> Step<'t>
 /// The same, before its width.
 #[tactic(auto, using(crate::proofs::Rules::values))]
 fn show_wide<'t>(t: Option<TypeId>, width: &'t Expr, v: Value) -> Step<'t>
-    ensures { (s : Tables) (c : Context) (w : Waiting) → step_ahead s c w result ≡ from_value c (remainders.show_wide t (expr_view width.now) (remainder_of w)) (value_view v) }
+    ensures { (s : Tables) (c : Context) (w : Waiting) →
+        step_ahead s c w result ≡ from_value c (remainders.show_wide t (expr_view width.now) (remainder_of w)) (value_view v) }
 {
     Step::Under(Pending::Pad(shown(t, &v)), At::Expr(width))
 }
 
 /// The width of a piece.
 fn pad<'t>(piece: Piece<'t>, v: Value) -> Step<'t>
-    ensures { (t : Tables) (c : Context) (w : Waiting) → step_ahead t c w result ≡ from_value c (remainders.pad (piece_bytes piece.entry) (remainder_of w)) (value_view v) }
+    ensures { (t : Tables) (c : Context) (w : Waiting) →
+        step_ahead t c w result ≡ from_value c (remainders.pad (piece_bytes piece.entry) (remainder_of w)) (value_view v) }
 {
     Step::On(At::Deed(Deed::Prints(piece, Some(v.ordinal()))))
 }

@@ -228,7 +228,8 @@ fn reach_other<'t>(spot: TypedSpot, goal: Goal<'t>, site: Site<'t, '_>) -> Reach
 
 /// The arguments of a call, from the first on.
 fn call<'t>(formals: &'t [Formal], rest: Actuals<'t>, callee: Callee, alloc: Global) -> Reached<'t>
-    ensures next { (t : Tables) (c : Context) (w : Waiting) → reached_ahead t c w no_selectors result ≡ from_args c formals.now (actuals_left rest.entry) [] (callee_view w callee) }
+    ensures next { (t : Tables) (c : Context) (w : Waiting) →
+        reached_ahead t c w no_selectors result ≡ from_args c formals.now (actuals_left rest.entry) [] (callee_view w callee) }
     ensures select { is_for_select result ≡ false }
 {
     Reached::Step(Step::On(At::Passing(Passing {

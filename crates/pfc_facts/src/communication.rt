@@ -20,7 +20,8 @@ fn is_signal(d: &Desig, env: Env) -> bool
 
 /// The message that is sent, None for `any`.
 pub fn message_of<'a>(e: &'a Expr, env: Env) -> Option<&'a Expr>
-    ensures { (line : ℕ) → option_map (λ m. expr_view m.now) result ≡ alternatives.message_of (alternatives.context (env_view env.entry) line) (expr_view e.now) }
+    ensures { (line : ℕ) →
+        option_map (λ m. expr_view m.now) result ≡ alternatives.message_of (alternatives.context (env_view env.entry) line) (expr_view e.now) }
 {
     match as_desig(e) {
         Some(d) if is_signal(d, env) => None,
@@ -30,7 +31,8 @@ pub fn message_of<'a>(e: &'a Expr, env: Env) -> Option<&'a Expr>
 
 /// The variable that receives a message, None for `any`.
 pub fn receiver_of<'a>(d: &'a Desig, env: Env) -> Option<&'a Desig>
-    ensures { (line : ℕ) → option_map (λ m. desig_view m.now) result ≡ alternatives.receiver_of (alternatives.context (env_view env.entry) line) (desig_view d.now) }
+    ensures { (line : ℕ) →
+        option_map (λ m. desig_view m.now) result ≡ alternatives.receiver_of (alternatives.context (env_view env.entry) line) (desig_view d.now) }
 {
     if is_signal(d, env) { None } else { Some(d) }
 }

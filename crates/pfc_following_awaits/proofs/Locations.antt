@@ -53,7 +53,8 @@ module _ (g : Setting) (b : Block) (names : List Level) (around : Around) (check
       {n : Action} (l : Spot) (t : Option TypeId) (w : ℤ) (at : ℕ) (ops : List ℤ) (code : Code) (behind : ℕ → Type 0)
       → IsWord g.view s l t w → is_object_type g.program.state.forms t ≡ true → ObjectThen g s at ops code behind
       → ((i : ℤ) → IsObject g s l t i → Follows g n (at + 1) (i ∷ ops) []) → Follows g n at (w ∷ ops) []
-  object_then l t w at ops code behind lies object st on = object_follows g b names around checked line [] none l t w at ops lies object st.0 (room_for g st.2) on
+  object_then l t w at ops code behind lies object st on =
+      object_follows g b names around checked line [] none l t w at ops lies object st.0 (room_for g st.2) on
 
   typed : (l : Spot) (t u : Option TypeId) (w : ℤ) → t ≡ u → IsWord g.view s l t w → IsWord g.view s l u w
   typed l t u w e lies = subst (λ (y : Option TypeId). IsWord g.view s l y w) e lies
@@ -152,27 +153,32 @@ module _ (g : Setting) (b : Block) (names : List Level) (around : Around) (check
   location_follows (initial_to e k) t l w at ops arms few room lies h =
       let p = h.1 in
       cleared at (w ∷ ops) arms h.0.1
-      (object_then l.spot (Some semaphore) w at ops (expr_code s e ⨾ one s SINI) (λ end. Performs g b (env_in g names around) end ops [] k) (typed l.spot t (Some semaphore) w p.0 lies) refl p.2
+      (object_then l.spot (Some semaphore) w at ops (expr_code s e ⨾ one s SINI) (λ end. Performs g b (env_in g names around) end ops [] k)
+      (typed l.spot t (Some semaphore) w p.0 lies) refl p.2
       (λ i object. count_follows g b names around checked none h.0.0 line l.spot e k (at + 1) p.2.1 i ops p.1 object p.2.2 p.2.3))
   location_follows (wait_at k) t l w at ops arms few room lies h =
       let p = h.1 in
       cleared at (w ∷ ops) arms h.0.1
-      (object_then l.spot (Some semaphore) w at ops (one s SWAIT) (λ end. Performs g b (env_in g names around) end ops [] k) (typed l.spot t (Some semaphore) w p.0 lies) refl p.1
+      (object_then l.spot (Some semaphore) w at ops (one s SWAIT) (λ end. Performs g b (env_in g names around) end ops [] k)
+      (typed l.spot t (Some semaphore) w p.0 lies) refl p.1
       (λ i object. arrives (at + 1) (i ∷ ops) [] (b, checked, ((h.0.0, refl), (i, ops, refl, object, lone g s (λ at n. SWAIT) p.1.2, p.1.3)))))
   location_follows (signal_at k) t l w at ops arms few room lies h =
       let p = h.1 in
       cleared at (w ∷ ops) arms h.0.1
-      (object_then l.spot (Some semaphore) w at ops (one s SSIG) (λ end. Performs g b (env_in g names around) end ops [] k) (typed l.spot t (Some semaphore) w p.0 lies) refl p.1
+      (object_then l.spot (Some semaphore) w at ops (one s SSIG) (λ end. Performs g b (env_in g names around) end ops [] k)
+      (typed l.spot t (Some semaphore) w p.0 lies) refl p.1
       (λ i object. arrives (at + 1) (i ∷ ops) [] (b, checked, ((h.0.0, refl), (i, ops, refl, object, lone g s (λ at n. SSIG) p.1.2, p.1.3)))))
   location_follows (delay_at rank k) t l w at ops arms few room lies h =
       let p = h.1 in
       cleared at (w ∷ ops) arms h.0.1
-      (object_then l.spot (Some condition) w at ops _ (λ end. Performs g b (env_in g names around) end ops [] k) (typed l.spot t (Some condition) w p.0 lies) refl p.2
+      (object_then l.spot (Some condition) w at ops _ (λ end. Performs g b (env_in g names around) end ops [] k)
+      (typed l.spot t (Some condition) w p.0 lies) refl p.2
       (λ i object. rank_follows g b names around checked none h.0.0 line l.spot rank k (at + 1) p.2.1 i ops p.1 object p.2.2 p.2.3))
   location_follows (resume_at k) t l w at ops arms few room lies h =
       let p = h.1 in
       cleared at (w ∷ ops) arms h.0.1
-      (object_then l.spot (Some condition) w at ops (one s RESUME) (λ end. Performs g b (env_in g names around) end ops [] k) (typed l.spot t (Some condition) w p.0 lies) refl p.1
+      (object_then l.spot (Some condition) w at ops (one s RESUME) (λ end. Performs g b (env_in g names around) end ops [] k)
+      (typed l.spot t (Some condition) w p.0 lies) refl p.1
       (λ i object. arrives (at + 1) (i ∷ ops) [] (b, checked, ((h.0.0, refl), (i, ops, refl, object, lone g s (λ at n. RESUME) p.1.2, p.1.3)))))
   location_follows (send_to m k) t l w at ops arms few room lies h =
       let p = h.1 in

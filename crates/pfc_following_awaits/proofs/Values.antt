@@ -87,7 +87,8 @@ module _ (g : Setting) (b : Block) (names : List Level) (around : Around) (check
   cleared {n} at ops arms e h = subst (λ (y : List Arm). Follows g n at ops y) (sym e) h
 
   -- the operands are these
-  operands : {n : Action} (v : ℤ) (at : ℕ) (ops below : List ℤ) (arms : List Arm) → ops ≡ below → Follows g n at (v ∷ below) arms → Follows g n at (v ∷ ops) arms
+  operands : {n : Action} (v : ℤ) (at : ℕ) (ops below : List ℤ) (arms : List Arm) → ops ≡ below →
+      Follows g n at (v ∷ below) arms → Follows g n at (v ∷ ops) arms
   operands {n} v at ops below arms e h = subst (λ (y : List ℤ). Follows g n at (v ∷ y) arms) (sym e) h
 
   -- ## What stands behind
@@ -97,7 +98,8 @@ module _ (g : Setting) (b : Block) (names : List Level) (around : Around) (check
 
   stmt_then :
       g.trial ≡ of_own → (l m : ℕ) (t : StmtTree) (k : Remainder) (at : ℕ) (ops : List ℤ) → length ops ≤ g.room
-      → StmtThen g (site_of g b (context (env_in g names around) l)) at (length ops) m t (λ end. Performs g b x.env end ops [] k) → Follows g (from_stmt x.env m t k (from_remainder x.env k)) at ops []
+      → StmtThen g (site_of g b (context (env_in g names around) l)) at (length ops) m t (λ end. Performs g b x.env end ops [] k) →
+      Follows g (from_stmt x.env m t k (from_remainder x.env k)) at ops []
   stmt_then own l m t k at ops room h =
       let end = at + (stmt_code (site_of g b (context (env_in g names around) l)) m t).size in
       every_statement_anywhere g b (env_in g names around) checked own t l m k (from_remainder (env_in g names around) k) at h.0 end ops h.1 refl h.2
@@ -109,8 +111,10 @@ module _ (g : Setting) (b : Block) (names : List Level) (around : Around) (check
   held_words words ops = length-append (reverse words) ops ∙ ap (λ (n : ℕ). n + length ops) (length-reverse words)
 
   passed_value :
-      (h : Shape) (v : Value) (rest : List Formal) (args : ActualTrees) (given : List Argument) (call : Call) (at : ℕ) (ops : List ℤ) (arms : List Arm) → length arms ≤ g.arms → IsShaped forms h v
-      → TakesValue g b x at ops arms h (pass_value rest args given call) → Follows g (from_args x rest args (given ++ by_value v ∷ []) call) at (reverse (words_of v) ++ ops) arms
+      (h : Shape) (v : Value) (rest : List Formal) (args : ActualTrees) (given : List Argument) (call : Call) (at : ℕ) (ops : List ℤ) (arms : List Arm) →
+      length arms ≤ g.arms → IsShaped forms h v
+      → TakesValue g b x at ops arms h (pass_value rest args given call) →
+      Follows g (from_args x rest args (given ++ by_value v ∷ []) call) at (reverse (words_of v) ++ ops) arms
   passed_value h v rest args given call at ops arms few shaped p =
       let before = p.0 in
       let f = p.1 in
@@ -119,10 +123,12 @@ module _ (g : Setting) (b : Block) (names : List Level) (around : Around) (check
       let code = args_code s rest args in
       let is = shaped_is_of forms checked.sound t h v p.6 shaped in
       let count : length (words_of v) ≡ shape_cells forms h = words_count forms checked.sound t v is ∙ ap (λ (y : Shape). shape_cells forms y) (sym p.6) in
-      let size : shape_cells forms h + length ops ≡ length (reverse (words_of v) ++ ops) = sym (held_words (words_of v) ops ∙ ap (λ (n : ℕ). n + length ops) count) in
+      let size : shape_cells forms h + length ops ≡ length (reverse (words_of v) ++ ops) =
+      sym (held_words (words_of v) ops ∙ ap (λ (n : ℕ). n + length ops) count) in
       let calls = subst (λ (fs : List Formal). CallsAt g b x (at + code.size) below arms fs call) (sym (append_assoc before (f ∷ []) rest)) p.11 in
       arguments_follow g b x checked arms few args rest p.8 (before ++ f ∷ []) (given ++ by_value v ∷ []) call at p.9 (reverse (words_of v) ++ ops) below
-      (one_more before given ops below f (by_value v) (words_of v) p.7 (t, p.4, p.5, is, refl)) (stands_over g (length (reverse (words_of v) ++ ops)) size p.10) calls
+      (one_more before given ops below f (by_value v) (words_of v) p.7 (t, p.4, p.5, is, refl))
+      (stands_over g (length (reverse (words_of v) ++ ops)) size p.10) calls
 
   stored_value :
       (h : Shape) (v : Value) (spot : Spot) (k : Remainder) (at : ℕ) (ops : List ℤ) (arms : List Arm) → IsShaped forms h v
@@ -171,8 +177,10 @@ module _ (g : Setting) (b : Block) (names : List Level) (around : Around) (check
       ))
 
   offered_value :
-      (h : Shape) (v : Value) (channel : Spot) (a : Alternative) (rest : List Alternative) (sel : Selecting) (k : Remainder) (at : ℕ) (ops : List ℤ) (arms : List Arm) → length (reverse (words_of v) ++ ops) ≤ g.room → IsShaped forms h v
-      → TakesValue g b x at ops arms h (offer_value channel a rest sel k) → Follows g (from_value x (offer_value channel a rest sel k) v) at (reverse (words_of v) ++ ops) arms
+      (h : Shape) (v : Value) (channel : Spot) (a : Alternative) (rest : List Alternative) (sel : Selecting) (k : Remainder) (at : ℕ) (ops : List ℤ)
+      (arms : List Arm) → length (reverse (words_of v) ++ ops) ≤ g.room → IsShaped forms h v
+      → TakesValue g b x at ops arms h (offer_value channel a rest sel k) →
+      Follows g (from_value x (offer_value channel a rest sel k) v) at (reverse (words_of v) ++ ops) arms
   offered_value h v channel a rest sel k at ops arms room shaped is =
       let p = is.1 in
       let held = held_words (words_of v) ops in
@@ -190,16 +198,19 @@ module _ (g : Setting) (b : Block) (names : List Level) (around : Around) (check
   sized_sign (Some (Minus, p)) = λ at n. refl
 
   pub numbers_follow :
-      (u : AwaitsValue) (v : ℤ) (at : ℕ) (ops : List ℤ) (arms : List Arm) → length arms ≤ g.arms → suc (length ops) ≤ g.room → TakesValue g b x at ops arms a_number u
+      (u : AwaitsValue) (v : ℤ) (at : ℕ) (ops : List ℤ) (arms : List Arm) → length arms ≤ g.arms → suc (length ops) ≤ g.room →
+      TakesValue g b x at ops arms a_number u
       → Follows g (from_value x u (ordinal v)) at (v ∷ ops) arms
   numbers_follow (begin_sum sign rest u) v at ops arms few room is =
       let minus = sign_code s sign in
       let others = summands_code s rest in
       let i = is.2 in
       let to = at + (minus.size + others.size) in
-      let behind = back g minus others (suc (length ops)) (sized_sign sign) (sign_changes g.program s sign at i (length ops) ∙ omega arith) (stands_over g (1 + length ops) (omega arith) is.3) in
+      let behind = back g minus others (suc (length ops)) (sized_sign sign) (sign_changes g.program s sign at i (length ops) ∙
+      omega arith) (stands_over g (1 + length ops) (omega arith) is.3) in
       sign_follows g b names around checked line arms few sign v (λ n. from_summands x n rest u (from_value x u)) at i ops (front g minus others is.3)
-      (λ n. summands_follow g b names around checked line arms few rest is.1 n u (from_value x u) (at + minus.size) (i + length minus.texts) to ops behind (omega arith) is.4
+      (λ n. summands_follow g b names around checked line arms few rest is.1 n u (from_value x u) (at + minus.size)
+      (i + length minus.texts) to ops behind (omega arith) is.4
       (λ m. numbers_follow u m to ops arms few room is.4))
   numbers_follow (add_to m op rest u) v at ops arms few room is =
       let below = is.1 in
@@ -208,14 +219,16 @@ module _ (g : Setting) (b : Block) (names : List Level) (around : Around) (check
       let fit : suc (length below) ≤ g.room = omega (arith, held) in
       let same : suc (length ops) ≡ suc (suc (length below)) = omega (arith, held) in
       let to = at + (1 + others.size) in
-      let behind = tail g s (λ at n. add_instr op) others (suc (length below)) (add_held g b names around checked line arms few op (length below)) (stands_over g (suc (suc (length below))) same is.5) in
+      let behind = tail g s (λ at n. add_instr op) others (suc (length below)) (add_held g b names around checked line arms few op (length below))
+      (stands_over g (suc (suc (length below))) same is.5) in
       operands v at ops (m ∷ below) arms is.2
       (add_move g arms few b x op m v (λ n. from_summands x n rest u (from_value x u)) at below (head g s (λ at n. add_instr op) others is.5) fit
       (λ n. summands_follow g b names around checked line arms few rest is.3 n u (from_value x u) (at + 1) (is.4 + 0) to below behind (omega arith) is.6
       (λ c. numbers_follow u c to below arms few fit is.6)))
   numbers_follow (begin_product rest u) v at ops arms few room is =
       let to = at + (multipliers_code s rest).size in
-      multipliers_follow g b names around checked line arms few rest is.1 v u (from_value x u) at is.2 to ops is.3 refl is.4 (λ m. numbers_follow u m to ops arms few room is.4)
+      multipliers_follow g b names around checked line arms few rest is.1 v u (from_value x u) at is.2 to ops is.3 refl is.4
+      (λ m. numbers_follow u m to ops arms few room is.4)
   numbers_follow (multiply_by m op rest u) v at ops arms few room is =
       let below = is.1 in
       let others = multipliers_code s rest in
@@ -223,7 +236,8 @@ module _ (g : Setting) (b : Block) (names : List Level) (around : Around) (check
       let fit : suc (length below) ≤ g.room = omega (arith, held) in
       let same : suc (length ops) ≡ suc (suc (length below)) = omega (arith, held) in
       let to = at + (1 + others.size) in
-      let behind = tail g s (λ at n. multiply_instr op) others (suc (length below)) (multiply_held g b names around checked line arms few op (length below)) (stands_over g (suc (suc (length below))) same is.5) in
+      let behind = tail g s (λ at n. multiply_instr op) others (suc (length below)) (multiply_held g b names around checked line arms few op (length below))
+      (stands_over g (suc (suc (length below))) same is.5) in
       operands v at ops (m ∷ below) arms is.2
       (multiply_move g arms few b x op m v (λ n. from_multipliers x n rest u (from_value x u)) at below (head g s (λ at n. multiply_instr op) others is.5) fit
       (λ n. multipliers_follow g b names around checked line arms few rest is.3 n u (from_value x u) (at + 1) (is.4 + 0) to below behind (omega arith) is.6
@@ -232,10 +246,13 @@ module _ (g : Setting) (b : Block) (names : List Level) (around : Around) (check
       let first = simple_code s t in
       let i = is.2 in
       let mid = at + first.size in
-      let last = back g first (one s (relation_instr r)) (suc (suc (length ops))) (sized_plain first (plain_simple s t)) (held_grown g.program first 1 (simple_changes s checked.sound t a_number is.1) at i (suc (length ops)) ∙ omega arith) is.3 in
+      let last = back g first (one s (relation_instr r)) (suc (suc (length ops))) (sized_plain first (plain_simple s t))
+      (held_grown g.program first 1 (simple_changes s checked.sound t a_number is.1) at i (suc (length ops)) ∙ omega arith) is.3 in
       let compares = lone g s (λ at n. relation_instr r) last in
-      let after : TakesValue g b x (mid + 1) ops arms a_number u = value_moved g b names around checked line arms few (at + (first.size + 1)) (mid + 1) ops a_number u (omega arith) is.4 in
-      simple_follows g b names around checked line arms few t a_number is.1 (compare_to v r u) (λ c. from_value x u (ordinal (compared r v (ordinal_of c)))) at i mid (v ∷ ops) (front g first (one s (relation_instr r)) is.3) refl
+      let after : TakesValue g b x (mid + 1) ops arms a_number u = value_moved g b names around checked line arms few (at + (first.size + 1))
+      (mid + 1) ops a_number u (omega arith) is.4 in
+      simple_follows g b names around checked line arms few t a_number is.1 (compare_to v r u)
+      (λ c. from_value x u (ordinal (compared r v (ordinal_of c)))) at i mid (v ∷ ops) (front g first (one s (relation_instr r)) is.3) refl
       (refl, ops, refl, room, compares, after)
       (λ c simple. relation_move g arms few r v c mid ops line compares room (numbers_follow u (compared r v c) (mid + 1) ops arms few room after))
   numbers_follow (compare_to m r u) v at ops arms few room is =
@@ -243,7 +260,8 @@ module _ (g : Setting) (b : Block) (names : List Level) (around : Around) (check
       operands v at ops (m ∷ below) arms is.2
       (relation_move g arms few r m v at below line is.4 is.3 (numbers_follow u (compared r m v) (at + 1) below arms few is.3 is.5))
   numbers_follow (invert u) v at ops arms few room is =
-      next_move g arms few at (v ∷ ops) NOT line (inverse_of v ∷ ops) is.2 (fits g arms NOT (v ∷ ops) (omega arith) tt tt) refl room (numbers_follow u (inverse_of v) (at + 1) ops arms few room is.3)
+      next_move g arms few at (v ∷ ops) NOT line (inverse_of v ∷ ops) is.2 (fits g arms NOT (v ∷ ops) (omega arith) tt tt) refl room
+      (numbers_follow u (inverse_of v) (at + 1) ops arms few room is.3)
   numbers_follow (apply f t u) v at ops arms few room is =
       let to = at + (finishing s f t).size in
       finish_follows g b names around checked line arms few f t u (from_value x u) v at is.3 to ops is.1 is.2 is.4 refl is.5
@@ -262,31 +280,42 @@ module _ (g : Setting) (b : Block) (names : List Level) (around : Around) (check
       let held = ap (λ (y : List ℤ). length y) is.4 in
       let fit : suc (length below) ≤ g.room = omega (arith, held) in
       let same_held : suc (length ops) ≡ suc (suc (length below)) = omega (arith, held) in
-      let last = tail g s (λ at n. index_instr forms (form_in forms part.t)) inner (suc (length below)) (index_held g b names around checked line arms few (form_in forms part.t) (length below)) (stands_over g (suc (suc (length below))) same_held is.10) in
+      let last = tail g s (λ at n. index_instr forms (form_in forms part.t)) inner (suc (length below)) (index_held g b names around checked line arms few
+      (form_in forms part.t) (length below)) (stands_over g (suc (suc (length below))) same_held is.10) in
       let last_end : at + 1 + inner.size ≡ mid = omega arith in
       operands v at ops (w ∷ below) arms is.4
-      (element_follows g b names around checked line arms few part w v (λ inside. from_indices x inside es ss goal (λ deep. from_selectors x deep ss goal (from_location x goal))) at below is.5 is.6
+      (element_follows g b names around checked line arms few part w v (λ inside. from_indices x inside es ss goal
+      (λ deep. from_selectors x deep ss goal (from_location x goal))) at below is.5 is.6
       (head g s (λ at n. index_instr forms (form_in forms part.t)) inner is.10) fit
       (λ inside y inside_is same.
       let e_are : AreIndices s inside.t es = subst (λ (z : Option TypeId). AreIndices s z es) (sym same) is.7 in
-      let e_after : AreSelectors s (type_behind forms inside.t es) ss t = subst (λ (z : Option TypeId). AreSelectors s (type_behind forms z es) ss t) (sym same) is.8 in
-      let e_last : Stands g (at + 1) (i + 0) (suc (length below)) (indices_code s inside.t es) = subst (λ (z : Option TypeId). Stands g (at + 1) (i + 0) (suc (length below)) (indices_code s z es)) (sym same) last in
-      let e_last_end : at + 1 + (indices_code s inside.t es).size ≡ mid = subst (λ (z : Option TypeId). at + 1 + (indices_code s z es).size ≡ mid) (sym same) last_end in
-      let e_rest : Stands g mid m (suc (length below)) (selectors_code s (type_behind forms inside.t es) ss) = subst (λ (z : Option TypeId). Stands g mid m (suc (length below)) (selectors_code s (type_behind forms z es) ss)) (sym same) is.12 in
-      let e_end : mid + (selectors_code s (type_behind forms inside.t es) ss).size ≡ to = subst (λ (z : Option TypeId). mid + (selectors_code s (type_behind forms z es) ss).size ≡ to) (sym same) refl in
-      indices_follow g b names around checked line arms few es inside y ss t goal (λ deep. from_selectors x deep ss goal (from_location x goal)) (at + 1) (i + 0) mid m to below inside_is e_are e_after e_last e_last_end e_rest e_end is.13
+      let e_after : AreSelectors s (type_behind forms inside.t es) ss t =
+      subst (λ (z : Option TypeId). AreSelectors s (type_behind forms z es) ss t) (sym same) is.8 in
+      let e_last : Stands g (at + 1) (i + 0) (suc (length below)) (indices_code s inside.t es) =
+      subst (λ (z : Option TypeId). Stands g (at + 1) (i + 0) (suc (length below)) (indices_code s z es)) (sym same) last in
+      let e_last_end : at + 1 + (indices_code s inside.t es).size ≡ mid =
+      subst (λ (z : Option TypeId). at + 1 + (indices_code s z es).size ≡ mid) (sym same) last_end in
+      let e_rest : Stands g mid m (suc (length below)) (selectors_code s (type_behind forms inside.t es) ss) =
+      subst (λ (z : Option TypeId). Stands g mid m (suc (length below)) (selectors_code s (type_behind forms z es) ss)) (sym same) is.12 in
+      let e_end : mid + (selectors_code s (type_behind forms inside.t es) ss).size ≡ to =
+      subst (λ (z : Option TypeId). mid + (selectors_code s (type_behind forms z es) ss).size ≡ to) (sym same) refl in
+      indices_follow g b names around checked line arms few es inside y ss t goal (λ deep. from_selectors x deep ss goal (from_location x goal)) (at + 1)
+      (i + 0) mid m to below inside_is e_are e_after e_last e_last_end e_rest e_end is.13
       (λ deep z deep_is deep_same.
       selectors_follow g b names around checked line arms few ss deep z t goal (from_location x goal) mid m to below deep_is
-      (subst (λ (o : Option TypeId). AreSelectors s o ss t) (sym deep_same) e_after) (subst (λ (o : Option TypeId). Stands g mid m (suc (length below)) (selectors_code s o ss)) (sym deep_same) e_rest)
+      (subst (λ (o : Option TypeId). AreSelectors s o ss t) (sym deep_same) e_after)
+      (subst (λ (o : Option TypeId). Stands g mid m (suc (length below)) (selectors_code s o ss)) (sym deep_same) e_rest)
       (subst (λ (o : Option TypeId). mid + (selectors_code s o ss).size ≡ to) (sym deep_same) e_end) is.13
       (λ l n lies. location_follows g b names around checked line goal t l n to below arms few fit lies is.13))))
-  numbers_follow (pass_value rest args given call) v at ops arms few room is = passed_value a_number (ordinal v) rest args given call at ops arms few (v, refl) is
+  numbers_follow (pass_value rest args given call) v at ops arms few room is =
+      passed_value a_number (ordinal v) rest args given call at ops arms few (v, refl) is
   numbers_follow (store_at spot k) v at ops arms few room is = stored_value a_number (ordinal v) spot k at ops arms (v, refl) is
   numbers_follow (choose m t u k) v at ops arms few room is =
       let p = is.1 in
       let fit : length ops ≤ g.room = omega arith in
       cleared at (v ∷ ops) arms is.0.1
-      (test_move g [] none v (from_stmt x.env m t k (from_remainder x.env k)) (from_stmt x.env (m + scopes_in t) u k (from_remainder x.env k)) at ops p.1 line p.2 p.3 fit
+      (test_move g [] none v (from_stmt x.env m t k (from_remainder x.env k))
+      (from_stmt x.env (m + scopes_in t) u k (from_remainder x.env k)) at ops p.1 line p.2 p.3 fit
       (stmt_then is.0.0 line m t k (at + 1) ops fit p.4) (stmt_then is.0.0 line (m + scopes_in t) u k p.1 ops fit p.5))
   numbers_follow (choose_arm m alternatives k) v at ops arms few room is =
       let p = is.1 in
@@ -304,7 +333,9 @@ module _ (g : Setting) (b : Block) (names : List Level) (around : Around) (check
       let follows = while_tested g b names around checked none is.0.0 e t q (every_statement_anywhere g b (env_in g names around) checked is.0.0 t) p.2 m k
       (from_remainder x.env k) a p.5.0 ops v p.5.1 p.5.2 (left k _ ops fit p.5.2) in
       cleared at (v ∷ ops) arms is.0.1
-      (subst (λ (l : ℕ). Follows g (if is_true v then from_stmt x.env m t (turn m (while_do e t q) k) (turns (context x.env l) (again m (while_do e t q) k)) else from_remainder x.env k) at (v ∷ ops) []) (sym p.1)
+      (subst (λ (l : ℕ). Follows g (if is_true v then
+      from_stmt x.env m t (turn m (while_do e t q) k) (turns (context x.env l) (again m (while_do e t q) k)) else from_remainder x.env k) at (v ∷ ops) [])
+      (sym p.1)
       (follows_moved g [] none (a + test.size) at (sym p.4) follows))
   numbers_follow (until_true m ts e q k) v at ops arms few room is =
       let p = is.1 in
@@ -354,7 +385,8 @@ module _ (g : Setting) (b : Block) (names : List Level) (around : Around) (check
   numbers_follow (open_if a rest sel k) v at ops arms few room is =
       let p = is.1 in
       opened_follows g b names around checked is.0 line k v a rest sel at p.1 ops arms (all_follow g b names around checked is.0 line k rest) p.2 p.3 p.4
-  numbers_follow (offer_value channel a rest sel k) v at ops arms few room is = offered_value a_number (ordinal v) channel a rest sel k at ops arms room (v, refl) is
+  numbers_follow (offer_value channel a rest sel k) v at ops arms few room is =
+      offered_value a_number (ordinal v) channel a rest sel k at ops arms room (v, refl) is
   numbers_follow (offer_wait a rest sel k) v at ops arms few room is =
       let fit : length ops ≤ g.room = omega arith in
       seconds_armed g b names around checked is.0 line k v a rest sel at ops arms (all_follow g b names around checked is.0 line k rest) fit is.1.1
@@ -371,12 +403,14 @@ module _ (g : Setting) (b : Block) (names : List Level) (around : Around) (check
   -- ## Every value
 
   whole_follows :
-      (u : AwaitsValue) (t : TypeId) (v : Value) (at : ℕ) (ops : List ℤ) (arms : List Arm) → length arms ≤ g.arms → length (reverse (words_of v) ++ ops) ≤ g.room → IsOf forms t v
+      (u : AwaitsValue) (t : TypeId) (v : Value) (at : ℕ) (ops : List ℤ) (arms : List Arm) → length arms ≤ g.arms →
+      length (reverse (words_of v) ++ ops) ≤ g.room → IsOf forms t v
       → TakesValue g b x at ops arms (a_whole t) u → Follows g (from_value x u v) at (reverse (words_of v) ++ ops) arms
   whole_follows (pass_value rest args given call) t v at ops arms few room shaped is = passed_value (a_whole t) v rest args given call at ops arms few shaped is
   whole_follows (store_at spot k) t v at ops arms few room shaped is = stored_value (a_whole t) v spot k at ops arms shaped is
   whole_follows (send_on spot k) t v at ops arms few room shaped is = sent_value (a_whole t) v spot k at ops arms shaped is
-  whole_follows (offer_value channel a rest sel k) t v at ops arms few room shaped is = offered_value (a_whole t) v channel a rest sel k at ops arms room shaped is
+  whole_follows (offer_value channel a rest sel k) t v at ops arms few room shaped is =
+      offered_value (a_whole t) v channel a rest sel k at ops arms room shaped is
   whole_follows (begin_sum sign rest u) t v at ops arms few room shaped is = no_whole t is.0
   whole_follows (add_to m op rest u) t v at ops arms few room shaped is = no_whole t is.0
   whole_follows (begin_product rest u) t v at ops arms few room shaped is = no_whole t is.0
@@ -404,7 +438,8 @@ module _ (g : Setting) (b : Block) (names : List Level) (around : Around) (check
   whole_follows (pass_other w scan k) t v at ops arms few room shaped is = no_whole t is.1.0
 
   pub value_follows :
-      (u : AwaitsValue) (h : Shape) (v : Value) (at : ℕ) (ops : List ℤ) (arms : List Arm) → length arms ≤ g.arms → length (reverse (words_of v) ++ ops) ≤ g.room → IsShaped forms h v
+      (u : AwaitsValue) (h : Shape) (v : Value) (at : ℕ) (ops : List ℤ) (arms : List Arm) → length arms ≤ g.arms →
+      length (reverse (words_of v) ++ ops) ≤ g.room → IsShaped forms h v
       → TakesValue g b x at ops arms h u → Follows g (from_value x u v) at (reverse (words_of v) ++ ops) arms
   value_follows u a_number v at ops arms few room (n, same) is =
       let fit = subst (λ (y : Value). length (reverse (words_of y) ++ ops) ≤ g.room) same room in

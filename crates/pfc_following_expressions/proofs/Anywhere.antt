@@ -13,7 +13,8 @@ use Rattle.pfc_following_expressions.specs.Phrases.{ExpressionFollows, VariableF
 use Rattle.pfc_following_expressions.proofs.Expressions.{env_in, address_follows, expr_follows, args_follow, selectors_follow}
 
 -- what is true with the program's own types and blocks
-pub anywhere : (g : Setting) (b : Block) (x : Context) (P : Context → Type 0) → IsChecked g b x.env → P (record { env = env_in g x.env.view x.env.around; line = x.line }) → P x
+pub anywhere : (g : Setting) (b : Block) (x : Context) (P : Context → Type 0) → IsChecked g b x.env →
+    P (record { env = env_in g x.env.view x.env.around; line = x.line }) → P x
 anywhere g b x P checked h =
     subst (λ (state : State). P (record { env = record { state = state; view = x.env.view; around = x.env.around }; line = x.line })) (sym checked.state) h
 
@@ -31,7 +32,8 @@ variable_follows g b x checked =
   where
     by : VariableFollows g b (record { env = env_in g x.env.view x.env.around; line = x.line })
     by known arms few (desig y ss p) t is goal go at n ops st waits on =
-        address_follows g b x.env.view x.env.around known x.line arms few (spot_of (env_in g x.env.view x.env.around) (find (env_in g x.env.view x.env.around) y)) ss t is.0 is.1
+        address_follows g b x.env.view x.env.around known x.line arms few (spot_of (env_in g x.env.view x.env.around)
+        (find (env_in g x.env.view x.env.around) y)) ss t is.0 is.1
         (selectors_follow g b x.env.view x.env.around known x.line arms few ss) goal go at n
         (at + (desig_code (site_of g b (record { env = env_in g x.env.view x.env.around; line = x.line })) (desig y ss p)).size) ops st refl waits on
 

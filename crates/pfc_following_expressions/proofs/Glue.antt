@@ -76,7 +76,8 @@ module _ (g : Setting) where
 
   texts_back : (n : ℕ) (xs ys : List Text) → HasTexts g n (xs ++ ys) → HasTexts g (n + length xs) ys
   texts_back n [] ys h = let e : n ≡ n + 0 = omega arith in subst (λ (k : ℕ). HasTexts g k ys) e h
-  texts_back n (x ∷ xs) ys h = let e : n + 1 + length xs ≡ n + suc (length xs) = omega arith in subst (λ (k : ℕ). HasTexts g k ys) e (texts_back (n + 1) xs ys h.1)
+  texts_back n (x ∷ xs) ys h = let e : n + 1 + length xs ≡ n + suc (length xs) =
+      omega arith in subst (λ (k : ℕ). HasTexts g k ys) e (texts_back (n + 1) xs ys h.1)
 
   -- ## Parts
 
@@ -95,11 +96,13 @@ module _ (g : Setting) where
       let arms = h.arms in
       record { has = has_front at xs ys h.has; texts = texts_front n c.texts d.texts h.texts; room = omega arith; arms = omega arith }
 
-  pub back : {at n held : ℕ} (c d : Code) (after : ℕ) → IsSized c → held_after g.program held (c.put at n) ≡ after → Stands g at n held (c ⨾ d) → Stands g (at + c.size) (n + length c.texts) after d
+  pub back : {at n held : ℕ} (c d : Code) (after : ℕ) → IsSized c → held_after g.program held (c.put at n) ≡ after → Stands g at n held (c ⨾ d) →
+      Stands g (at + c.size) (n + length c.texts) after d
   back {at} {n} {held} c d after sized e h =
       let xs = c.put at n in
       let ys = d.put (at + c.size) (n + length c.texts) in
-      let most : most_operands g.program (held_after g.program held xs) (instructions ys) ≤ g.room = (let last = most_back g.program held xs ys in let room = h.room in omega arith) in
+      let most : most_operands g.program (held_after g.program held xs) (instructions ys) ≤ g.room =
+      (let last = most_back g.program held xs ys in let room = h.room in omega arith) in
       let arms = h.arms in
       record {
         has = subst (λ (k : ℕ). HasCode g (at + k) ys) (sized at n) (has_back at xs ys h.has);
@@ -115,7 +118,8 @@ module _ (g : Setting) where
   pub lone : {at n held : ℕ} (s : Site) (i : ℕ → ℕ → Instr) → Stands g at n held (instruction s i) → IsAt g at (i at n) s.line
   lone s i h = h.has.0
 
-  pub tail : {at n held : ℕ} (s : Site) (i : ℕ → ℕ → Instr) (d : Code) (after : ℕ) → held_behind g.program held (i at n) ≡ after → Stands g at n held (instruction s i ⨾ d) → Stands g (at + 1) (n + 0) after d
+  pub tail : {at n held : ℕ} (s : Site) (i : ℕ → ℕ → Instr) (d : Code) (after : ℕ) → held_behind g.program held (i at n) ≡ after →
+      Stands g at n held (instruction s i ⨾ d) → Stands g (at + 1) (n + 0) after d
   tail s i d after e h = back (instruction s i) d after (λ at n. refl) e h
 
   -- ## The same at another place

@@ -122,7 +122,8 @@ module _ (s : Site) (sound : IsSound (forms_of s)) where
   -- a predeclared function
   function_changes :
       (f : Function) (t : Option TypeId) (h : Shape) (value address : Code) (V A : Type 0) → IsFunction f h V A
-      → (V → Changes s.program value 0 1) → (A → Changes s.program address 0 1) → Changes s.program (function_code s f t value address) 0 (shape_cells (forms_of s) h)
+      → (V → Changes s.program value 0 1) → (A → Changes s.program address 0 1) →
+      Changes s.program (function_code s f t value address) 0 (shape_cells (forms_of s) h)
   function_changes f t h value address V A is v a = by f is
     where
       number_of : (e : h ≡ a_number) (c : Code) → Changes s.program c 0 1 → Changes s.program c 0 (shape_cells (forms_of s) h)
@@ -134,20 +135,25 @@ module _ (s : Site) (sound : IsSound (forms_of s)) where
       by odd is = number_of is.0 (value ⨾ one s ODD) (then_one value ODD 1 1 (v is.1) refl refl)
       by ord is = number_of is.0 value (v is.1)
       by chr is = number_of is.0 (value ⨾ one s CHR) (then_one value CHR 1 1 (v is.1) refl refl)
-      by succ is = number_of is.0 (value ⨾ one s (SUCC (simple_number (simple_of t)))) (then_one value (SUCC (simple_number (simple_of t))) 1 1 (v is.1) refl refl)
-      by pred is = number_of is.0 (value ⨾ one s (PRED (simple_number (simple_of t)))) (then_one value (PRED (simple_number (simple_of t))) 1 1 (v is.1) refl refl)
+      by succ is = number_of is.0 (value ⨾ one s (SUCC (simple_number (simple_of t))))
+          (then_one value (SUCC (simple_number (simple_of t))) 1 1 (v is.1) refl refl)
+      by pred is = number_of is.0 (value ⨾ one s (PRED (simple_number (simple_of t))))
+          (then_one value (PRED (simple_number (simple_of t))) 1 1 (v is.1) refl refl)
       by eof is = number_of is (one s EOF) (changes_one s.program s EOF 0 1 refl refl)
       by eoln is = number_of is (one s EOLN) (changes_one s.program s EOLN 0 1 refl refl)
       by empty is =
           number_of is.0 (address ⨾ one s OBJ ⨾ one s EMPTY)
-          (changes_both s.program address (one s OBJ ⨾ one s EMPTY) 0 1 1 (a is.1) (changes_both s.program (one s OBJ) (one s EMPTY) 1 1 1 (changes_one s.program s OBJ 1 1 refl refl) (changes_one s.program s EMPTY 1 1 refl refl)))
+          (changes_both s.program address (one s OBJ ⨾ one s EMPTY) 0 1 1 (a is.1) (changes_both s.program (one s OBJ) (one s EMPTY) 1 1 1
+          (changes_one s.program s OBJ 1 1 refl refl) (changes_one s.program s EMPTY 1 1 refl refl)))
       by clock is = number_of is (one s CLOCK) (changes_one s.program s CLOCK 0 1 refl refl)
       by random is = number_of is.0 (value ⨾ one s RAND) (then_one value RAND 1 1 (v is.1) refl refl)
       by no_function is = absurd is
 
   use_changes :
-      (m : Option Meaning) (h : Shape) (ss : SelectorTrees) (address : Code) (args : List Formal → Code) (predeclared : Function → Code) (D : Type 0) (L : Option TypeId → Type 0) (A : List Formal → Type 0) (F : Function → Type 0)
-      → IsUse s m h D L ss A F → (D → (u : Option TypeId) → L u → Changes s.program address 0 1) → ((formals : List Formal) → A formals → Changes s.program (args formals) 0 (formals_cells (forms_of s) formals))
+      (m : Option Meaning) (h : Shape) (ss : SelectorTrees) (address : Code) (args : List Formal → Code) (predeclared : Function →
+      Code) (D : Type 0) (L : Option TypeId → Type 0) (A : List Formal → Type 0) (F : Function → Type 0)
+      → IsUse s m h D L ss A F → (D → (u : Option TypeId) → L u → Changes s.program address 0 1) →
+      ((formals : List Formal) → A formals → Changes s.program (args formals) 0 (formals_cells (forms_of s) formals))
       → ((f : Function) → F f → Changes s.program (predeclared f) 0 (shape_cells (forms_of s) h))
       → Changes s.program (name_code s m ss address args predeclared) 0 (shape_cells (forms_of s) h)
   use_changes (Some (Constant t v)) h ss address args predeclared D L A F is lead arguments functions =
@@ -156,7 +162,8 @@ module _ (s : Site) (sound : IsSound (forms_of s)) where
       let u = is.0 in
       let z = type_cells (forms_of s) (selected s.env (Some t) ss) in
       let same : z ≡ shape_cells (forms_of s) h =
-      ap (λ (x : Option TypeId). type_cells (forms_of s) x) is.3 ∙ sym (shaped_cells (forms_of s) sound u) ∙ ap (λ (x : Shape). shape_cells (forms_of s) x) (sym is.4) in
+      ap (λ (x : Option TypeId). type_cells (forms_of s) x) is.3 ∙ sym (shaped_cells (forms_of s) sound u) ∙
+      ap (λ (x : Shape). shape_cells (forms_of s) x) (sym is.4) in
       then_one address (LOAD z) 1 (shape_cells (forms_of s) h) (lead is.1 (Some u) is.2) refl same
   use_changes (Some (ASub n)) h ss address args predeclared D L A F is lead arguments functions =
       let head = sub_at (blocks_of s) n in
@@ -181,13 +188,15 @@ module _ (s : Site) (sound : IsSound (forms_of s)) where
           → Changes s.program (if r then lent else given) 0 (if r then 1 else type_cells (forms_of s) f.t)
       by true is = l is
       by false is =
-          let same : type_cells (forms_of s) f.t ≡ shape_cells (forms_of s) (shape_of is.0) = ap (λ (x : Option TypeId). type_cells (forms_of s) x) is.1 ∙ sym (shaped_cells (forms_of s) sound is.0) in
+          let same : type_cells (forms_of s) f.t ≡ shape_cells (forms_of s) (shape_of is.0) = ap (λ (x : Option TypeId). type_cells (forms_of s) x) is.1 ∙
+          sym (shaped_cells (forms_of s) sound is.0) in
           subst (λ (z : ℕ). Changes s.program given 0 z) (sym same) (k (shape_of is.0) is.2)
 
   -- ## Expressions
 
   -- a number behind a number, and an operator
-  operator_changes : (c d : Code) (i : Instr) → Changes s.program c 0 1 → Changes s.program d 0 1 → Changes s.program (one s i) 2 1 → Changes s.program (c ⨾ d ⨾ one s i) 0 1
+  operator_changes : (c d : Code) (i : Instr) → Changes s.program c 0 1 → Changes s.program d 0 1 → Changes s.program (one s i) 2 1 →
+      Changes s.program (c ⨾ d ⨾ one s i) 0 1
   operator_changes c d i h k o =
       changes_both s.program c (d ⨾ one s i) 0 1 1 h (changes_both s.program d (one s i) 1 2 1 (changes_as s.program d 0 1 1 1 2 k refl refl) o)
 
@@ -205,7 +214,8 @@ module _ (s : Site) (sound : IsSound (forms_of s)) where
     expr_changes (plain a q) h is = simple_changes a h is
     expr_changes (related a r b q) h is =
         subst (λ (x : Shape). Changes s.program (expr_code s (related a r b q)) 0 (shape_cells (forms_of s) x)) (sym is.0)
-        (operator_changes (simple_code s a) (simple_code s b) (relation_instr r.0) (simple_changes a a_number is.1) (simple_changes b a_number is.2) (relation_changes s.program s r.0))
+        (operator_changes (simple_code s a) (simple_code s b) (relation_instr r.0) (simple_changes a a_number is.1)
+        (simple_changes b a_number is.2) (relation_changes s.program s r.0))
 
     pub simple_changes : (a : SimpleTree) (h : Shape) → HasShapeSimple s a h → Changes s.program (simple_code s a) 0 (shape_cells (forms_of s) h)
     simple_changes (sum None first no_summands) h is =
@@ -228,18 +238,22 @@ module _ (s : Site) (sound : IsSound (forms_of s)) where
         changes_both s.program (factor_code s f) nothing 0 w w (factor_changes f h is) (changes_nothing s.program w)
     term_changes (product f (more_multipliers op d rest)) h is =
         subst (λ (x : Shape). Changes s.program (term_code s (product f (more_multipliers op d rest))) 0 (shape_cells (forms_of s) x)) (sym is.0)
-        (changes_both s.program (factor_code s f) (multipliers_code s (more_multipliers op d rest)) 0 1 1 (factor_changes f a_number is.1) (multipliers_change (more_multipliers op d rest) is.2))
+        (changes_both s.program (factor_code s f) (multipliers_code s (more_multipliers op d rest)) 0 1 1 (factor_changes f a_number is.1)
+        (multipliers_change (more_multipliers op d rest) is.2))
 
     pub multipliers_change : (rest : MultiplierTrees) → AreMultipliers s rest → Changes s.program (multipliers_code s rest) 1 1
     multipliers_change no_multipliers is = changes_nothing s.program 1
     multipliers_change (more_multipliers op f rest) is =
         changes_both s.program (factor_code s f) (one s (multiply_instr op.0) ⨾ multipliers_code s rest) 1 2 1
         (changes_as s.program (factor_code s f) 0 1 1 1 2 (factor_changes f a_number is.0) refl refl)
-        (changes_both s.program (one s (multiply_instr op.0)) (multipliers_code s rest) 2 1 1 (multiply_changes s.program s op.0) (multipliers_change rest is.1))
+        (changes_both s.program (one s (multiply_instr op.0)) (multipliers_code s rest) 2 1 1
+        (multiply_changes s.program s op.0) (multipliers_change rest is.1))
 
     pub factor_changes : (f : FactorTree) (h : Shape) → HasShapeFactor s f h → Changes s.program (factor_code s f) 0 (shape_cells (forms_of s) h)
-    factor_changes (number k q) h is = subst (λ (x : Shape). Changes s.program (one s (LIT k)) 0 (shape_cells (forms_of s) x)) (sym is) (changes_one s.program s (LIT k) 0 1 refl refl)
-    factor_changes (literal x q) h is = subst (λ (y : Shape). Changes s.program (one s (LIT (char_in x))) 0 (shape_cells (forms_of s) y)) (sym is) (changes_one s.program s (LIT (char_in x)) 0 1 refl refl)
+    factor_changes (number k q) h is = subst (λ (x : Shape). Changes s.program (one s (LIT k)) 0 (shape_cells (forms_of s) x)) (sym is)
+        (changes_one s.program s (LIT k) 0 1 refl refl)
+    factor_changes (literal x q) h is = subst (λ (y : Shape). Changes s.program (one s (LIT (char_in x))) 0 (shape_cells (forms_of s) y)) (sym is)
+        (changes_one s.program s (LIT (char_in x)) 0 1 refl refl)
     factor_changes (negation f q) h is =
         subst (λ (x : Shape). Changes s.program (factor_code s f ⨾ one s NOT) 0 (shape_cells (forms_of s) x)) (sym is.0)
         (then_one (factor_code s f) NOT 1 1 (factor_changes f a_number is.1) refl refl)
@@ -253,7 +267,8 @@ module _ (s : Site) (sound : IsSound (forms_of s)) where
         is.1
         (λ d u l. changes_both s.program (base_code s v.spot) (selectors_code s v.t ss) 0 1 1 (base_changes s.program s v.spot) (selectors_change ss v.t u l))
         (λ formals a. args_change formals args a)
-        (λ f k. function_changes f (first_type s.env args) h (first_value s args) (first_address s args) (IsGivenFirst s args) (IsLentFirst s args (Some condition)) k
+        (λ f k. function_changes f (first_type s.env args) h (first_value s args) (first_address s args) (IsGivenFirst s args)
+        (IsLentFirst s args (Some condition)) k
         (λ i. first_changes args i) (λ i. first_address_changes args (Some condition) i))
 
     pub first_changes : (args : ActualTrees) → IsGivenFirst s args → Changes s.program (first_value s args) 0 1
@@ -286,7 +301,8 @@ module _ (s : Site) (sound : IsSound (forms_of s)) where
         let v = spot_of s.env (find s.env x) in
         changes_both s.program (base_code s v.spot) (selectors_code s v.t ss) 0 1 1 (base_changes s.program s v.spot) (selectors_change ss v.t t is.1)
 
-    pub args_change : (formals : List Formal) (args : ActualTrees) → AreArguments s formals args → Changes s.program (args_code s formals args) 0 (formals_cells (forms_of s) formals)
+    pub args_change : (formals : List Formal) (args : ActualTrees) → AreArguments s formals args →
+        Changes s.program (args_code s formals args) 0 (formals_cells (forms_of s) formals)
     args_change [] no_actuals is = changes_nothing s.program 0
     args_change (f ∷ formals) no_actuals is = absurd is
     args_change [] (more_actuals a rest) is = absurd is
@@ -297,15 +313,18 @@ module _ (s : Site) (sound : IsSound (forms_of s)) where
         let all : formals_cells (forms_of s) (f ∷ formals) ≡ z + w = sum_by-cons (λ (k : Formal). formal_cells (forms_of s) k) f formals in
         changes_both s.program first (args_code s formals rest) 0 z (formals_cells (forms_of s) (f ∷ formals))
         (formal_changes f (lent_code s a) (actual_code s a) (IsLent s a f.t) (λ h. IsGiven s a h) is.0 (λ i. lent_changes a f.t i) (λ h i. given_changes a h i))
-        (changes_as s.program (args_code s formals rest) 0 w z z (formals_cells (forms_of s) (f ∷ formals)) (args_change formals rest is.1) (omega arith) (omega (arith, all)))
+        (changes_as s.program (args_code s formals rest) 0 w z z (formals_cells (forms_of s) (f ∷ formals))
+        (args_change formals rest is.1) (omega arith) (omega (arith, all)))
 
     pub selectors_change : (ss : SelectorTrees) (t u : Option TypeId) → AreSelectors s t ss u → Changes s.program (selectors_code s t ss) 1 1
     selectors_change no_selectors t u is = changes_nothing s.program 1
     selectors_change (more_selectors (index es q) ss) t u is =
-        changes_both s.program (indices_code s t es) (selectors_code s (type_behind (forms_of s) t es) ss) 1 1 1 (indices_change es t is.0) (selectors_change ss (type_behind (forms_of s) t es) u is.1)
+        changes_both s.program (indices_code s t es) (selectors_code s (type_behind (forms_of s) t es) ss) 1 1 1 (indices_change es t is.0)
+        (selectors_change ss (type_behind (forms_of s) t es) u is.1)
     selectors_change (more_selectors (field x q) ss) t u is =
         let i = FLD (field_cell (forms_of s) (form_in (forms_of s) t) x) in
-        changes_both s.program (one s i) (selectors_code s (field_type (forms_of s) t x) ss) 1 1 1 (changes_one s.program s i 1 1 refl refl) (selectors_change ss (field_type (forms_of s) t x) u is.1)
+        changes_both s.program (one s i) (selectors_code s (field_type (forms_of s) t x) ss) 1 1 1 (changes_one s.program s i 1 1 refl refl)
+        (selectors_change ss (field_type (forms_of s) t x) u is.1)
 
     pub indices_change : (es : ExprTrees) (t : Option TypeId) → AreIndices s t es → Changes s.program (indices_code s t es) 1 1
     indices_change no_exprs t is = changes_nothing s.program 1
@@ -314,10 +333,13 @@ module _ (s : Site) (sound : IsSound (forms_of s)) where
         let rest = indices_code s (element_in (forms_of s) t) es in
         changes_both s.program (expr_code s e) (one s i ⨾ rest) 1 2 1
         (changes_as s.program (expr_code s e) 0 1 1 1 2 (expr_changes e a_number is.1) refl refl)
-        (changes_both s.program (one s i) rest 2 1 1 (index_changes s.program s (forms_of s) (form_in (forms_of s) t)) (indices_change es (element_in (forms_of s) t) is.2))
+        (changes_both s.program (one s i) rest 2 1 1 (index_changes s.program s (forms_of s) (form_in (forms_of s) t))
+        (indices_change es (element_in (forms_of s) t) is.2))
 
-  pub part_changes : (x : TypedSpot) (ss : SelectorTrees) (t : Option TypeId) → AreSelectors s x.t ss t → Changes s.program (base_code s x.spot ⨾ selectors_code s x.t ss) 0 1
-  part_changes x ss t is = changes_both s.program (base_code s x.spot) (selectors_code s x.t ss) 0 1 1 (base_changes s.program s x.spot) (selectors_change ss x.t t is)
+  pub part_changes : (x : TypedSpot) (ss : SelectorTrees) (t : Option TypeId) → AreSelectors s x.t ss t →
+      Changes s.program (base_code s x.spot ⨾ selectors_code s x.t ss) 0 1
+  part_changes x ss t is = changes_both s.program (base_code s x.spot) (selectors_code s x.t ss) 0 1 1
+      (base_changes s.program s x.spot) (selectors_change ss x.t t is)
 
   pub desig_changes : (d : DesigTree) (t : Option TypeId) → IsDesig s d t → Changes s.program (desig_code s d) 0 1
   desig_changes (desig x ss q) t is = part_changes (spot_of s.env (find s.env x)) ss t is.1

@@ -26,18 +26,21 @@ use Rattle.pfc_standing_code.specs.Following.{of_operands, Follows, arrives, mov
 module _ (g : Setting) (arms : List Arm) where
   -- ## Effects
 
-  pub add_effect : (op : AddOp) (at : ℕ) (a b : ℤ) (ops : List ℤ) → effect_of g (add_instr op) at (b ∷ a ∷ ops) arms ≡ of_own_effect (with_outcome at ops (added op a b)) arms
+  pub add_effect : (op : AddOp) (at : ℕ) (a b : ℤ) (ops : List ℤ) →
+      effect_of g (add_instr op) at (b ∷ a ∷ ops) arms ≡ of_own_effect (with_outcome at ops (added op a b)) arms
   add_effect Add at a b ops = refl
   add_effect Sub at a b ops = refl
   add_effect Or at a b ops = refl
 
-  pub multiply_effect : (op : MulOp) (at : ℕ) (a b : ℤ) (ops : List ℤ) → effect_of g (multiply_instr op) at (b ∷ a ∷ ops) arms ≡ of_own_effect (with_outcome at ops (multiplied op a b)) arms
+  pub multiply_effect : (op : MulOp) (at : ℕ) (a b : ℤ) (ops : List ℤ) →
+      effect_of g (multiply_instr op) at (b ∷ a ∷ ops) arms ≡ of_own_effect (with_outcome at ops (multiplied op a b)) arms
   multiply_effect Mul at a b ops = refl
   multiply_effect Div at a b ops = refl
   multiply_effect Mod at a b ops = refl
   multiply_effect And at a b ops = refl
 
-  pub relation_effect : (r : Relation) (at : ℕ) (a b : ℤ) (ops : List ℤ) → effect_of g (relation_instr r) at (b ∷ a ∷ ops) arms ≡ onward (at + 1) (compared r a b ∷ ops) arms
+  pub relation_effect : (r : Relation) (at : ℕ) (a b : ℤ) (ops : List ℤ) →
+      effect_of g (relation_instr r) at (b ∷ a ∷ ops) arms ≡ onward (at + 1) (compared r a b ∷ ops) arms
   relation_effect Eq at a b ops = refl
   relation_effect Ne at a b ops = refl
   relation_effect Lt at a b ops = refl
@@ -75,17 +78,20 @@ module _ (g : Setting) (arms : List Arm) (few : length arms ≤ g.arms) where
 
   pub move :
       {n : Action} (at : ℕ) (ops : List ℤ) (i : Instr) (line to : ℕ) (left : List ℤ)
-      → IsAt g at i line → CanPerform g i ops → effect_of g i at ops arms ≡ onward to left arms → at < to → length left ≤ g.room → Follows g n to left arms → Follows g n at ops arms
+      → IsAt g at i line → CanPerform g i ops → effect_of g i at ops arms ≡ onward to left arms → at < to → length left ≤ g.room →
+      Follows g n to left arms → Follows g n at ops arms
   move at ops i line to left is can effect up room on = moves at ops arms i line to left arms is can effect up room few on
 
   -- to the next instruction
   pub next_move :
       {n : Action} (at : ℕ) (ops : List ℤ) (i : Instr) (line : ℕ) (left : List ℤ)
-      → IsAt g at i line → CanPerform g i ops → effect_of g i at ops arms ≡ onward (at + 1) left arms → length left ≤ g.room → Follows g n (at + 1) left arms → Follows g n at ops arms
+      → IsAt g at i line → CanPerform g i ops → effect_of g i at ops arms ≡ onward (at + 1) left arms → length left ≤ g.room →
+      Follows g n (at + 1) left arms → Follows g n at ops arms
   next_move at ops i line left is can effect room on = move at ops i line (at + 1) left is can effect (omega arith) room on
 
   -- a fault
-  pub fault_at : (b : Block) (x : Context) (f : RunFault) (at : ℕ) (ops : List ℤ) (i : Instr) → IsAt g at i x.line → CanPerform g i ops → effect_of g i at ops arms ≡ refuses f → Follows g (faults x f) at ops arms
+  pub fault_at : (b : Block) (x : Context) (f : RunFault) (at : ℕ) (ops : List ℤ) (i : Instr) → IsAt g at i x.line → CanPerform g i ops →
+      effect_of g i at ops arms ≡ refuses f → Follows g (faults x f) at ops arms
   fault_at b x f at ops i is can effect = arrives at ops arms (b, tt, of_operands i is can effect)
 
   -- an instruction that leaves a number, or ends in a fault
@@ -108,7 +114,8 @@ module _ (g : Setting) (arms : List Arm) (few : length arms ≤ g.arms) where
       → IsAt g at (multiply_instr op) x.line → suc (length ops) ≤ g.room
       → ((v : ℤ) → Follows g (go (ordinal v)) (at + 1) (v ∷ ops) arms) → Follows g (with_number x (multiplied op a c) go) at (c ∷ a ∷ ops) arms
   multiply_move b x op a c go at ops is room on =
-      outcome_move b x (multiplied op a c) go at (c ∷ a ∷ ops) ops (multiply_instr op) is (multiply_fit g arms op a c ops) (multiply_effect g arms op at a c ops) room on
+      outcome_move b x (multiplied op a c) go at (c ∷ a ∷ ops) ops (multiply_instr op) is (multiply_fit g arms op a c ops)
+      (multiply_effect g arms op at a c ops) room on
 
   pub relation_move :
       {n : Action} (r : Relation) (a c : ℤ) (at : ℕ) (ops : List ℤ) (line : ℕ)
@@ -127,10 +134,13 @@ module _ (g : Setting) (arms : List Arm) (few : length arms ≤ g.arms) where
   test_move v yes_next no_next at ops x line is up room so otherwise = by (is_true v) refl
     where
       by : (b : Bool) → is_true v ≡ b → Follows g (if b then yes_next else no_next) at (v ∷ ops) arms
-      by true e = move at (v ∷ ops) (JF x) line (at + 1) ops is (fits g arms (JF x) (v ∷ ops) (omega arith) tt tt) (ap (λ (b : Bool). onward (if b then at + 1 else x) ops arms) e) (omega arith) room so
-      by false e = move at (v ∷ ops) (JF x) line x ops is (fits g arms (JF x) (v ∷ ops) (omega arith) tt tt) (ap (λ (b : Bool). onward (if b then at + 1 else x) ops arms) e) up room otherwise
+      by true e = move at (v ∷ ops) (JF x) line (at + 1) ops is (fits g arms (JF x) (v ∷ ops) (omega arith) tt tt)
+          (ap (λ (b : Bool). onward (if b then at + 1 else x) ops arms) e) (omega arith) room so
+      by false e = move at (v ∷ ops) (JF x) line x ops is (fits g arms (JF x) (v ∷ ops) (omega arith) tt tt)
+          (ap (λ (b : Bool). onward (if b then at + 1 else x) ops arms) e) up room otherwise
 
-  pub jump_move : {n : Action} (at to : ℕ) (ops : List ℤ) (line : ℕ) → IsAt g at (JMP to) line → at < to → length ops ≤ g.room → Follows g n to ops arms → Follows g n at ops arms
+  pub jump_move : {n : Action} (at to : ℕ) (ops : List ℤ) (line : ℕ) → IsAt g at (JMP to) line → at < to → length ops ≤ g.room →
+      Follows g n to ops arms → Follows g n at ops arms
   jump_move at to ops line is up room on = move at ops (JMP to) line to ops is (fits g arms (JMP to) ops (omega arith) tt tt) refl up room on
 
   pub through : {n : Action} (at to : ℕ) (ops : List ℤ) → Leads g at to → length ops ≤ g.room → Follows g n to ops arms → Follows g n at ops arms

@@ -35,10 +35,12 @@ times_below i zero c h = absurd (omega arith)
 times_below zero (suc n) c h = omega arith
 times_below (suc i) (suc n) c h = let before = times_below i n c (omega arith) in omega arith
 
-fields_next : (forms : Forms) (f : Text × TypeId) (fields : FieldList) (k : ℕ) → fields_before forms (f ∷ fields) (suc k) ≡ cells_in forms f.1 + fields_before forms fields k
+fields_next : (forms : Forms) (f : Text × TypeId) (fields : FieldList) (k : ℕ) →
+    fields_before forms (f ∷ fields) (suc k) ≡ cells_in forms f.1 + fields_before forms fields k
 fields_next forms f fields k = sum_by-cons (λ (x : Text × TypeId). cells_in forms x.1) f (take k fields)
 
-field_within : (forms : Forms) (fields : FieldList) (i : ℕ) (x : Text) (v : TypeId) → slice_get fields i ≡ Some (x, v) → fields_before forms fields i + cells_in forms v ≤ fields_before forms fields (length fields)
+field_within : (forms : Forms) (fields : FieldList) (i : ℕ) (x : Text) (v : TypeId) → slice_get fields i ≡ Some (x, v) →
+    fields_before forms fields i + cells_in forms v ≤ fields_before forms fields (length fields)
 field_within forms [] i x v h = absurd (cc)
 field_within forms (f ∷ fields) zero x v h =
     let all = fields_next forms f fields (length fields) in
@@ -58,7 +60,8 @@ module _ (forms : Forms) where
   path_at {t} {path} {u} e h = subst (λ n. IsPath forms t path u n) e h
 
   -- two paths, one behind the other
-  path_joined : {t : Option TypeId} {path : List ℕ} {u : Option TypeId} {o : ℕ} {more : List ℕ} {v : Option TypeId} {p : ℕ} → IsPath forms t path u o → IsPath forms u more v p → IsPath forms t (path ++ more) v (o + p)
+  path_joined : {t : Option TypeId} {path : List ℕ} {u : Option TypeId} {o : ℕ} {more : List ℕ} {v : Option TypeId} {p : ℕ} → IsPath forms t path u o →
+      IsPath forms u more v p → IsPath forms t (path ++ more) v (o + p)
   path_joined (here t) h = path_at (omega arith) h
   path_joined (into_element t over element u low high i path o form below rest) h =
       path_at (omega arith) (into_element t over element _ low high i _ _ form below (path_joined rest h))
@@ -66,7 +69,8 @@ module _ (forms : Forms) where
       path_at (omega arith) (into_field t v _ x fields i _ _ form there (path_joined rest h))
 
   -- a part lies within the cells of the whole
-  pub path_within : IsSound forms → {t : Option TypeId} {path : List ℕ} {u : Option TypeId} {o : ℕ} → IsPath forms t path u o → o + type_cells forms u ≤ type_cells forms t
+  pub path_within : IsSound forms → {t : Option TypeId} {path : List ℕ} {u : Option TypeId} {o : ℕ} → IsPath forms t path u o →
+      o + type_cells forms u ≤ type_cells forms t
   path_within sound (here t) = omega arith
   path_within sound (into_element t over element u low high i path o form below rest) =
       let inner = path_within sound rest in
@@ -111,7 +115,8 @@ module _ (view : View) (s : Site) where
       let k = nat_abs (i -ℤ low) in
       stepped v (record { place = k; index = i }) (Some t) (Some element) w (element_word low z i w) (k * z + 0) is
       (into_element t over element (Some element) low high k [] 0 form (within_extent low high i inside) (here (Some element)))
-      (λ a e. let total : a + k * z ≡ a + (k * z + 0) = omega arith in ap (λ (y : ℤ). element_word low z i y) e ∙ element_word_is low high i z a inside ∙ ap pos total)
+      (λ a e. let total : a + k * z ≡ a + (k * z + 0) = omega arith in ap (λ (y : ℤ). element_word low z i y) e ∙
+      element_word_is low high i z a inside ∙ ap pos total)
 
   pub field_kept :
       (v : Spot) (w : ℤ) (t : TypeId) (fields : FieldList) (k : ℕ) (x : Text) (u : TypeId)
@@ -127,8 +132,10 @@ small_address : (n : ℕ) → n < 2 ^ 42 → IsAddress (pos n)
 small_address n h = (grind (arith, nat_tests), grind (arith, nat_tests))
 
 -- a part's word is an address
-pub word_is_address : (g : Setting) (b : Block) (env : Env) → IsChecked g b env → (v : Spot) (t : Option TypeId) (w : ℤ) → IsWordAt g.view (names_at g b env) v t w → IsAddress w
+pub word_is_address : (g : Setting) (b : Block) (env : Env) → IsChecked g b env → (v : Spot) (t : Option TypeId) (w : ℤ) →
+    IsWordAt g.view (names_at g b env) v t w → IsAddress w
 word_is_address g b env checked v t w is =
     let inside = path_within (forms_of (names_at g b env)) checked.sound is.path in
     let placed = checked.placed (record v { selectors = [] }) is.whole is.declared in
-    subst (λ (x : ℤ). IsAddress x) (sym is.word) (small_address (first_word g.view (names_at g b env) (record v { selectors = [] }) + is.behind) (omega (arith, inside, placed)))
+    subst (λ (x : ℤ). IsAddress x) (sym is.word)
+    (small_address (first_word g.view (names_at g b env) (record v { selectors = [] }) + is.behind) (omega (arith, inside, placed)))

@@ -49,7 +49,8 @@ comm_size s m (terminate p) i j = refl
 
 -- the same of what an alternative waits for, from another place on
 comm_moved :
-    (g : Setting) (s : Site) (x : Context) (at to above held : ℕ) (a : Alternative) (rest : List Alternative) (sel : Selecting) (arms : List Arm) (code : ℕ → Code) (P : ℕ → Type 0) → at ≡ to
+    (g : Setting) (s : Site) (x : Context) (at to above held : ℕ) (a : Alternative) (rest : List Alternative) (sel : Selecting) (arms : List Arm)
+    (code : ℕ → Code) (P : ℕ → Type 0) → at ≡ to
     → CommAt g s x at above held a rest sel arms code P → CommAt g s x to above held a rest sel arms code P
 comm_moved g s x at to above held a rest sel arms code P e h = subst (λ (y : ℕ). CommAt g s x y above held a rest sel arms code P) e h
 
@@ -74,7 +75,8 @@ module _ (g : Setting) (b : Block) (names : List Level) (around : Around) (check
 
   accept_follows :
       (a : Alternative) (acc : Accepting) (rest : List Alternative) (sel : Selecting) (at to : ℕ) (ops : List ℤ) (arms : List Arm)
-      → Others rest → IsAt g at (ARMA acc.entry (accept_cell s acc.scope) (accept_cells s acc.scope) to) line → length ops ≤ g.room → length arms + 1 + length rest ≤ g.arms
+      → Others rest → IsAt g at (ARMA acc.entry (accept_cell s acc.scope) (accept_cells s acc.scope) to) line →
+      length ops ≤ g.room → length arms + 1 + length rest ≤ g.arms
       → BranchAt g s to (length ops) a.replica (Some acc) (a.next + comm_scopes a.comm) a.stmts (Behind g b x ops k)
       → SelectAt g s x (at + 1) (length ops) rest sel arms (Behind g b x ops k)
       → Follows g (from_alternatives x rest (with_open a sel (to_accept acc)) k) at ops arms
@@ -84,15 +86,21 @@ module _ (g : Setting) (b : Block) (names : List Level) (around : Around) (check
       (fits g arms i ops (omega arith) tt tt) refl room few (to, refl, refl, branch) there
 
   comm_follows :
-      (r : Option Replica) (guard : Option ExprTree) (comm : CommTree) (m : ℕ) (ts : StmtTrees) (rest : List Alternative) (sel : Selecting) (at : ℕ) (ops : List ℤ) (arms : List Arm)
-      → Others rest → CommAt g s x at (length ops) (length ops) (alternative_of r guard comm m ts) rest sel arms (λ between. comm_code s m comm between) (Behind g b x ops k)
+      (r : Option Replica) (guard : Option ExprTree) (comm : CommTree) (m : ℕ) (ts : StmtTrees) (rest : List Alternative) (sel : Selecting)
+      (at : ℕ) (ops : List ℤ) (arms : List Arm)
+      → Others rest → CommAt g s x at (length ops) (length ops) (alternative_of r guard comm m ts) rest sel arms
+      (λ between. comm_code s m comm between) (Behind g b x ops k)
       → Follows g (from_comm x comm (alternative_of r guard comm m ts) rest sel k (λ t. from_alternatives x rest t k)) at ops arms
   comm_follows r guard (comm_accept (accept y gs q) p) m ts rest sel at ops arms others c =
-      accept_follows (alternative_of r guard (comm_accept (accept y gs q) p) m ts) (accepting_of x m (accept y gs q) p.line) rest sel at (at + 1 + c.between) ops arms others
-      (lone g s (λ at n. ARMA (entry_of s (accept y gs q)) (accept_cell s m) (accept_cells s m) (at + 1 + c.between)) c.stands) (room_for g c.stands) c.room c.branch c.others
+      accept_follows (alternative_of r guard (comm_accept (accept y gs q) p) m ts)
+      (accepting_of x m (accept y gs q) p.line) rest sel at (at + 1 + c.between) ops arms others
+      (lone g s (λ at n. ARMA (entry_of s (accept y gs q)) (accept_cell s m) (accept_cells s m) (at + 1 + c.between)) c.stands)
+      (room_for g c.stands) c.room c.branch c.others
   comm_follows r guard (comm_accept (accept_do y gs t q) p) m ts rest sel at ops arms others c =
-      accept_follows (alternative_of r guard (comm_accept (accept_do y gs t q) p) m ts) (accepting_of x m (accept_do y gs t q) p.line) rest sel at (at + 1 + c.between) ops arms others
-      (lone g s (λ at n. ARMA (entry_of s (accept_do y gs t q)) (accept_cell s m) (accept_cells s m) (at + 1 + c.between)) c.stands) (room_for g c.stands) c.room c.branch c.others
+      accept_follows (alternative_of r guard (comm_accept (accept_do y gs t q) p) m ts)
+      (accepting_of x m (accept_do y gs t q) p.line) rest sel at (at + 1 + c.between) ops arms others
+      (lone g s (λ at n. ARMA (entry_of s (accept_do y gs t q)) (accept_cell s m) (accept_cells s m) (at + 1 + c.between)) c.stands)
+      (room_for g c.stands) c.room c.branch c.others
   comm_follows r guard (comm_send d e p) m ts rest sel at ops arms others c =
       let a = alternative_of r guard (comm_send d e p) m ts in
       let few : length arms ≤ g.arms = (let all = c.room in omega arith) in
@@ -104,17 +112,20 @@ module _ (g : Setting) (b : Block) (names : List Level) (around : Around) (check
       (desig_changes s checked.sound d is.t is.channel) c.stands in
       let mid = at + address.size in
       let end : at + (address.size + 1 + ((message_code s msg).size + 1)) ≡ mid + 1 + ((message_code s msg).size + 1) = omega arith in
-      let inner : CommAt g s x (mid + 1) (suc (length ops)) (length ops) a rest sel arms (λ between. message_code s msg ⨾ over s (λ to. ARMS (message_cells s msg) to) between) (Behind g b x ops k) =
+      let inner : CommAt g s x (mid + 1) (suc (length ops)) (length ops) a rest sel arms
+      (λ between. message_code s msg ⨾ over s (λ to. ARMS (message_cells s msg) to) between) (Behind g b x ops k) =
       record {
         comm = c.comm;
         between = c.between;
         n = parts.i;
         stands = parts.behind;
         branch = subst (λ (y : ℕ). CommBranchAt g s x (y + c.between) (length ops) a a.comm (Behind g b x ops k)) end c.branch;
-        others = select_moved g s x (at + (address.size + 1 + ((message_code s msg).size + 1))) (mid + 1 + ((message_code s msg).size + 1)) (length ops) rest sel arms (Behind g b x ops k) end c.others;
+        others = select_moved g s x (at + (address.size + 1 + ((message_code s msg).size + 1))) (mid + 1 + ((message_code s msg).size + 1))
+            (length ops) rest sel arms (Behind g b x ops k) end c.others;
         room = c.room;
       } in
-      variable_follows g b x checked arms few d is.t is.channel (offer_to msg a rest sel k) (λ channel. from_message x channel.spot msg a rest sel k (λ t. from_alternatives x rest t k)) at c.n ops parts.first
+      variable_follows g b x checked arms few d is.t is.channel (offer_to msg a rest sel k) (λ channel. from_message x channel.spot msg a rest sel k
+      (λ t. from_alternatives x rest t k)) at c.n ops parts.first
       (own, (is.u, is.carries, is.message, parts.obj, tt, inner))
       (λ l w lies.
       object_follows g b names around checked line arms few l.spot is.t w mid ops lies (channel_is_object forms is.t is.u is.carries) parts.obj parts.room
@@ -131,17 +142,20 @@ module _ (g : Setting) (b : Block) (names : List Level) (around : Around) (check
       (desig_changes s checked.sound d is.t is.channel) c.stands in
       let mid = at + address.size in
       let end : at + (address.size + 1 + ((receiver_code s target).size + 1)) ≡ mid + 1 + ((receiver_code s target).size + 1) = omega arith in
-      let inner : CommAt g s x (mid + 1) (suc (length ops)) (length ops) a rest sel arms (λ between. receiver_code s target ⨾ over s (λ to. ARMR (receiver_cells s target) to) between) (Behind g b x ops k) =
+      let inner : CommAt g s x (mid + 1) (suc (length ops)) (length ops) a rest sel arms (λ between. receiver_code s target ⨾ over s
+      (λ to. ARMR (receiver_cells s target) to) between) (Behind g b x ops k) =
       record {
         comm = c.comm;
         between = c.between;
         n = parts.i;
         stands = parts.behind;
         branch = subst (λ (y : ℕ). CommBranchAt g s x (y + c.between) (length ops) a a.comm (Behind g b x ops k)) end c.branch;
-        others = select_moved g s x (at + (address.size + 1 + ((receiver_code s target).size + 1))) (mid + 1 + ((receiver_code s target).size + 1)) (length ops) rest sel arms (Behind g b x ops k) end c.others;
+        others = select_moved g s x (at + (address.size + 1 + ((receiver_code s target).size + 1))) (mid + 1 + ((receiver_code s target).size + 1))
+            (length ops) rest sel arms (Behind g b x ops k) end c.others;
         room = c.room;
       } in
-      variable_follows g b x checked arms few d is.t is.channel (offer_from target a rest sel k) (λ channel. from_receiver x channel.spot target a rest sel k (λ t. from_alternatives x rest t k)) at c.n ops parts.first
+      variable_follows g b x checked arms few d is.t is.channel (offer_from target a rest sel k) (λ channel. from_receiver x channel.spot target a rest sel k
+      (λ t. from_alternatives x rest t k)) at c.n ops parts.first
       (own, (is.u, is.carries, is.receiver, parts.obj, tt, inner))
       (λ l w lies.
       object_follows g b names around checked line arms few l.spot is.t w mid ops lies (channel_is_object forms is.t is.u is.carries) parts.obj parts.room
@@ -154,7 +168,8 @@ module _ (g : Setting) (b : Block) (names : List Level) (around : Around) (check
       let ar = arm_at g b names around checked own line k a rest sel arms (Behind g b x ops k) value ARMT at (length ops) (length ops) (suc (length ops))
       (λ to h. h) (sized_expr s e)
       (λ n. held_grown g.program value 1 (expr_changes s checked.sound e a_number c.comm) at n (length ops) ∙ omega arith) c in
-      expression_follows g b x checked arms few e a_number c.comm (offer_wait a rest sel k) (from_seconds x a sel (λ t. from_alternatives x rest t k)) at c.n ops (front g value (over s ARMT c.between) c.stands)
+      expression_follows g b x checked arms few e a_number c.comm (offer_wait a rest sel k)
+      (from_seconds x a sel (λ t. from_alternatives x rest t k)) at c.n ops (front g value (over s ARMT c.between) c.stands)
       (own, (refl, ar))
       (λ v simple. seconds_armed g b names around checked own line k v a rest sel (at + value.size) ops arms others (room_for g c.stands) ar)
   comm_follows r guard (terminate p) m ts rest sel at ops arms others c =
@@ -175,9 +190,11 @@ module _ (g : Setting) (b : Block) (names : List Level) (around : Around) (check
       let size = comm_size s a.next a.comm c.between 0 in
       let up : at < to = omega (arith, ends) in
       let end : at + 1 + (comm_code s a.next a.comm c.between).size ≡ to = omega (arith, ends, size) in
-      test_move g arms few v (from_comm x a.comm a rest sel k (λ t. from_alternatives x rest t k)) (from_alternatives x rest sel k) at ops to line is up (room_for g c.stands)
+      test_move g arms few v (from_comm x a.comm a rest sel k (λ t. from_alternatives x rest t k))
+      (from_alternatives x rest sel k) at ops to line is up (room_for g c.stands)
       (comm_follows a.replica a.guard a.comm a.next a.stmts rest sel (at + 1) ops arms others c)
-      (others sel to ops arms few (select_moved g s x (at + 1 + (comm_code s a.next a.comm c.between).size) to (length ops) rest sel arms (Behind g b x ops k) end c.others))
+      (others sel to ops arms few (select_moved g s x (at + 1 + (comm_code s a.next a.comm c.between).size) to
+      (length ops) rest sel arms (Behind g b x ops k) end c.others))
 
   pub opening_follows :
       (guard : Option ExprTree) (a : Alternative) (rest : List Alternative) (sel : Selecting) (at : ℕ) (ops : List ℤ) (arms : List Arm)
@@ -192,7 +209,8 @@ module _ (g : Setting) (b : Block) (names : List Level) (around : Around) (check
       let mid = at + test.size in
       let i = c.n + length test.texts in
       let out = mid + 1 + inner.size in
-      let behind = back g test (over s JF inner.size ⨾ inner) (suc (length ops)) (sized_expr s e) (held_grown g.program test 1 (expr_changes s checked.sound e a_number is) at c.n (length ops) ∙ omega arith) c.stands in
+      let behind = back g test (over s JF inner.size ⨾ inner) (suc (length ops)) (sized_expr s e)
+      (held_grown g.program test 1 (expr_changes s checked.sound e a_number is) at c.n (length ops) ∙ omega arith) c.stands in
       let third = tail g s (λ at n. JF (at + 1 + inner.size)) inner (length ops) (omega arith) behind in
       let is_test = head g s (λ at n. JF (at + 1 + inner.size)) inner behind in
       let end : at + (test.size + (1 + inner.size)) ≡ out = omega arith in
@@ -208,7 +226,8 @@ module _ (g : Setting) (b : Block) (names : List Level) (around : Around) (check
         others = select_moved g s x (at + (test.size + (1 + inner.size))) out (length ops) rest sel arms (Behind g b x ops k) end c.others;
         room = c.room;
       } in
-      expression_follows g b x checked arms few e a_number is (open_if a rest sel k) (from_opened x a rest sel k (λ t. from_alternatives x rest t k)) at c.n ops (front g test (over s JF inner.size ⨾ inner) c.stands)
+      expression_follows g b x checked arms few e a_number is (open_if a rest sel k) (from_opened x a rest sel k (λ t. from_alternatives x rest t k)) at c.n ops
+      (front g test (over s JF inner.size ⨾ inner) c.stands)
       (own, (refl, out, is_test, ends, open_at))
       (λ v simple. opened_follows v a rest sel mid out ops arms others is_test ends open_at)
 
@@ -218,17 +237,20 @@ module _ (g : Setting) (b : Block) (names : List Level) (around : Around) (check
   replica_follows :
       (r : Option Replica) (a : Alternative) (rest : List Alternative) (sel : Selecting) (at n : ℕ) (ops : List ℤ) (arms : List Arm)
       → Others rest → length arms ≤ g.arms → IsReplica s r → IsGuard s a.guard → Stands g at n (length ops) (replica_code s r)
-      → CommAt g s x (at + (replica_code s r).size) (length ops) (length ops) a rest sel arms (λ between. guarded_code s a.guard (comm_code s a.next a.comm between)) (Behind g b x ops k)
+      → CommAt g s x (at + (replica_code s r).size) (length ops) (length ops) a rest sel arms
+      (λ between. guarded_code s a.guard (comm_code s a.next a.comm between)) (Behind g b x ops k)
       → Follows g (from_replica x r a rest sel k (λ t. from_alternatives x rest t k)) at ops arms
   replica_follows None a rest sel at n ops arms others few is guard st c =
       opening_follows a.guard a rest sel at ops arms others guard
-      (comm_moved g s x (at + 0) at (length ops) (length ops) a rest sel arms (λ between. guarded_code s a.guard (comm_code s a.next a.comm between)) (Behind g b x ops k) (omega arith) c)
+      (comm_moved g s x (at + 0) at (length ops) (length ops) a rest sel arms
+      (λ between. guarded_code s a.guard (comm_code s a.next a.comm between)) (Behind g b x ops k) (omega arith) c)
   replica_follows (Some r) a rest sel at n ops arms others few is guard st c =
       let v : TypedSpot = record { spot = r.at; t = Some is.0 } in
       let base = base_code s v.spot in
       let w = pos (first_word g.view s v.spot) in
       let last = one s (LIT r.value) ⨾ one s (STORE 1) in
-      let behind = back g base last (suc (length ops)) (sized_base s v.spot) (held_grown g.program base 1 (base_changes g.program s v.spot) at n (length ops) ∙ omega arith) st in
+      let behind = back g base last (suc (length ops)) (sized_base s v.spot) (held_grown g.program base 1 (base_changes g.program s v.spot) at n (length ops) ∙
+      omega arith) st in
       let third = tail g s (λ at n. LIT r.value) (one s (STORE 1)) (suc (suc (length ops))) (omega arith) behind in
       let stores = lone g s (λ at n. STORE 1) third in
       let cells : 1 ≡ shape_cells forms (shape_of is.0) = ap (λ (simple : Bool). shape_cells forms (if simple then a_number else a_whole is.0)) (sym is.1) in
@@ -248,7 +270,8 @@ module _ (g : Setting) (b : Block) (names : List Level) (around : Around) (check
         ),
       ) in
       base_follows g b names around checked line arms few v at n ops is.2 (front g base last st)
-      (next_move g arms few (at + 1) (w ∷ ops) (LIT r.value) line (r.value ∷ w ∷ ops) (head g s (λ at n. LIT r.value) (one s (STORE 1)) behind) (fits g arms (LIT r.value) (w ∷ ops) (omega arith) tt tt) refl (room_for g third)
+      (next_move g arms few (at + 1) (w ∷ ops) (LIT r.value) line (r.value ∷ w ∷ ops) (head g s (λ at n. LIT r.value) (one s (STORE 1)) behind)
+      (fits g arms (LIT r.value) (w ∷ ops) (omega arith) tt tt) refl (room_for g third)
       (arrives (at + 1 + 1) (r.value ∷ w ∷ ops) arms
       (b, checked, (own, of_value is.0 w ops refl (is_number is.0 r.value is.1) (whole_part g b names around checked line arms few v is.2) store left))))
 
@@ -275,12 +298,16 @@ module _ (g : Setting) (b : Block) (names : List Level) (around : Around) (check
       let is = left.typed.0 in
       let all = h.room in
       let P = Behind g b x ops k in
-      let changes_guarded : Changes g.program guarded 0 0 = guarded_changes s checked.sound a.guard inner is.1 (comm_changes s checked.sound a.next a.comm between is.2) in
-      let changes_one : Changes g.program one_code 0 0 = changes_both g.program written guarded 0 0 0 (replica_changes s checked.sound a.replica) changes_guarded in
+      let changes_guarded : Changes g.program guarded 0 0 =
+      guarded_changes s checked.sound a.guard inner is.1 (comm_changes s checked.sound a.next a.comm between is.2) in
+      let changes_one : Changes g.program one_code 0 0 =
+      changes_both g.program written guarded 0 0 0 (replica_changes s checked.sound a.replica) changes_guarded in
       let first = front g one_code behind left.code in
-      let last = back g one_code behind (length ops) (sized_alternative s a between) (held_grown g.program one_code 0 changes_one at left.n (length ops) ∙ omega arith) left.code in
+      let last = back g one_code behind (length ops) (sized_alternative s a between) (held_grown g.program one_code 0 changes_one at left.n
+      (length ops) ∙ omega arith) left.code in
       let mid = at + written.size in
-      let opening = back g written guarded (length ops) (sized_replica s a.replica) (held_grown g.program written 0 (replica_changes s checked.sound a.replica) at left.n (length ops) ∙ omega arith) first in
+      let opening = back g written guarded (length ops) (sized_replica s a.replica)
+      (held_grown g.program written 0 (replica_changes s checked.sound a.replica) at left.n (length ops) ∙ omega arith) first in
       let next : at + one_code.size ≡ mid + guarded.size = omega arith in
       let decides : at + (one_code.size + behind.size) ≡ mid + guarded.size + behind.size = omega arith in
       let branch : at + (one_code.size + behind.size) + 1 + first_of ds ≡ mid + guarded.size + between = omega arith in

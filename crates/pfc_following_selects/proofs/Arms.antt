@@ -62,7 +62,8 @@ opened a offer = record { offer = offer; replica = a.replica; next = a.next + co
 
 -- a send or a receive has no accept
 plain_branch :
-    (g : Setting) (s : Site) (x : Context) (to held : ℕ) (P : ℕ → Type 0) (a : Alternative) (comm : CommTree) → HasMessage comm → CommBranchAt g s x to held a comm P
+    (g : Setting) (s : Site) (x : Context) (to held : ℕ) (P : ℕ → Type 0) (a : Alternative) (comm : CommTree) →
+    HasMessage comm → CommBranchAt g s x to held a comm P
     → BranchAt g s to held a.replica None (a.next + comm_scopes comm) a.stmts P
 plain_branch g s x to held P a (comm_send d e p) has h = h
 plain_branch g s x to held P a (comm_receive d v p) has h = h
@@ -138,7 +139,8 @@ module _ (g : Setting) (b : Block) (names : List Level) (around : Around) (check
 
   -- a value that is offered, over the number of its channel
   pub value_armed :
-      (channel : Spot) (t : Option TypeId) (u : TypeId) (i : ℤ) (h : Shape) (v : Value) (a : Alternative) (rest : List Alternative) (sel : Selecting) (at : ℕ) (below : List ℤ) (arms : List Arm)
+      (channel : Spot) (t : Option TypeId) (u : TypeId) (i : ℤ) (h : Shape) (v : Value) (a : Alternative) (rest : List Alternative) (sel : Selecting)
+      (at : ℕ) (below : List ℤ) (arms : List Arm)
       → OthersFollow rest → h ≡ shape_of u → IsShaped forms h v → IsChannel forms t u → IsObject g s channel t i → IsCarried forms u → length below ≤ g.room
       → ArmAt g s x at (length below) a rest sel arms (λ to. ARMS (shape_cells forms h) to) (Behind g b x below k)
       → Follows g (from_alternatives x rest (with_open a sel (to_send channel v)) k) at (reverse (words_of v) ++ i ∷ below) arms
@@ -152,7 +154,8 @@ module _ (g : Setting) (b : Block) (names : List Level) (around : Around) (check
       let effect : effect_of g instr at ops arms ≡ onward (at + 1) below (arms ++ record { by = instr; operands = reverse (words_of v) ++ i ∷ [] } ∷ []) =
       ap (λ (y : List ℤ). onward (at + 1) y (arms ++ record { by = instr; operands = take (z + 1) ops } ∷ [])) (words_dropped (words_of v) below i z count)
       ∙ ap (λ (y : List ℤ). onward (at + 1) below (arms ++ record { by = instr; operands = y } ∷ [])) (words_taken (words_of v) below i z count) in
-      armed_follows a rest sel (to_send channel v) instr at ops below (reverse (words_of v) ++ i ∷ []) arms others ar.makes (fits g arms instr ops (omega (arith, size)) tt tt) effect room ar.room
+      armed_follows a rest sel (to_send channel v) instr at ops below (reverse (words_of v) ++ i ∷ []) arms others ar.makes
+      (fits g arms instr ops (omega (arith, size)) tt tt) effect room ar.room
       (ar.to, z, refl, of_message t u i carries object some is (ap (λ (y : Shape). shape_cells forms y) e) refl, ar.branch) ar.others
 
   receives_two : (z : ℕ) → 0 < z → receiving z ≡ 2
@@ -161,7 +164,8 @@ module _ (g : Setting) (b : Block) (names : List Level) (around : Around) (check
 
   -- the address of a variable that is to receive, over the number of its channel
   pub target_armed :
-      (channel : Spot) (t : Option TypeId) (u : TypeId) (i w : ℤ) (target : Spot) (a : Alternative) (rest : List Alternative) (sel : Selecting) (at : ℕ) (below : List ℤ) (arms : List Arm)
+      (channel : Spot) (t : Option TypeId) (u : TypeId) (i w : ℤ) (target : Spot) (a : Alternative) (rest : List Alternative) (sel : Selecting)
+      (at : ℕ) (below : List ℤ) (arms : List Arm)
       → OthersFollow rest → IsCarried forms u → IsChannel forms t u → IsObject g s channel t i → IsWord g.view s target (Some u) w → length below ≤ g.room
       → ArmAt g s x at (length below) a rest sel arms (λ to. ARMR (shape_cells forms (shape_of u)) to) (Behind g b x below k)
       → Follows g (from_alternatives x rest (with_open a sel (to_receive channel (Some target))) k) at (w ∷ i ∷ below) arms
@@ -169,7 +173,8 @@ module _ (g : Setting) (b : Block) (names : List Level) (around : Around) (check
       let z = shape_cells forms (shape_of u) in
       let instr = ARMR z ar.to in
       let two = receives_two z some.0 in
-      armed_follows a rest sel (to_receive channel (Some target)) instr at (w ∷ i ∷ below) below (w ∷ i ∷ []) arms others ar.makes (fits g arms instr (w ∷ i ∷ below) (omega (arith, two)) tt tt)
+      armed_follows a rest sel (to_receive channel (Some target)) instr at (w ∷ i ∷ below) below (w ∷ i ∷ []) arms others ar.makes
+      (fits g arms instr (w ∷ i ∷ below) (omega (arith, two)) tt tt)
       (ap (λ (y : ℕ). onward (at + 1) (drop y (w ∷ i ∷ below)) (arms ++ record { by = instr; operands = take y (w ∷ i ∷ below) } ∷ [])) two) room ar.room
       (ar.to, z, refl, into_variable t u i w target carries object some lies refl refl, ar.branch) ar.others
 
@@ -180,39 +185,47 @@ module _ (g : Setting) (b : Block) (names : List Level) (around : Around) (check
       → Follows g (from_seconds x a sel (λ t. from_alternatives x rest t k) (ordinal v)) at (v ∷ ops) arms
   seconds_armed v a rest sel at ops arms others room ar = by (int_lt v (pos 0)) refl
     where
-      by : (r : Bool) → int_lt v (pos 0) ≡ r → Follows g (if r then faults x Below else from_alternatives x rest (with_open a sel (to_wait v)) k) at (v ∷ ops) arms
+      by : (r : Bool) → int_lt v (pos 0) ≡ r →
+          Follows g (if r then faults x Below else from_alternatives x rest (with_open a sel (to_wait v)) k) at (v ∷ ops) arms
       by true e =
           let few : length arms ≤ g.arms = (let all = ar.room in omega arith) in
           fault_at g arms few b x Below at (v ∷ ops) (ARMT ar.to) ar.makes (fits g arms (ARMT ar.to) (v ∷ ops) (omega arith) tt tt)
           (ap (λ (r : Bool). if r then refuses Below else arming (ARMT ar.to) 1 at (v ∷ ops) arms) e)
       by false e =
-          armed_follows a rest sel (to_wait v) (ARMT ar.to) at (v ∷ ops) ops (v ∷ []) arms others ar.makes (fits g arms (ARMT ar.to) (v ∷ ops) (omega arith) tt tt)
+          armed_follows a rest sel (to_wait v) (ARMT ar.to) at (v ∷ ops) ops (v ∷ []) arms others ar.makes
+          (fits g arms (ARMT ar.to) (v ∷ ops) (omega arith) tt tt)
           (ap (λ (r : Bool). if r then refuses Below else arming (ARMT ar.to) 1 at (v ∷ ops) arms) e) room ar.room
           (ar.to, refl, refl, e, ar.branch) ar.others
 
   -- ## Behind the number of a channel
 
   pub message_follows :
-      (channel : Spot) (t : Option TypeId) (u : TypeId) (i : ℤ) (m : Option ExprTree) (a : Alternative) (rest : List Alternative) (sel : Selecting) (at : ℕ) (ops : List ℤ) (arms : List Arm)
+      (channel : Spot) (t : Option TypeId) (u : TypeId) (i : ℤ) (m : Option ExprTree) (a : Alternative) (rest : List Alternative) (sel : Selecting)
+      (at : ℕ) (ops : List ℤ) (arms : List Arm)
       → OthersFollow rest → HasMessage a.comm → IsChannel forms t u → IsObject g s channel t i → IsMessage s m u
-      → CommAt g s x at (suc (length ops)) (length ops) a rest sel arms (λ between. message_code s m ⨾ over s (λ to. ARMS (message_cells s m) to) between) (Behind g b x ops k)
+      → CommAt g s x at (suc (length ops)) (length ops) a rest sel arms
+      (λ between. message_code s m ⨾ over s (λ to. ARMS (message_cells s m) to) between) (Behind g b x ops k)
       → Follows g (from_message x channel m a rest sel k (λ t. from_alternatives x rest t k)) at (i ∷ ops) arms
   message_follows channel t u i None a rest sel at ops arms others has carries object is c =
       let few : length arms ≤ g.arms = (let all = c.room in omega arith) in
-      let ar = arm_at a rest sel arms (Behind g b x ops k) nothing (λ to. ARMS 0 to) at (suc (length ops)) (length ops) (suc (length ops)) (λ to. plain_branch g s x to (length ops) (Behind g b x ops k) a a.comm has) (λ at n. refl) (λ n. refl) c in
+      let ar = arm_at a rest sel arms (Behind g b x ops k) nothing (λ to. ARMS 0 to) at (suc (length ops)) (length ops) (suc (length ops))
+      (λ to. plain_branch g s x to (length ops) (Behind g b x ops k) a a.comm has) (λ at n. refl) (λ n. refl) c in
       let room : length ops ≤ g.room = (let all = room_for g c.stands in omega arith) in
       follows_moved g arms few (at + 0) at (omega arith)
-      (armed_follows a rest sel (to_send channel a_signal) (ARMS 0 ar.to) (at + 0) (i ∷ ops) ops (i ∷ []) arms others ar.makes (fits g arms (ARMS 0 ar.to) (i ∷ ops) (omega arith) tt tt) refl room ar.room
+      (armed_follows a rest sel (to_send channel a_signal) (ARMS 0 ar.to) (at + 0) (i ∷ ops) ops (i ∷ []) arms others ar.makes
+      (fits g arms (ARMS 0 ar.to) (i ∷ ops) (omega arith) tt tt) refl room ar.room
       (ar.to, 0, refl, of_signal t u i carries object is refl refl refl, ar.branch) ar.others)
   message_follows channel t u i (Some e) a rest sel at ops arms others has carries object is c =
       let few : length arms ≤ g.arms = (let all = c.room in omega arith) in
       let value = expr_code s e in
       let w = shape_cells forms (shape_of u) in
-      let made = arm_at a rest sel arms (Behind g b x ops k) value (λ to. ARMS (message_cells s (Some e)) to) at (suc (length ops)) (length ops) (w + suc (length ops)) (λ to. plain_branch g s x to (length ops) (Behind g b x ops k) a a.comm has) (sized_expr s e)
+      let made = arm_at a rest sel arms (Behind g b x ops k) value (λ to. ARMS (message_cells s (Some e)) to) at (suc (length ops)) (length ops)
+      (w + suc (length ops)) (λ to. plain_branch g s x to (length ops) (Behind g b x ops k) a a.comm has) (sized_expr s e)
       (λ n. held_grown g.program value w (expr_changes s checked.sound e (shape_of u) is.0) at n (suc (length ops))) c in
       let ar = subst (λ (z : ℕ). ArmAt g s x (at + value.size) (length ops) a rest sel arms (λ to. ARMS z to) (Behind g b x ops k)) is.1 made in
       let room : length ops ≤ g.room = (let all = room_for g c.stands in omega arith) in
-      expression_follows g b x checked arms few e (shape_of u) is.0 (offer_value channel a rest sel k) (λ v. from_alternatives x rest (with_open a sel (to_send channel v)) k) at c.n (i ∷ ops)
+      expression_follows g b x checked arms few e (shape_of u) is.0 (offer_value channel a rest sel k)
+      (λ v. from_alternatives x rest (with_open a sel (to_send channel v)) k) at c.n (i ∷ ops)
       (front g value (over s (λ to. ARMS (message_cells s (Some e)) to) c.between) c.stands)
       (own, (t, u, i, ops, refl, refl, carries, is.2, object, ar))
       (λ v simple.
@@ -220,27 +233,33 @@ module _ (g : Setting) (b : Block) (names : List Level) (around : Around) (check
       value_armed channel t u i (shape_of u) (ordinal v) a rest sel (at + value.size) ops arms others refl number carries object is.2 room ar)
 
   pub receiver_follows :
-      (channel : Spot) (t : Option TypeId) (u : TypeId) (i : ℤ) (d : Option DesigTree) (a : Alternative) (rest : List Alternative) (sel : Selecting) (at : ℕ) (ops : List ℤ) (arms : List Arm)
+      (channel : Spot) (t : Option TypeId) (u : TypeId) (i : ℤ) (d : Option DesigTree) (a : Alternative) (rest : List Alternative) (sel : Selecting)
+      (at : ℕ) (ops : List ℤ) (arms : List Arm)
       → OthersFollow rest → HasMessage a.comm → IsChannel forms t u → IsObject g s channel t i → IsReceiver s d u
-      → CommAt g s x at (suc (length ops)) (length ops) a rest sel arms (λ between. receiver_code s d ⨾ over s (λ to. ARMR (receiver_cells s d) to) between) (Behind g b x ops k)
+      → CommAt g s x at (suc (length ops)) (length ops) a rest sel arms
+      (λ between. receiver_code s d ⨾ over s (λ to. ARMR (receiver_cells s d) to) between) (Behind g b x ops k)
       → Follows g (from_receiver x channel d a rest sel k (λ t. from_alternatives x rest t k)) at (i ∷ ops) arms
   receiver_follows channel t u i None a rest sel at ops arms others has carries object is c =
       let few : length arms ≤ g.arms = (let all = c.room in omega arith) in
-      let ar = arm_at a rest sel arms (Behind g b x ops k) nothing (λ to. ARMR 0 to) at (suc (length ops)) (length ops) (suc (length ops)) (λ to. plain_branch g s x to (length ops) (Behind g b x ops k) a a.comm has) (λ at n. refl) (λ n. refl) c in
+      let ar = arm_at a rest sel arms (Behind g b x ops k) nothing (λ to. ARMR 0 to) at (suc (length ops)) (length ops) (suc (length ops))
+      (λ to. plain_branch g s x to (length ops) (Behind g b x ops k) a a.comm has) (λ at n. refl) (λ n. refl) c in
       let room : length ops ≤ g.room = (let all = room_for g c.stands in omega arith) in
       follows_moved g arms few (at + 0) at (omega arith)
-      (armed_follows a rest sel (to_receive channel None) (ARMR 0 ar.to) (at + 0) (i ∷ ops) ops (i ∷ []) arms others ar.makes (fits g arms (ARMR 0 ar.to) (i ∷ ops) (omega arith) tt tt) refl room ar.room
+      (armed_follows a rest sel (to_receive channel None) (ARMR 0 ar.to) (at + 0) (i ∷ ops) ops (i ∷ []) arms others ar.makes
+      (fits g arms (ARMR 0 ar.to) (i ∷ ops) (omega arith) tt tt) refl room ar.room
       (ar.to, 0, refl, into_nothing t u i carries object is refl refl, ar.branch) ar.others)
   receiver_follows channel t u i (Some d) a rest sel at ops arms others has carries object is c =
       let few : length arms ≤ g.arms = (let all = c.room in omega arith) in
       let target = desig_code s d in
       let w = shape_cells forms (shape_of u) in
-      let made = arm_at a rest sel arms (Behind g b x ops k) target (λ to. ARMR (receiver_cells s (Some d)) to) at (suc (length ops)) (length ops) (suc (suc (length ops))) (λ to. plain_branch g s x to (length ops) (Behind g b x ops k) a a.comm has) (sized_desig s d)
+      let made = arm_at a rest sel arms (Behind g b x ops k) target (λ to. ARMR (receiver_cells s (Some d)) to) at (suc (length ops)) (length ops)
+      (suc (suc (length ops))) (λ to. plain_branch g s x to (length ops) (Behind g b x ops k) a a.comm has) (sized_desig s d)
       (λ n. held_grown g.program target 1 (desig_changes s checked.sound d (Some u) is.0) at n (suc (length ops)) ∙ omega arith) c in
       let ar = subst (λ (z : ℕ). ArmAt g s x (at + target.size) (length ops) a rest sel arms (λ to. ARMR z to) (Behind g b x ops k)) is.1 made in
       let some = is.2 in
       let room : length ops ≤ g.room = (let all = room_for g c.stands in omega arith) in
-      variable_follows g b x checked arms few d (Some u) is.0 (offer_into channel a rest sel k) (λ v. from_alternatives x rest (with_open a sel (to_receive channel (Some v.spot))) k) at c.n (i ∷ ops)
+      variable_follows g b x checked arms few d (Some u) is.0 (offer_into channel a rest sel k)
+      (λ v. from_alternatives x rest (with_open a sel (to_receive channel (Some v.spot))) k) at c.n (i ∷ ops)
       (front g target (over s (λ to. ARMR (receiver_cells s (Some d)) to) c.between) c.stands)
       (own, (t, u, i, ops, refl, some, carries, refl, object, ar))
       (λ l y lies. target_armed channel t u i y l.spot a rest sel (at + target.size) ops arms others some carries object lies room ar)

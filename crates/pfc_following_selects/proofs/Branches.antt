@@ -70,7 +70,8 @@ module _ (g : Setting) (b : Block) (x : Context) (own : g.trial ≡ of_own) wher
       let all : StmtsAt inside s at then.0 (length ops) (a.scope + 1) (more_stmts a.stmt no_stmts) =
       record {
         typed = (then.1.typed, tt);
-        code = stands_alone inside at then.0 (length ops) code (stands_shown g g.view (a.scope ∷ g.accepts) (caller ∷ g.meetings) at then.0 (length ops) code then.1.code);
+        code = stands_alone inside at then.0 (length ops) code (stands_shown g g.view (a.scope ∷ g.accepts)
+            (caller ∷ g.meetings) at then.0 (length ops) code then.1.code);
       } in
       let left = part_from caller a.line (in_names x.env (behind m ts k)) in
       let parts : Performs inside b (within_accept x.env a.scope) to ops [] left =
@@ -82,7 +83,8 @@ module _ (g : Setting) (b : Block) (x : Context) (own : g.trial ≡ of_own) wher
   -- in a meeting, where one more accept is open
   led_inside : (n caller at to : ℕ) (k : Remainder) (ops : List ℤ) → Leads g at to → Performs (with_accept g n caller) b x.env to ops [] k
       → Performs (with_accept g n caller) b x.env at ops [] k
-  led_inside n caller at to k ops leads h = performs_led (with_accept g n caller) b x.env k at to ops [] (leads_shown g g.view (n ∷ g.accepts) (caller ∷ g.meetings) at to leads) h
+  led_inside n caller at to k ops leads h =
+      performs_led (with_accept g n caller) b x.env k at to ops [] (leads_shown g g.view (n ∷ g.accepts) (caller ∷ g.meetings) at to leads) h
 
   meeting_by :
       (r : Option Replica) (a : Accepting) (m : ℕ) (ts : StmtTrees) (caller : ℕ) (k : Remainder) (at : ℕ) (ops : List ℤ)

@@ -30,7 +30,8 @@ module _ (forms : Forms) (sound : IsSound forms) where
     count_fields no_field = refl
     count_fields (one_field f fields v vs is are) =
         length-append (words_of v) (words_in vs)
-        ∙ (let first = count_of is in let others = count_fields are in let all = sum_by-cons (λ (x : Text × TypeId). cells_in forms x.1) f (take (length fields) fields) in omega (arith, all))
+        ∙ (let first = count_of is in let others = count_fields are in let all =
+        sum_by-cons (λ (x : Text × TypeId). cells_in forms x.1) f (take (length fields) fields) in omega (arith, all))
 
   -- a value that is awaited in the shape of a type is of the type
   pub shaped_is_of : (t : TypeId) (h : Shape) (v : Value) → h ≡ shape_of t → IsShaped forms h v → IsOf forms t v

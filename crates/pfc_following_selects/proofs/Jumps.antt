@@ -17,7 +17,8 @@ use Rattle.pfc_standing_code.specs.Effects.{Arm}
 use Rattle.pfc_standing_code.specs.Performs.{StmtsThen, Performs}
 
 -- what is left is performed from a jump on
-pub performs_jumped : (g : Setting) (b : Block) (env : Env) (k : Remainder) (at to : ℕ) (ops : List ℤ) (arms : List Arm) (line : ℕ) → IsAt g at (JMP to) line → at < to → Performs g b env to ops arms k → Performs g b env at ops arms k
+pub performs_jumped : (g : Setting) (b : Block) (env : Env) (k : Remainder) (at to : ℕ) (ops : List ℤ) (arms : List Arm) (line : ℕ) → IsAt g at (JMP to) line →
+    at < to → Performs g b env to ops arms k → Performs g b env at ops arms k
 performs_jumped g b env (in_names inner k) at to ops arms line is up h =
     let p = h.1 in (h.0, (p.0, p.1, p.2, performs_jumped g p.0 inner k at to ops arms line is up p.3))
 performs_jumped g b env (go_through l a rest sel k) at to ops arms line is up h = (h.0, (h.1.0, jump at to h.1.0 line is up h.1.1, h.1.2))
@@ -37,11 +38,14 @@ performs_jumped g b env (scan_on scan k) at to ops arms line is up h = (h.0, (h.
 performs_jumped g b env (try_other w scan k) at to ops arms line is up h = (h.0, (h.1.0, jump at to h.1.0 line is up h.1.1, h.1.2))
 
 -- and from where some jumps lead there
-pub performs_led : (g : Setting) (b : Block) (env : Env) (k : Remainder) (at to : ℕ) (ops : List ℤ) (arms : List Arm) → Leads g at to → Performs g b env to ops arms k → Performs g b env at ops arms k
+pub performs_led : (g : Setting) (b : Block) (env : Env) (k : Remainder) (at to : ℕ) (ops : List ℤ) (arms : List Arm) → Leads g at to →
+    Performs g b env to ops arms k → Performs g b env at ops arms k
 performs_led g b env k _ _ ops arms (arrived at) h = h
-performs_led g b env k _ _ ops arms (jump at to end line is up leads) h = performs_jumped g b env k at to ops arms line is up (performs_led g b env k to end ops arms leads h)
+performs_led g b env k _ _ ops arms (jump at to end line is up leads) h =
+    performs_jumped g b env k at to ops arms line is up (performs_led g b env k to end ops arms leads h)
 
-pub performs_at : (g : Setting) (b : Block) (env : Env) (k : Remainder) (at to : ℕ) (ops : List ℤ) → at ≡ to → Performs g b env at ops [] k → Performs g b env to ops [] k
+pub performs_at : (g : Setting) (b : Block) (env : Env) (k : Remainder) (at to : ℕ) (ops : List ℤ) → at ≡ to →
+    Performs g b env at ops [] k → Performs g b env to ops [] k
 performs_at g b env k at to ops e h = subst (λ (y : ℕ). Performs g b env y ops [] k) e h
 
 -- code with nothing behind it

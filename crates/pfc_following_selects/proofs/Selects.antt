@@ -102,7 +102,8 @@ module _ (g : Setting) (b : Block) (names : List Level) (around : Around) (check
     ended : IsAt g (at + inner.size) EACC l
     left : (n : ℕ) × Stands g (at + inner.size + 1) n held rest
 
-  meeting : (inner rest : Code) (l at n : ℕ) → IsSized inner → Changes g.program inner 0 0 → Stands g at n held ((inner ⨾ one (at_line s l) EACC) ⨾ rest) → Meeting inner rest l at
+  meeting : (inner rest : Code) (l at n : ℕ) → IsSized inner → Changes g.program inner 0 0 →
+      Stands g at n held ((inner ⨾ one (at_line s l) EACC) ⨾ rest) → Meeting inner rest l at
   meeting inner rest l at n sized changes st =
       let last = one (at_line s l) EACC in
       let both = inner ⨾ last in
@@ -111,34 +112,47 @@ module _ (g : Setting) (b : Block) (names : List Level) (around : Around) (check
       let end = back g inner last held sized (held_grown g.program inner 0 changes at n held ∙ omega arith) met in
       let behind = back g both rest held (sized_then (at_line s l) inner (λ at n. EACC) sized) (held_grown g.program both 0 whole at n held ∙ omega arith) st in
       let same : at + both.size ≡ at + inner.size + 1 = omega arith in
-      record { first = (n, front g inner last met); ended = lone g (at_line s l) (λ at n. EACC) end; left = (n + length both.texts, stands_moved g (at + inner.size + 1) same behind) }
+      record {
+        first = (n, front g inner last met);
+        ended = lone g (at_line s l) (λ at n. EACC) end;
+        left =
+            (n + length both.texts, stands_moved g (at + inner.size + 1) same behind);
+      }
 
   -- statements, and the jump behind them
-  stmts_then : (m between at n : ℕ) (ss : StmtTrees) → AreTyped s m ss → Stands g at n held (stmts_code s m ss ⨾ over s JMP between) → P (at + (stmts_code s m ss).size) → StmtsThen g s at held m ss P
+  stmts_then : (m between at n : ℕ) (ss : StmtTrees) → AreTyped s m ss → Stands g at n held (stmts_code s m ss ⨾ over s JMP between) →
+      P (at + (stmts_code s m ss).size) → StmtsThen g s at held m ss P
   stmts_then m between at n ss typed st end = (n, record { typed = typed; code = front g (stmts_code s m ss) (over s JMP between) st }, end)
 
   plain_met :
-      (m between at n : ℕ) (ss : StmtTrees) → AreTyped s m ss → Stands g at n held (nothing ⨾ stmts_code s m ss ⨾ over s JMP between) → P (at + (0 + (stmts_code s m ss).size)) → MetAt g s at held None m ss P
+      (m between at n : ℕ) (ss : StmtTrees) → AreTyped s m ss → Stands g at n held (nothing ⨾ stmts_code s m ss ⨾ over s JMP between) →
+      P (at + (0 + (stmts_code s m ss).size)) → MetAt g s at held None m ss P
   plain_met m between at n ss typed st end =
       let code = stmts_code s m ss in
       let rest = code ⨾ over s JMP between in
       let behind = back g nothing rest held sized_nothing refl st in
       let start : at + 0 ≡ at = omega arith in
-      stmts_then m between at (n + 0) ss typed (stands_moved g at start behind) (performs_at g b x.env k (at + (0 + code.size)) (at + code.size) ops (omega arith) end)
+      stmts_then m between at (n + 0) ss typed (stands_moved g at start behind) (performs_at g b x.env k (at + (0 + code.size))
+      (at + code.size) ops (omega arith) end)
 
   accept_met :
-      (a : Accepting) (m between at n : ℕ) (inner : Code) (ss : StmtTrees) → inner ≡ stmt_code (in_accept s a.scope) (a.scope + 1) a.stmt → IsSized inner → Changes g.program inner 0 0
+      (a : Accepting) (m between at n : ℕ) (inner : Code) (ss : StmtTrees) → inner ≡ stmt_code (in_accept s a.scope) (a.scope + 1) a.stmt →
+      IsSized inner → Changes g.program inner 0 0
       → AcceptsEntry (blocks_of s) s.block.scope a.entry a.scope
       → ((n : ℕ) → Stands g at n held inner → StmtThen g (in_accept s a.scope) at held (a.scope + 1) a.stmt (λ to. to ≡ at + inner.size))
-      → AreTyped s m ss → Stands g at n held ((inner ⨾ one (at_line s a.line) EACC) ⨾ stmts_code s m ss ⨾ over s JMP between) → P (at + ((inner.size + 1) + (stmts_code s m ss).size))
+      → AreTyped s m ss → Stands g at n held ((inner ⨾ one (at_line s a.line) EACC) ⨾ stmts_code s m ss ⨾ over s JMP between) →
+      P (at + ((inner.size + 1) + (stmts_code s m ss).size))
       → MetAt g s at held (Some a) m ss P
   accept_met a m between at n inner ss same sized changes entry stmt typed st end =
       let code = stmts_code s m ss in
       let parts = meeting inner (code ⨾ over s JMP between) a.line at n sized changes st in
       let first = stmt parts.first.0 parts.first.1 in
       let to = at + inner.size in
-      let left : IsAt g to EACC a.line × StmtsThen g s (to + 1) held m ss P =
-      (parts.ended, stmts_then m between (to + 1) parts.left.0 ss typed parts.left.1 (performs_at g b x.env k (at + ((inner.size + 1) + code.size)) (to + 1 + code.size) ops (omega arith) end)) in
+      let left : IsAt g to EACC a.line × StmtsThen g s (to + 1) held m ss P = (
+        parts.ended,
+        stmts_then m between (to + 1) parts.left.0 ss typed parts.left.1 (performs_at g b x.env k (at + ((inner.size + 1) + code.size))
+            (to + 1 + code.size) ops (omega arith) end),
+      ) in
       (entry, (first.0, first.1, subst (λ (y : ℕ). IsAt g y EACC a.line × StmtsThen g s (y + 1) held m ss P) (sym first.2) left))
 
   met_stands :
@@ -163,7 +177,8 @@ module _ (g : Setting) (b : Block) (names : List Level) (around : Around) (check
   -- ## Branches
 
   as_branch :
-      (comm : CommTree) (a : Alternative) (at : ℕ) → BranchAt g s at held a.replica (accepted_in x a.next comm) (a.next + comm_scopes comm) a.stmts P → CommBranchAt g s x at held a comm P
+      (comm : CommTree) (a : Alternative) (at : ℕ) → BranchAt g s at held a.replica (accepted_in x a.next comm) (a.next + comm_scopes comm) a.stmts P →
+      CommBranchAt g s x at held a comm P
   as_branch (terminate p) a at h = tt
   as_branch (comm_accept c p) a at h = h
   as_branch (comm_send d e p) a at h = h
@@ -176,7 +191,8 @@ module _ (g : Setting) (b : Block) (names : List Level) (around : Around) (check
 
     -- each value is written again, and then a jump leads to what stands behind the communication
     chosen_branches :
-        (rs : List Replica) (from at n end : ℕ) → AreReplicas s rs → Stands g at n held (chosen_code s rs) → at ≡ first + from → at + (chosen_code s rs).size ≡ end
+        (rs : List Replica) (from at n end : ℕ) → AreReplicas s rs → Stands g at n held (chosen_code s rs) →
+        at ≡ first + from → at + (chosen_code s rs).size ≡ end
         → MetAt g s end held (accepted_in x m comm) (m + comm_scopes comm) ss P → BranchesAt g s x first held others ds P
         → BranchesAt g s x first held (map chosen rs ++ others) (replica_branches from rs ++ ds) P
     chosen_branches [] from at n end are st place ends met rest = rest
@@ -184,7 +200,8 @@ module _ (g : Setting) (b : Block) (names : List Level) (around : Around) (check
         let written = replica_code s (Some r) in
         let behind = chosen_code s rs in
         let z = written.size in
-        let jumps = back g written (over s JMP behind.size ⨾ behind) held (sized_replica s (Some r)) (held_grown g.program written 0 (replica_changes s checked.sound (Some r)) at n held ∙ omega arith) st in
+        let jumps = back g written (over s JMP behind.size ⨾ behind) held (sized_replica s (Some r))
+        (held_grown g.program written 0 (replica_changes s checked.sound (Some r)) at n held ∙ omega arith) st in
         let is = head g s (λ at n. JMP (at + 1 + behind.size)) behind jumps in
         let left = tail g s (λ at n. JMP (at + 1 + behind.size)) behind held (omega arith) jumps in
         let to = at + z + 1 + behind.size in
@@ -193,7 +210,8 @@ module _ (g : Setting) (b : Block) (names : List Level) (around : Around) (check
         let branch : BranchAt g s at held (Some r) (accepted_in x m comm) (m + comm_scopes comm) ss P =
         (are.0, are.1, n, front g written (over s JMP behind.size ⨾ behind) st, (to, jump (at + z) to to line is (omega arith) (arrived to), met_at)) in
         let next : at + z + 1 ≡ first + (from + 4) = omega arith in (
-          as_branch comm (chosen r) (first + from) (subst (λ (y : ℕ). BranchAt g s y held (Some r) (accepted_in x m comm) (m + comm_scopes comm) ss P) place branch),
+          as_branch comm (chosen r) (first + from)
+              (subst (λ (y : ℕ). BranchAt g s y held (Some r) (accepted_in x m comm) (m + comm_scopes comm) ss P) place branch),
           chosen_branches rs (from + 4) (at + z + 1) (n + length written.texts + 0) end are.2 left next (sym same) met rest,
         )
 
@@ -201,7 +219,8 @@ module _ (g : Setting) (b : Block) (names : List Level) (around : Around) (check
     behind_chosen :
         (spread : Option Spread) (between at n : ℕ) → IsMetTyped s m comm → AreTyped s (m + comm_scopes comm) ss
         → Stands g at n held (chosen_code s (spread_replicas s spread) ⨾ met_code s m comm ⨾ stmts_code s (m + comm_scopes comm) ss ⨾ over s JMP between)
-        → P (at + ((chosen_code s (spread_replicas s spread)).size + ((met_code s m comm).size + ((stmts_code s (m + comm_scopes comm) ss).size + 1))) + between)
+        → P (at + ((chosen_code s (spread_replicas s spread)).size +
+        ((met_code s m comm).size + ((stmts_code s (m + comm_scopes comm) ss).size + 1))) + between)
         → MetAt g s (at + (chosen_code s (spread_replicas s spread)).size) held (accepted_in x m comm) (m + comm_scopes comm) ss P
     behind_chosen spread between at n met typed st end =
         let values = chosen_code s (spread_replicas s spread) in
@@ -209,10 +228,14 @@ module _ (g : Setting) (b : Block) (names : List Level) (around : Around) (check
         let code = stmts_code s (m + comm_scopes comm) ss in
         let last = code ⨾ over s JMP between in
         let mid = at + values.size in
-        let behind = back g values (meets ⨾ last) held (sized_chosen s (spread_replicas s spread)) (held_grown g.program values 0 (chosen_changes s (spread_replicas s spread)) at n held ∙ omega arith) st in
+        let behind = back g values (meets ⨾ last) held (sized_chosen s (spread_replicas s spread))
+        (held_grown g.program values 0 (chosen_changes s (spread_replicas s spread)) at n held ∙ omega arith) st in
         let i = n + length values.texts in
-        let stmts = back g meets last held (sized_met s m comm) (held_grown g.program meets 0 (met_change comm s m checked.sound met) mid i held ∙ omega arith) behind in
-        let jumps = back g code (over s JMP between) held (sized_stmts s (m + comm_scopes comm) ss) (held_grown g.program code 0 (stmts_change ss s (m + comm_scopes comm) checked.sound typed) (mid + meets.size) (i + length meets.texts) held ∙ omega arith) stmts in
+        let stmts = back g meets last held (sized_met s m comm) (held_grown g.program meets 0 (met_change comm s m checked.sound met) mid i held ∙
+        omega arith) behind in
+        let jumps = back g code (over s JMP between) held (sized_stmts s (m + comm_scopes comm) ss)
+        (held_grown g.program code 0 (stmts_change ss s (m + comm_scopes comm) checked.sound typed) (mid + meets.size) (i + length meets.texts) held ∙
+        omega arith) stmts in
         let j = mid + meets.size + code.size in
         let to = j + 1 + between in
         let there = performs_at g b x.env k (at + (values.size + (meets.size + (code.size + 1))) + between) to ops (omega arith) end in
@@ -223,18 +246,21 @@ module _ (g : Setting) (b : Block) (names : List Level) (around : Around) (check
     text_branches :
         (spread : Option Spread) (from between at n : ℕ) → IsSpread s spread → IsMetTyped s m comm → AreTyped s (m + comm_scopes comm) ss → at ≡ first + from
         → Stands g at n held (chosen_code s (spread_replicas s spread) ⨾ met_code s m comm ⨾ stmts_code s (m + comm_scopes comm) ss ⨾ over s JMP between)
-        → P (at + ((chosen_code s (spread_replicas s spread)).size + ((met_code s m comm).size + ((stmts_code s (m + comm_scopes comm) ss).size + 1))) + between)
+        → P (at + ((chosen_code s (spread_replicas s spread)).size +
+        ((met_code s m comm).size + ((stmts_code s (m + comm_scopes comm) ss).size + 1))) + between)
         → BranchesAt g s x first held others ds P
         → BranchesAt g s x first held (spread_out x m spread guard comm ss ++ others) (branches_from s from spread ++ ds) P
     text_branches None from between at n is met typed place st end rest =
         let start : at + 0 ≡ first + from = omega arith in (
-          as_branch comm (alternative m guard comm ss None) (first + from) (subst (λ (y : ℕ). MetAt g s y held (accepted_in x m comm) (m + comm_scopes comm) ss P) start (behind_chosen None between at n met typed st end)),
+          as_branch comm (alternative m guard comm ss None) (first + from)
+              (subst (λ (y : ℕ). MetAt g s y held (accepted_in x m comm) (m + comm_scopes comm) ss P) start (behind_chosen None between at n met typed st end)),
           rest,
         )
     text_branches (Some r) from between at n is met typed place st end rest =
         let values = chosen_code s (replicas x r) in
         chosen_branches (replicas x r) from at n (at + values.size) (spread_values s r is)
-        (front g values (met_code s m comm ⨾ stmts_code s (m + comm_scopes comm) ss ⨾ over s JMP between) st) place refl (behind_chosen (Some r) between at n met typed st end) rest
+        (front g values (met_code s m comm ⨾ stmts_code s (m + comm_scopes comm) ss ⨾ over s JMP between) st) place refl
+        (behind_chosen (Some r) between at n met typed st end) rest
 
   -- `terminate` has none
   ended_branches :
@@ -249,7 +275,8 @@ module _ (g : Setting) (b : Block) (names : List Level) (around : Around) (check
   of_text m (alt spread guard comm ss) = spread_out x m spread guard comm ss
 
   one_branch :
-      (a : AltTree) (m first from between at n : ℕ) (others : List Alternative) (ds : List ℕ) → IsAltTyped s m a → at ≡ first + from → Stands g at n held (branch_code s m a between)
+      (a : AltTree) (m first from between at n : ℕ) (others : List Alternative) (ds : List ℕ) → IsAltTyped s m a → at ≡ first + from →
+      Stands g at n held (branch_code s m a between)
       → P (at + (branch_code s m a between).size + between) → BranchesAt g s x first held others ds P
       → BranchesAt g s x first held (of_text m a ++ others) (branches_from s from (spread_of a) ++ ds) P
   one_branch (alt None guard (terminate p) ss) m first from between at n others ds is place st end rest = (tt, rest)
@@ -265,7 +292,8 @@ module _ (g : Setting) (b : Block) (names : List Level) (around : Around) (check
       text_branches m guard (timeout e p) ss first others ds spread from between at n is.0 is.3 is.4 place st end rest
 
   all_branches :
-      (alts : AltTrees) (m first from else_size at n end : ℕ) → AreAltsTyped s m alts → at ≡ first + from → Stands g at n held (branches_code s m alts else_size)
+      (alts : AltTrees) (m first from else_size at n end : ℕ) → AreAltsTyped s m alts → at ≡ first + from →
+      Stands g at n held (branches_code s m alts else_size)
       → at + (branches_code s m alts else_size).size + else_size ≡ end → P end → BranchesAt g s x first held (alternatives x m alts) (distances s m from alts) P
   all_branches no_alts m first from else_size at n end is place st ends left = tt
   all_branches (more_alts (alt spread guard comm ss) alts) m first from else_size at n end is place st ends left =
@@ -275,13 +303,16 @@ module _ (g : Setting) (b : Block) (names : List Level) (around : Around) (check
       let between = rest.size + else_size in
       let one_code = branch_code s m a between in
       let size = branch_size s m a between 0 in
-      let behind = back g one_code rest held (sized_branch s m a between) (held_grown g.program one_code 0 (branch_changes a s m between checked.sound is.0) at n held ∙ omega arith) st in
+      let behind = back g one_code rest held (sized_branch s m a between)
+      (held_grown g.program one_code 0 (branch_changes a s m between checked.sound is.0) at n held ∙ omega arith) st in
       let next_place : at + one_code.size ≡ first + (from + (branch_code s m a 0).size) = omega (arith, place, size) in
       let next_end : at + one_code.size + rest.size + else_size ≡ end = omega (arith, ends) in
       let here : end ≡ at + one_code.size + between = omega (arith, ends) in
-      one_branch a m first from between at n (alternatives x next alts) (distances s next (from + (branch_code s m a 0).size) alts) is.0 place (front g one_code rest st)
+      one_branch a m first from between at n (alternatives x next alts)
+      (distances s next (from + (branch_code s m a 0).size) alts) is.0 place (front g one_code rest st)
       (performs_at g b x.env k end (at + one_code.size + between) ops here left)
-      (all_branches alts next first (from + (branch_code s m a 0).size) else_size (at + one_code.size) (n + length one_code.texts) end is.1 next_place behind next_end left)
+      (all_branches alts next first (from + (branch_code s m a 0).size) else_size (at + one_code.size)
+      (n + length one_code.texts) end is.1 next_place behind next_end left)
 
   -- ## Whole selects
 
@@ -335,7 +366,8 @@ module _ (g : Setting) (b : Block) (names : List Level) (around : Around) (check
       let branches = branches_code s m alts 0 in
       let last = sel_code s pri None ⨾ branches ⨾ nothing in
       let whole = unarmed (length all) at n (code ⨾ last) st in
-      let behind = back g code last held (sized_alternatives s all ds) (held_grown g.program code 0 (alternatives_change s checked.sound all ds (alternatives_fit s m alts is)) at n held ∙ omega arith) whole in
+      let behind = back g code last held (sized_alternatives s all ds)
+      (held_grown g.program code 0 (alternatives_change s checked.sound all ds (alternatives_fit s m alts is)) at n held ∙ omega arith) whole in
       let decides = head g s (λ at n. SEL (if pri then 1 else 0) 0) (branches ⨾ nothing) behind in
       let there = tail g s (λ at n. SEL (if pri then 1 else 0) 0) (branches ⨾ nothing) held (omega arith) behind in
       select_stands pri m alts None at n (at + (code ⨾ last).size) 0 is (front g code last whole) (armed (length all) at n (code ⨾ last) st) decides
@@ -346,7 +378,10 @@ module _ (g : Setting) (b : Block) (names : List Level) (around : Around) (check
       → other ≡ stmts_code s (m + alts_scopes alts) ts → branches ≡ branches_code s m alts other.size
       → Stands g at n held (select_code s pri (alternatives x m alts) (distances s m 0 alts) branches (Some branches.size) other)
       → P (at + (select_code s pri (alternatives x m alts) (distances s m 0 alts) branches (Some branches.size) other).size)
-      → Follows g (from_alternatives x (alternatives x m alts) (record (select_begun pri) { otherwise = Some (record { next = m + alts_scopes alts; stmts = ts }) }) k) at ops []
+      → Follows g (from_alternatives x (alternatives x m alts) (record (select_begun pri) {
+        otherwise =
+            Some (record { next = m + alts_scopes alts; stmts = ts });
+      }) k) at ops []
   select_else_follows pri m alts ts at n other branches is typed e f st left =
       let all = alternatives x m alts in
       let next = m + alts_scopes alts in
@@ -356,12 +391,14 @@ module _ (g : Setting) (b : Block) (names : List Level) (around : Around) (check
       let whole = unarmed (length all) at n (code ⨾ last) st in
       let mid = at + code.size in
       let i = n + length code.texts + 0 in
-      let behind = back g code last held (sized_alternatives s all ds) (held_grown g.program code 0 (alternatives_change s checked.sound all ds (alternatives_fit s m alts is)) at n held ∙ omega arith) whole in
+      let behind = back g code last held (sized_alternatives s all ds)
+      (held_grown g.program code 0 (alternatives_change s checked.sound all ds (alternatives_fit s m alts is)) at n held ∙ omega arith) whole in
       let instr = λ (at n : ℕ). SEL (if pri then 1 else 0) (at + 1 + branches.size) in
       let there = tail g s instr (branches ⨾ other) held (omega arith) behind in
       let first = front g branches other there in
       let sized : IsSized branches = subst (λ (c : Code). IsSized c) (sym f) (sized_branches s m alts other.size) in
-      let changes : Changes g.program branches 0 0 = subst (λ (c : Code). Changes g.program c 0 0) (sym f) (branches_change alts s m other.size checked.sound is) in
+      let changes : Changes g.program branches 0 0 =
+      subst (λ (c : Code). Changes g.program c 0 0) (sym f) (branches_change alts s m other.size checked.sound is) in
       let others = back g branches other held sized (held_grown g.program branches 0 changes (mid + 1) i held ∙ omega arith) there in
       let to = mid + 1 + branches.size in
       let size : other.size ≡ (stmts_code s next ts).size = ap (λ (c : Code). c.size) e in
@@ -378,5 +415,6 @@ module _ (g : Setting) (b : Block) (names : List Level) (around : Around) (check
       ) in
       let all_of : branches.size ≡ (branches_code s m alts other.size).size = ap (λ (c : Code). c.size) f in
       let ends : mid + 1 + (branches_code s m alts other.size).size + other.size ≡ at + (code ⨾ last).size = omega (arith, all_of) in
-      select_stands pri m alts (Some (record { next = next; stmts = ts })) at n (at + (code ⨾ last).size) other.size is (front g code last whole) (armed (length all) at n (code ⨾ last) st) decides
+      select_stands pri m alts (Some (record { next = next; stmts = ts })) at n (at + (code ⨾ last).size) other.size is (front g code last whole)
+      (armed (length all) at n (code ⨾ last) st) decides
       (i, subst (λ (c : Code). Stands g (mid + 1) i held c) f first) ends left

@@ -38,7 +38,8 @@ module _ (g : Setting) (at : ℕ) where
   of_fault (of_number_width t n w below e h is) = there _ _ is
   of_fault (of_string_width s w text below e f h is) = there _ _ is
 
-  of_write : {b : Block} {x : Context} {ops : List ℤ} {arms : List Arm} {v : Spot} {new : Value} {k : Remainder} → IsWrite g b x at ops arms v new k → There g at
+  of_write : {b : Block} {x : Context} {ops : List ℤ} {arms : List Arm} {v : Spot} {new : Value} {k : Remainder} →
+      IsWrite g b x at ops arms v new k → There g at
   of_write (of_value t w below e is lies store rest) = there _ _ store
   of_write (of_kept last kept w below none e f lies store rest) = there _ _ store
 
@@ -46,7 +47,8 @@ module _ (g : Setting) (at : ℕ) where
   of_turn (of_loop a is rest) = there _ _ is
   of_turn (of_count d a last kept w below e before is rest) = there _ _ is
 
-  of_call : (b : Block) (x : Context) (below : List ℤ) (arms : List Arm) (formals : List Formal) (call : Call) → CallsAt g b x at below arms formals call → There g at
+  of_call : (b : Block) (x : Context) (below : List ℤ) (arms : List Arm) (formals : List Formal) (call : Call) →
+      CallsAt g b x at below arms formals call → There g at
   of_call b x below arms formals (to_procedure scope k) h = there _ _ h.1.3
   of_call b x below arms formals (to_function scope u) h = there _ _ h.1.3
   of_call b x below arms formals (to_module n scope k) h = there _ _ h.1.2

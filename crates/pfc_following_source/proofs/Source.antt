@@ -11,9 +11,22 @@ use Rattle.pfc_following_source.specs.Source.{none_more, one_more, LeadsToAction
 use Rattle.pfc_following_source.proofs.Places.{stands_there}
 
 module _ (g : Setting) where
-  follows_leads : (n : Action) (at : ℕ) (ops : List ℤ) (arms : List Arm) → length ops ≤ g.room → length arms ≤ g.arms → Follows g n at ops arms → LeadsToAction g at ops arms n
+  follows_leads : (n : Action) (at : ℕ) (ops : List ℤ) (arms : List Arm) → length ops ≤ g.room → length arms ≤ g.arms →
+      Follows g n at ops arms → LeadsToAction g at ops arms n
   follows_leads n _ _ _ fit fit_arms (arrives at ops arms h) =
-      record { count = 0; to = at; left = ops; more = arms; quietly = none_more; arrived = h; few = omega arith; within = stands_there g at n ops arms h; room = fit; arms_fit = fit_arms }
+      record {
+        count = 0;
+        to = at;
+        left = ops;
+        more = arms;
+        quietly = none_more;
+        arrived = h;
+        few = omega arith;
+        within =
+            stands_there g at n ops arms h;
+        room = fit;
+        arms_fit = fit_arms;
+      }
   follows_leads n _ _ _ fit fit_arms (moves at ops arms i line mid ops_then arms_then is can effect up room few on) =
       let rest = follows_leads n mid ops_then arms_then room few on in
       let all = rest.few in

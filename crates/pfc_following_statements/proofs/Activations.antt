@@ -217,16 +217,19 @@ module _ (g : Setting) (b : Block) (names : List Level) (around : Around) (check
 
   -- code that follows an action, or is at its end quietly
   abbrev Runs : Code → Remainder → Action → Action → Type 0
-  Runs code k go from = (at n to : ℕ) (ops : List ℤ) → Stands g at n (length ops) code → at + code.size ≡ to → left to ops k → Follows g go to ops [] → Follows g from at ops []
+  Runs code k go from = (at n to : ℕ) (ops : List ℤ) → Stands g at n (length ops) code → at + code.size ≡ to → left to ops k →
+      Follows g go to ops [] → Follows g from at ops []
 
   abbrev spot : Found → TypedSpot
   spot found = spot_of (env_in g names around) (Some found)
 
-  process_runs : (q : Option ℕ) (v : TypedSpot) (ss : SelectorTrees) (args : ActualTrees) (k : Remainder) (go : Action) → IsProcess s q v ss args → Runs (process_code s q (part v ss) args) k go (from_process x v ss q args k go)
+  process_runs : (q : Option ℕ) (v : TypedSpot) (ss : SelectorTrees) (args : ActualTrees) (k : Remainder) (go : Action) → IsProcess s q v ss args →
+      Runs (process_code s q (part v ss) args) k go (from_process x v ss q args k go)
   process_runs None v ss args k go is = absurd is
   process_runs (Some q) v ss args k go is = λ at n to ops st ends rest on. activation_follows q v ss args k at n to ops is st ends rest
 
-  entry_runs : (q : ℕ) (m : Option Meaning) (v : TypedSpot) (ss : SelectorTrees) (args : ActualTrees) (k : Remainder) (go : Action) → IsEntry s q v ss m args → Runs (entry_code s q m (part v ss) args) k go (from_entry x q v ss m args k go)
+  entry_runs : (q : ℕ) (m : Option Meaning) (v : TypedSpot) (ss : SelectorTrees) (args : ActualTrees) (k : Remainder) (go : Action) → IsEntry s q v ss m args →
+      Runs (entry_code s q m (part v ss) args) k go (from_entry x q v ss m args k go)
   entry_runs q (Some (Entry e)) v ss args k go is = λ at n to ops st ends rest on. entry_call_follows q e v ss args k go at n to ops is st ends rest
   entry_runs q None v ss args k go is = absurd is
   entry_runs q (Some (Constant t j)) v ss args k go is = absurd is
@@ -245,13 +248,16 @@ module _ (g : Setting) (b : Block) (names : List Level) (around : Around) (check
   field_runs found ss (Some q) y args k go is = entry_runs q (name_in_process (blocks_of s) q y) (spot found) (before_last ss) args k go is
 
   variable_runs :
-      (found : Found) (ss : SelectorTrees) (t : TypeId) (y : Option (Text × Place)) (args : ActualTrees) (k : Remainder) (go : Action) → (spot found).t ≡ Some t → IsCalledVariable s (spot found) ss y args
+      (found : Found) (ss : SelectorTrees) (t : TypeId) (y : Option (Text × Place)) (args : ActualTrees) (k : Remainder) (go : Action) →
+      (spot found).t ≡ Some t → IsCalledVariable s (spot found) ss y args
       → Runs (called_variable s found ss t y args) k go (from_called_variable x (spot found) ss y args k go)
   variable_runs found ss t None args k go e is =
-      subst (λ (u : Option TypeId). Runs (process_code s (process_of_type s.env (selected s.env u ss)) (part (spot found) ss) args) k go (from_called_variable x (spot found) ss None args k go)) e
+      subst (λ (u : Option TypeId). Runs (process_code s (process_of_type s.env (selected s.env u ss)) (part (spot found) ss) args) k go
+      (from_called_variable x (spot found) ss None args k go)) e
       (process_runs (process_of_type s.env (selected s.env (spot found).t ss)) (spot found) ss args k go is)
   variable_runs found ss t (Some y) args k go e is =
-      subst (λ (u : Option TypeId). Runs (field_code s found ss u (process_of_type s.env (selected s.env u (before_last ss))) y.0 args) k go (from_called_variable x (spot found) ss (Some y) args k go)) e
+      subst (λ (u : Option TypeId). Runs (field_code s found ss u (process_of_type s.env (selected s.env u (before_last ss))) y.0 args) k go
+      (from_called_variable x (spot found) ss (Some y) args k go)) e
       (field_runs found ss (process_of_type s.env (selected s.env (spot found).t (before_last ss))) y.0 args k go is)
 
   single_runs :
@@ -260,7 +266,8 @@ module _ (g : Setting) (b : Block) (names : List Level) (around : Around) (check
   single_runs found q None args k go is = λ at n to ops st ends rest on. activation_follows q (spot found) no_selectors args k at n to ops is st ends rest
   single_runs found q (Some y) args k go is = entry_runs q (name_in_process (blocks_of s) q y.0) (spot found) no_selectors args k go is
 
-  exported_runs : (q : ℕ) (m : Option Meaning) (args : ActualTrees) (k : Remainder) (go : Action) → IsExported s q m args → Runs (exported_code s q m args) k go (from_exported x q m args k go)
+  exported_runs : (q : ℕ) (m : Option Meaning) (args : ActualTrees) (k : Remainder) (go : Action) → IsExported s q m args →
+      Runs (exported_code s q m args) k go (from_exported x q m args k go)
   exported_runs q (Some (Sub j)) args k go is =
       λ at n to ops st ends rest on. exported_follows g b names around checked few own line q j args k at n to ops is st ends rest
   exported_runs q None args k go is = absurd is
@@ -273,7 +280,8 @@ module _ (g : Setting) (b : Block) (names : List Level) (around : Around) (check
   exported_runs q (Some (Predeclared j)) args k go is = absurd is
   exported_runs q (Some Faulty) args k go is = absurd is
 
-  module_runs : (q : ℕ) (y : Option (Text × Place)) (args : ActualTrees) (k : Remainder) (go : Action) → IsModuleCall s q y args → Runs (module_code s q y args) k go (from_module x q y args k go)
+  module_runs : (q : ℕ) (y : Option (Text × Place)) (args : ActualTrees) (k : Remainder) (go : Action) → IsModuleCall s q y args →
+      Runs (module_code s q y args) k go (from_module x q y args k go)
   module_runs q None args k go is = absurd is
   module_runs q (Some y) args k go is = exported_runs q (meaning_in (scope_at (blocks_of s).scopes (module_at (blocks_of s) q).scope) y.0) args k go is
 
@@ -292,9 +300,12 @@ module _ (g : Setting) (b : Block) (names : List Level) (around : Around) (check
   called_runs found (Entry j) ss args k go is = absurd is
   called_runs found Faulty ss args k go is = absurd is
 
-  found_runs : (found : Option Found) (ss : SelectorTrees) (args : ActualTrees) (k : Remainder) (go : Action) → IsCalled s (meaning_of found) (spot_of s.env found) ss args → Runs (found_code s found ss args) k go (from_called x (meaning_of found) (spot_of s.env found) ss args k go)
+  found_runs : (found : Option Found) (ss : SelectorTrees) (args : ActualTrees) (k : Remainder) (go : Action) →
+      IsCalled s (meaning_of found) (spot_of s.env found) ss args →
+      Runs (found_code s found ss args) k go (from_called x (meaning_of found) (spot_of s.env found) ss args k go)
   found_runs None ss args k go is = absurd is
   found_runs (Some found) ss args k go is = called_runs found found.meaning ss args k go is
 
-  pub call_runs : (d : DesigTree) (args : ActualTrees) (k : Remainder) (go : Action) → IsCall s d args → Runs (call_code s d args) k go (from_call x d args k go)
+  pub call_runs : (d : DesigTree) (args : ActualTrees) (k : Remainder) (go : Action) → IsCall s d args →
+      Runs (call_code s d args) k go (from_call x d args k go)
   call_runs (desig y ss p) args k go is = found_runs (find s.env y) ss args k go is

@@ -44,7 +44,8 @@ alternatives_joined : (s : Site) (xs ys : List Alternative) → AreAlternatives 
 alternatives_joined s [] ys h k = k
 alternatives_joined s (a ∷ xs) ys h k = (h.0, alternatives_joined s xs ys h.1 k)
 
-module _ (s : Site) (m : ℕ) (guard : Option ExprTree) (comm : CommTree) (ss : StmtTrees) (is : IsGuard s guard) (fits : IsComm s comm) (v : Spot) (simple : IsSimpleVariable s v) where
+module _ (s : Site) (m : ℕ) (guard : Option ExprTree) (comm : CommTree) (ss : StmtTrees) (is : IsGuard s guard) (fits : IsComm s comm)
+    (v : Spot) (simple : IsSimpleVariable s v) where
   values_from_fit : (line : ℕ) (low : ℤ) (n : ℕ) → AreAlternatives s (map (λ r. alternative m guard comm ss (Some r)) (replicas_from v line low n))
   values_from_fit line low zero = tt
   values_from_fit line low (suc n) = ((simple, is, fits), values_from_fit line (low +ℤ pos 1) n)
@@ -61,7 +62,8 @@ module _ (s : Site) (m : ℕ) (guard : Option ExprTree) (comm : CommTree) (ss : 
   values_fit line None high = tt
   values_fit line (Some low) None = tt
 
-spread_fits : (s : Site) (m : ℕ) (spread : Option Spread) (guard : Option ExprTree) (comm : CommTree) (ss : StmtTrees) → IsSpread s spread → IsGuard s guard → IsComm s comm → AreAlternatives s (spread_out (context_of s) m spread guard comm ss)
+spread_fits : (s : Site) (m : ℕ) (spread : Option Spread) (guard : Option ExprTree) (comm : CommTree) (ss : StmtTrees) → IsSpread s spread → IsGuard s guard →
+    IsComm s comm → AreAlternatives s (spread_out (context_of s) m spread guard comm ss)
 spread_fits s m None guard comm ss is g c = ((tt, g, c), tt)
 spread_fits s m (Some r) guard comm ss is g c =
     values_fit s m guard comm ss g c (spot_of s.env (find s.env r.name)).spot is s.line
@@ -80,7 +82,8 @@ module _ (s : Site) where
   seq c d i j k h l = changes_both s.program c d i j k h l
 
   -- an instruction that takes and leaves nothing, and one that takes an operand
-  idle : (i : ℕ → ℕ → Instr) → ((at n : ℕ) → takes s.program (i at n) ≡ 0) → ((at n : ℕ) → leaves s.program (i at n) ≡ 0) → Changes s.program (instruction s i) 0 0
+  idle : (i : ℕ → ℕ → Instr) → ((at n : ℕ) → takes s.program (i at n) ≡ 0) → ((at n : ℕ) → leaves s.program (i at n) ≡ 0) →
+      Changes s.program (instruction s i) 0 0
   idle i t l = changes_instruction s.program s i 0 0 t l
 
   jump_changes : (count : ℕ) → Changes s.program (over s JMP count) 0 0
@@ -106,13 +109,15 @@ module _ (s : Site) where
   written_changes : (r : Replica) → Changes s.program (replica_code s (Some r)) 0 0
   written_changes r =
       seq (base_code s r.at) (one s (LIT r.value) ⨾ one s (STORE 1)) 0 1 0 (base_changes s.program s r.at)
-      (seq (one s (LIT r.value)) (one s (STORE 1)) 1 2 0 (changes_as s.program (one s (LIT r.value)) 0 1 1 1 2 (changes_one s.program s (LIT r.value) 0 1 refl refl) refl refl) (changes_one s.program s (STORE 1) 2 0 refl refl))
+      (seq (one s (LIT r.value)) (one s (STORE 1)) 1 2 0 (changes_as s.program (one s (LIT r.value)) 0 1 1 1 2
+      (changes_one s.program s (LIT r.value) 0 1 refl refl) refl refl) (changes_one s.program s (STORE 1) 2 0 refl refl))
 
   pub chosen_changes : (rs : List Replica) → Changes s.program (chosen_code s rs) 0 0
   chosen_changes [] = changes_nothing s.program 0
   chosen_changes (r ∷ rs) =
       let rest = chosen_code s rs in
-      seq (replica_code s (Some r)) (over s JMP rest.size ⨾ rest) 0 0 0 (written_changes r) (seq (over s JMP rest.size) rest 0 0 0 (jump_changes rest.size) (chosen_changes rs))
+      seq (replica_code s (Some r)) (over s JMP rest.size ⨾ rest) 0 0 0 (written_changes r)
+      (seq (over s JMP rest.size) rest 0 0 0 (jump_changes rest.size) (chosen_changes rs))
 
   sel_changes : (pri : Bool) (count : Option ℕ) → Changes s.program (sel_code s pri count) 0 0
   sel_changes pri None = changes_one s.program s (SEL (if pri then 1 else 0) 0) 0 0 refl refl
@@ -120,13 +125,15 @@ module _ (s : Site) where
 
 select_changes :
     (s : Site) → IsSound (forms_of s) → (pri : Bool) (alts : List Alternative) (ds : List ℕ) (branches : Code) (else_at : Option ℕ) (otherwise : Code)
-    → AreAlternatives s alts → Changes s.program branches 0 0 → Changes s.program otherwise 0 0 → Changes s.program (select_code s pri alts ds branches else_at otherwise) 0 0
+    → AreAlternatives s alts → Changes s.program branches 0 0 → Changes s.program otherwise 0 0 →
+    Changes s.program (select_code s pri alts ds branches else_at otherwise) 0 0
 select_changes s sound pri alts ds branches else_at otherwise are h k =
     seq s (alternatives_code s alts ds) (sel_code s pri else_at ⨾ branches ⨾ otherwise) 0 0 0 (alternatives_change s sound alts ds are)
     (seq s (sel_code s pri else_at) (branches ⨾ otherwise) 0 0 0 (sel_changes s pri else_at) (seq s branches otherwise 0 0 0 h k))
 
 branch_changed :
-    (s : Site) (n : ℕ) (spread : Option Spread) (comm : CommTree) (ss : StmtTrees) (between : ℕ) → Changes s.program (met_code s n comm) 0 0 → Changes s.program (stmts_code s (n + comm_scopes comm) ss) 0 0
+    (s : Site) (n : ℕ) (spread : Option Spread) (comm : CommTree) (ss : StmtTrees) (between : ℕ) → Changes s.program (met_code s n comm) 0 0 →
+    Changes s.program (stmts_code s (n + comm_scopes comm) ss) 0 0
     → Changes s.program (chosen_code s (spread_replicas s spread) ⨾ met_code s n comm ⨾ stmts_code s (n + comm_scopes comm) ss ⨾ over s JMP between) 0 0
 branch_changed s n spread comm ss between met stmts =
     let last = stmts_code s (n + comm_scopes comm) ss ⨾ over s JMP between in
@@ -141,7 +148,8 @@ mutual
   stmt_changes (if_then e t p) s n sound is =
       let c = at_line s p.line in
       let yes = stmt_code c n t in
-      seq c (expr_code c e) (over c JF yes.size ⨾ yes) 0 1 0 (expr_changes c sound e a_number is.0) (seq c (over c JF yes.size) yes 1 0 0 (test_changes c yes.size) (stmt_changes t c n sound is.1))
+      seq c (expr_code c e) (over c JF yes.size ⨾ yes) 0 1 0 (expr_changes c sound e a_number is.0)
+      (seq c (over c JF yes.size) yes 1 0 0 (test_changes c yes.size) (stmt_changes t c n sound is.1))
   stmt_changes (if_then_else e t u p) s n sound is =
       let c = at_line s p.line in
       let yes = stmt_code c n t in
@@ -149,7 +157,8 @@ mutual
       let last = over c JMP no.size ⨾ no in
       seq c (expr_code c e) (over c JF (yes.size + 1) ⨾ yes ⨾ last) 0 1 0 (expr_changes c sound e a_number is.0)
       (seq c (over c JF (yes.size + 1)) (yes ⨾ last) 1 0 0 (test_changes c (yes.size + 1))
-      (seq c yes last 0 0 0 (stmt_changes t c n sound is.1) (seq c (over c JMP no.size) no 0 0 0 (jump_changes c no.size) (stmt_changes u c (n + scopes_in t) sound is.2))))
+      (seq c yes last 0 0 0 (stmt_changes t c n sound is.1) (seq c (over c JMP no.size) no 0 0 0 (jump_changes c no.size)
+      (stmt_changes u c (n + scopes_in t) sound is.2))))
   stmt_changes (case_of e arms last p) s n sound is =
       let c = at_line s p.line in
       seq c (expr_code c e) (tests_code c n 0 arms ⨾ one c CERR ⨾ arms_code c n arms) 0 1 0 (expr_changes c sound e a_number is.0)
@@ -161,7 +170,8 @@ mutual
       let inner = stmt_code c n t in
       let turn = to_back c TURN (test.size + 1 + inner.size) in
       seq c test (over c JF (inner.size + 1) ⨾ inner ⨾ turn) 0 1 0 (expr_changes c sound e a_number is.0)
-      (seq c (over c JF (inner.size + 1)) (inner ⨾ turn) 1 0 0 (test_changes c (inner.size + 1)) (seq c inner turn 0 0 0 (stmt_changes t c n sound is.1) (turn_changes c (test.size + 1 + inner.size))))
+      (seq c (over c JF (inner.size + 1)) (inner ⨾ turn) 1 0 0 (test_changes c (inner.size + 1)) (seq c inner turn 0 0 0 (stmt_changes t c n sound is.1)
+      (turn_changes c (test.size + 1 + inner.size))))
   stmt_changes (repeat_until ss e p) s n sound is =
       let c = at_line s p.line in
       let inner = stmts_code c n ss in
@@ -169,7 +179,8 @@ mutual
       let turn = to_back c TURN (inner.size + test.size + 2) in
       seq c inner (test ⨾ one c NOT ⨾ over c JF 1 ⨾ turn) 0 0 0 (stmts_change ss c n sound is.0)
       (seq c test (one c NOT ⨾ over c JF 1 ⨾ turn) 0 1 0 (expr_changes c sound e a_number is.1)
-      (seq c (one c NOT) (over c JF 1 ⨾ turn) 1 1 0 (changes_one c.program c NOT 1 1 refl refl) (seq c (over c JF 1) turn 1 0 0 (test_changes c 1) (turn_changes c (inner.size + test.size + 2)))))
+      (seq c (one c NOT) (over c JF 1 ⨾ turn) 1 1 0 (changes_one c.program c NOT 1 1 refl refl) (seq c (over c JF 1) turn 1 0 0 (test_changes c 1)
+      (turn_changes c (inner.size + test.size + 2)))))
   stmt_changes (repeat_forever ss p) s n sound is =
       let c = at_line s p.line in
       let inner = stmts_code c n ss in
@@ -188,27 +199,34 @@ mutual
       (seq c (expr_code c b) pass 2 3 0 (number_over c sound b 2 is.2)
       (seq c (instruction c i) (one c FORW ⨾ last) 3 3 0 (changes_as c.program (instruction c i) 0 0 3 3 3 (idle c i (λ at k. refl) (λ at k. refl)) refl refl)
       (seq c (one c FORW) last 3 3 0 (changes_as c.program (one c FORW) 0 0 3 3 3 (changes_one c.program c FORW 0 0 refl refl) refl refl)
-      (seq c inner (instruction c j) 3 3 0 (changes_as c.program inner 0 0 3 3 3 (stmt_changes t c n sound is.3) refl refl) (changes_instruction c.program c j 3 0 (λ at k. refl) (λ at k. refl)))))))
-  stmt_changes (cobegin ss last p) s n sound is = seq s (stmts_code s n ss) (one (at_line s last.line) COEND) 0 0 0 (stmts_change ss s n sound is) (changes_one s.program (at_line s last.line) COEND 0 0 refl refl)
+      (seq c inner (instruction c j) 3 3 0 (changes_as c.program inner 0 0 3 3 3 (stmt_changes t c n sound is.3) refl refl)
+      (changes_instruction c.program c j 3 0 (λ at k. refl) (λ at k. refl)))))))
+  stmt_changes (cobegin ss last p) s n sound is = seq s (stmts_code s n ss) (one (at_line s last.line) COEND) 0 0 0 (stmts_change ss s n sound is)
+      (changes_one s.program (at_line s last.line) COEND 0 0 refl refl)
   stmt_changes (accepting a p) s n sound is =
       let c = at_line s p.line in
-      seq c (accept_code c n a) (accepted_code c n a ⨾ one c EACC) 0 0 0 (changes_one c.program c (ACC (entry_of c a) (accept_cell c n) (accept_cells c n)) 0 0 refl refl)
+      seq c (accept_code c n a) (accepted_code c n a ⨾ one c EACC) 0 0 0
+      (changes_one c.program c (ACC (entry_of c a) (accept_cell c n) (accept_cells c n)) 0 0 refl refl)
       (seq c (accepted_code c n a) (one c EACC) 0 0 0 (accepted_change a c n sound is) (changes_one c.program c EACC 0 0 refl refl))
   stmt_changes (requeue x args p) s n sound is = let c = at_line s p.line in requeue_changes c sound (meaning_of (find c.env x.0)) args is
   stmt_changes (select pri alts p q) s n sound is =
       let c = at_line s p.line in
-      select_changes c sound pri (alternatives (context_of c) n alts) (distances c n 0 alts) (branches_code c n alts 0) None nothing (alternatives_fit c n alts is) (branches_change alts c n 0 sound is) (changes_nothing c.program 0)
+      select_changes c sound pri (alternatives (context_of c) n alts) (distances c n 0 alts) (branches_code c n alts 0) None nothing
+      (alternatives_fit c n alts is) (branches_change alts c n 0 sound is) (changes_nothing c.program 0)
   stmt_changes (select_else pri alts ss at p q) s n sound is =
       let c = at_line s p.line in
       let otherwise = stmts_code c (n + alts_scopes alts) ss in
       let branches = branches_code c n alts otherwise.size in
-      select_changes c sound pri (alternatives (context_of c) n alts) (distances c n 0 alts) branches (Some branches.size) otherwise (alternatives_fit c n alts is.0)
+      select_changes c sound pri (alternatives (context_of c) n alts) (distances c n 0 alts) branches
+      (Some branches.size) otherwise (alternatives_fit c n alts is.0)
       (branches_change alts c n otherwise.size sound is.0) (stmts_change ss c (n + alts_scopes alts) sound is.1)
   stmt_changes (assign d e p q) s n sound is = assign_changes (at_line s p.line) sound d e is
   stmt_changes (send d e p q) s n sound is =
-      let c = at_line s p.line in let m = message_of (context_of c) e in send_changes c sound d m (λ at k. SEND (message_cells c m)) is (λ at k. refl) (λ at k. refl)
+      let c = at_line s p.line in let m =
+      message_of (context_of c) e in send_changes c sound d m (λ at k. SEND (message_cells c m)) is (λ at k. refl) (λ at k. refl)
   stmt_changes (receive d v p q) s n sound is =
-      let c = at_line s p.line in let r = receiver_of (context_of c) v in receive_changes c sound d r (λ at k. RECV (receiver_cells c r)) is (λ at k. refl) (λ at k. refl)
+      let c = at_line s p.line in let r =
+      receiver_of (context_of c) v in receive_changes c sound d r (λ at k. RECV (receiver_cells c r)) is (λ at k. refl) (λ at k. refl)
   stmt_changes (call d args p) s n sound is = call_changes (at_line s p.line) sound d args is
 
   pub stmts_change : (ts : StmtTrees) (s : Site) (n : ℕ) → IsSound (forms_of s) → AreTyped s n ts → Changes s.program (stmts_code s n ts) 0 0
@@ -221,7 +239,8 @@ mutual
   tests_change (more_arms (arm ls t) arms) s n from =
       let between = label_count arms + 1 + from in
       let rest = tests_code s (n + arm_scopes (arm ls t)) (from + (stmt_code s n t).size + 1) arms in
-      seq s (labels_code s between ls) rest 0 0 0 (labels_change s between ls) (tests_change arms s (n + arm_scopes (arm ls t)) (from + (stmt_code s n t).size + 1))
+      seq s (labels_code s between ls) rest 0 0 0 (labels_change s between ls)
+      (tests_change arms s (n + arm_scopes (arm ls t)) (from + (stmt_code s n t).size + 1))
 
   pub arms_change : (arms : ArmTrees) (s : Site) (n : ℕ) → IsSound (forms_of s) → AreArmsTyped s n arms → Changes s.program (arms_code s n arms) 0 0
   arms_change no_arms s n sound is = changes_nothing s.program 0
@@ -235,7 +254,8 @@ mutual
   accepted_change (accept_do x gs t p) s n sound is = stmt_changes t (in_accept s n) (n + 1) sound is.1
 
   pub met_change : (comm : CommTree) (s : Site) (n : ℕ) → IsSound (forms_of s) → IsMetTyped s n comm → Changes s.program (met_code s n comm) 0 0
-  met_change (comm_accept a p) s n sound is = seq s (accepted_code s n a) (one (at_line s p.line) EACC) 0 0 0 (accepted_change a s n sound is) (changes_one s.program (at_line s p.line) EACC 0 0 refl refl)
+  met_change (comm_accept a p) s n sound is = seq s (accepted_code s n a) (one (at_line s p.line) EACC) 0 0 0 (accepted_change a s n sound is)
+      (changes_one s.program (at_line s p.line) EACC 0 0 refl refl)
   met_change (comm_send d e p) s n sound is = changes_nothing s.program 0
   met_change (comm_receive d v p) s n sound is = changes_nothing s.program 0
   met_change (timeout e p) s n sound is = changes_nothing s.program 0
@@ -243,13 +263,21 @@ mutual
 
   pub branch_changes : (a : AltTree) (s : Site) (n between : ℕ) → IsSound (forms_of s) → IsAltTyped s n a → Changes s.program (branch_code s n a between) 0 0
   branch_changes (alt spread guard (terminate p) ss) s n between sound is = λ at k held. refl
-  branch_changes (alt spread guard (comm_accept a p) ss) s n between sound is = branch_changed s n spread (comm_accept a p) ss between (met_change (comm_accept a p) s n sound is.3) (stmts_change ss s (n + comm_scopes (comm_accept a p)) sound is.4)
-  branch_changes (alt spread guard (comm_send d e p) ss) s n between sound is = branch_changed s n spread (comm_send d e p) ss between (changes_nothing s.program 0) (stmts_change ss s (n + comm_scopes (comm_send d e p)) sound is.4)
-  branch_changes (alt spread guard (comm_receive d v p) ss) s n between sound is = branch_changed s n spread (comm_receive d v p) ss between (changes_nothing s.program 0) (stmts_change ss s (n + comm_scopes (comm_receive d v p)) sound is.4)
-  branch_changes (alt spread guard (timeout e p) ss) s n between sound is = branch_changed s n spread (timeout e p) ss between (changes_nothing s.program 0) (stmts_change ss s (n + comm_scopes (timeout e p)) sound is.4)
+  branch_changes (alt spread guard (comm_accept a p) ss) s n between sound is =
+      branch_changed s n spread (comm_accept a p) ss between (met_change (comm_accept a p) s n sound is.3)
+      (stmts_change ss s (n + comm_scopes (comm_accept a p)) sound is.4)
+  branch_changes (alt spread guard (comm_send d e p) ss) s n between sound is =
+      branch_changed s n spread (comm_send d e p) ss between (changes_nothing s.program 0) (stmts_change ss s (n + comm_scopes (comm_send d e p)) sound is.4)
+  branch_changes (alt spread guard (comm_receive d v p) ss) s n between sound is =
+      branch_changed s n spread (comm_receive d v p) ss between (changes_nothing s.program 0)
+      (stmts_change ss s (n + comm_scopes (comm_receive d v p)) sound is.4)
+  branch_changes (alt spread guard (timeout e p) ss) s n between sound is = branch_changed s n spread (timeout e p) ss between (changes_nothing s.program 0)
+      (stmts_change ss s (n + comm_scopes (timeout e p)) sound is.4)
 
-  pub branches_change : (alts : AltTrees) (s : Site) (n else_size : ℕ) → IsSound (forms_of s) → AreAltsTyped s n alts → Changes s.program (branches_code s n alts else_size) 0 0
+  pub branches_change : (alts : AltTrees) (s : Site) (n else_size : ℕ) → IsSound (forms_of s) → AreAltsTyped s n alts →
+      Changes s.program (branches_code s n alts else_size) 0 0
   branches_change no_alts s n else_size sound is = changes_nothing s.program 0
   branches_change (more_alts a alts) s n else_size sound is =
       let rest = branches_code s (n + alt_scopes a) alts else_size in
-      seq s (branch_code s n a (rest.size + else_size)) rest 0 0 0 (branch_changes a s n (rest.size + else_size) sound is.0) (branches_change alts s (n + alt_scopes a) else_size sound is.1)
+      seq s (branch_code s n a (rest.size + else_size)) rest 0 0 0 (branch_changes a s n (rest.size + else_size) sound is.0)
+      (branches_change alts s (n + alt_scopes a) else_size sound is.1)

@@ -50,15 +50,18 @@ module _ (g : Setting) (b : Block) (names : List Level) (around : Around) (check
   abbrev s : Site
   s = site_of g b x
 
-  moved : (at to : ℕ) (ops : List ℤ) (k : Remainder) → at ≡ to → Performs g b (env_in g names around) at ops [] k → Performs g b (env_in g names around) to ops [] k
+  moved : (at to : ℕ) (ops : List ℤ) (k : Remainder) → at ≡ to → Performs g b (env_in g names around) at ops [] k →
+      Performs g b (env_in g names around) to ops [] k
   moved at to ops k e h = subst (λ (y : ℕ). Performs g b (env_in g names around) y ops [] k) e h
 
   -- ## Output
 
-  pub shows : (t : Option TypeId) (k : Remainder) (v : ℤ) (at : ℕ) (ops : List ℤ) → IsAt g at (write_instr (simple_of t) 0) line → Performs g b x.env (at + 1) ops [] k → Follows g (prints x (shown_as t (ordinal v)) k) at (v ∷ ops) []
+  pub shows : (t : Option TypeId) (k : Remainder) (v : ℤ) (at : ℕ) (ops : List ℤ) → IsAt g at (write_instr (simple_of t) 0) line →
+      Performs g b x.env (at + 1) ops [] k → Follows g (prints x (shown_as t (ordinal v)) k) at (v ∷ ops) []
   shows t k v at ops is rest = arrives at (v ∷ ops) [] (b, checked, ((own, refl), (ops, number (simple_of t) v refl refl is, rest)))
 
-  pub pad_follows : (bytes : List ℕ) (k : Remainder) (w : ℤ) (at : ℕ) (ops : List ℤ) → PadAt g line at ops bytes (λ below. Performs g b x.env (at + 1) below [] k) → Follows g (from_width x bytes k (ordinal w)) at (w ∷ ops) []
+  pub pad_follows : (bytes : List ℕ) (k : Remainder) (w : ℤ) (at : ℕ) (ops : List ℤ) →
+      PadAt g line at ops bytes (λ below. Performs g b x.env (at + 1) below [] k) → Follows g (from_width x bytes k (ordinal w)) at (w ∷ ops) []
   pad_follows bytes k w at ops (of_number t n below e shape is rest) = by (padded w bytes) refl
     where
       by : (r : Result (List ℕ) RunFault) → padded w bytes ≡ r → Follows g (from_piece x k r) at (w ∷ ops) []
@@ -71,7 +74,12 @@ module _ (g : Setting) (b : Block) (names : List Level) (around : Around) (check
               (below, wide_number t n w (ap (λ (y : List ℤ). w ∷ y) e) (ap (λ (y : List ℕ). padded w y) (sym shape) ∙ h) is, rest),
             ),
           )
-      by (Err f) h = arrives at (w ∷ ops) [] (b, tt, of_number_width t n w below (ap (λ (y : List ℤ). w ∷ y) e) (ap (λ (y : List ℕ). padded w y) (sym shape) ∙ h) is)
+      by (Err f) h = arrives at (w ∷ ops) [] (
+        b,
+        tt,
+        of_number_width t n w below (ap (λ (y : List ℤ). w ∷ y) e)
+            (ap (λ (y : List ℕ). padded w y) (sym shape) ∙ h) is,
+      )
   pad_follows bytes k w at ops (of_string i text is rest) = by (padded w bytes) refl
     where
       by : (r : Result (List ℕ) RunFault) → padded w bytes ≡ r → Follows g (from_piece x k r) at (w ∷ ops) []
@@ -80,13 +88,15 @@ module _ (g : Setting) (b : Block) (names : List Level) (around : Around) (check
 
   plain_follows :
       (y : Option Text) (e : ExprTree) (k : Remainder) (at n : ℕ) (ops : List ℤ)
-      → IsItem s y e → Stands g at n (length ops) (plain_item s y e) → Performs g b x.env (at + (plain_item s y e).size) ops [] k → Follows g (from_string x y e k) at ops []
+      → IsItem s y e → Stands g at n (length ops) (plain_item s y e) → Performs g b x.env (at + (plain_item s y e).size) ops [] k →
+      Follows g (from_string x y e k) at ops []
   plain_follows None e k at n ops is st rest =
       let t = expr_type s.env e in
       let code = expr_code s e in
       let i = write_instr (simple_of t) 0 in
       let mid = at + code.size in
-      let last = back g code (one s i) (suc (length ops)) (sized_expr s e) (held_grown g.program code 1 (expr_changes s checked.sound e a_number is) at n (length ops) ∙ omega arith) st in
+      let last = back g code (one s i) (suc (length ops)) (sized_expr s e)
+      (held_grown g.program code 1 (expr_changes s checked.sound e a_number is) at n (length ops) ∙ omega arith) st in
       let is_it = lone g s (λ at n. i) last in
       let after = moved (at + (code ⨾ one s i).size) (mid + 1) ops k (omega arith) rest in
       expression_follows g b x checked [] few e a_number is (show t k) (λ v. prints x (shown_as t v) k) at n ops (front g code (one s i) st)
@@ -97,38 +107,46 @@ module _ (g : Setting) (b : Block) (names : List Level) (around : Around) (check
   -- the width of a number that is known
   pub width_follows :
       (t : Option TypeId) (v : ℤ) (w : ExprTree) (k : Remainder) (at n : ℕ) (ops : List ℤ) → HasShape s w a_number
-      → Stands g at n (suc (length ops)) (expr_code s w ⨾ one s (write_instr (simple_of t) 1)) → Performs g b x.env (at + (expr_code s w ⨾ one s (write_instr (simple_of t) 1)).size) ops [] k
+      → Stands g at n (suc (length ops)) (expr_code s w ⨾ one s (write_instr (simple_of t) 1)) →
+      Performs g b x.env (at + (expr_code s w ⨾ one s (write_instr (simple_of t) 1)).size) ops [] k
       → Follows g (from_expr x w (pad (shown_as t (ordinal v)) k) (from_width x (shown_as t (ordinal v)) k)) at (v ∷ ops) []
   width_follows t v w k at n ops num st rest =
       let width = expr_code s w in
       let i = write_instr (simple_of t) 1 in
       let right = at + width.size in
-      let last = back g width (one s i) (suc (suc (length ops))) (sized_expr s w) (held_grown g.program width 1 (expr_changes s checked.sound w a_number num) at n (suc (length ops)) ∙ omega arith) st in
+      let last = back g width (one s i) (suc (suc (length ops))) (sized_expr s w)
+      (held_grown g.program width 1 (expr_changes s checked.sound w a_number num) at n (suc (length ops)) ∙ omega arith) st in
       let after = moved (at + (width.size + 1)) (right + 1) ops k (omega arith) rest in
-      let awaited : PadAt g line right (v ∷ ops) (shown_as t (ordinal v)) (λ below. Performs g b x.env (right + 1) below [] k) = of_number (simple_of t) v ops refl refl (lone g s (λ at n. i) last) after in
-      expression_follows g b x checked [] few w a_number num (pad (shown_as t (ordinal v)) k) (from_width x (shown_as t (ordinal v)) k) at n (v ∷ ops) (front g width (one s i) st)
+      let awaited : PadAt g line right (v ∷ ops) (shown_as t (ordinal v)) (λ below. Performs g b x.env (right + 1) below [] k) =
+      of_number (simple_of t) v ops refl refl (lone g s (λ at n. i) last) after in
+      expression_follows g b x checked [] few w a_number num (pad (shown_as t (ordinal v)) k)
+      (from_width x (shown_as t (ordinal v)) k) at n (v ∷ ops) (front g width (one s i) st)
       ((own, refl), (refl, awaited))
       (λ c simple. pad_follows (shown_as t (ordinal v)) k c right (v ∷ ops) awaited)
 
   wide_follows :
       (y : Option Text) (e w : ExprTree) (k : Remainder) (at n : ℕ) (ops : List ℤ)
-      → IsItem s y e → HasShape s w a_number → Stands g at n (length ops) (wide_item s y e w) → Performs g b x.env (at + (wide_item s y e w).size) ops [] k → Follows g (from_wide_string x y e w k) at ops []
+      → IsItem s y e → HasShape s w a_number → Stands g at n (length ops) (wide_item s y e w) → Performs g b x.env (at + (wide_item s y e w).size) ops [] k →
+      Follows g (from_wide_string x y e w k) at ops []
   wide_follows None e w k at n ops is num st rest =
       let t = expr_type s.env e in
       let code = expr_code s e in
       let last = expr_code s w ⨾ one s (write_instr (simple_of t) 1) in
       let mid = at + code.size in
       let m = n + length code.texts in
-      let behind = back g code last (suc (length ops)) (sized_expr s e) (held_grown g.program code 1 (expr_changes s checked.sound e a_number is) at n (length ops) ∙ omega arith) st in
+      let behind = back g code last (suc (length ops)) (sized_expr s e)
+      (held_grown g.program code 1 (expr_changes s checked.sound e a_number is) at n (length ops) ∙ omega arith) st in
       let after = moved (at + (code ⨾ last).size) (mid + last.size) ops k (omega arith) rest in
-      expression_follows g b x checked [] few e a_number is (show_wide t w k) (λ v. from_expr x w (pad (shown_as t v) k) (from_width x (shown_as t v) k)) at n ops (front g code last st)
+      expression_follows g b x checked [] few e a_number is (show_wide t w k) (λ v. from_expr x w (pad (shown_as t v) k)
+      (from_width x (shown_as t v) k)) at n ops (front g code last st)
       ((own, refl), (refl, num, m, behind, after))
       (λ v simple. width_follows t v w k mid m ops num behind after)
   wide_follows (Some y) e w k at n ops is num st rest =
       let width = expr_code s w in
       let mid = at + width.size in
       let m = n + length width.texts in
-      let last = back g width (string s y 1) (suc (length ops)) (sized_expr s w) (held_grown g.program width 1 (expr_changes s checked.sound w a_number num) at n (length ops) ∙ omega arith) st in
+      let last = back g width (string s y 1) (suc (length ops)) (sized_expr s w)
+      (held_grown g.program width 1 (expr_changes s checked.sound w a_number num) at n (length ops) ∙ omega arith) st in
       let after = moved (at + (width ⨾ string s y 1).size) (mid + 1) ops k (omega arith) rest in
       let awaited : PadAt g line mid ops y (λ below. Performs g b x.env (mid + 1) below [] k) = of_string m last.texts.0 last.has.0 after in
       expression_follows g b x checked [] few w a_number num (pad y k) (from_width x y k) at n ops (front g width (string s y 1) st)
@@ -136,13 +154,15 @@ module _ (g : Setting) (b : Block) (names : List Level) (around : Around) (check
       (λ c simple. pad_follows y k c mid ops awaited)
 
   item_follows :
-      (a : ActualTree) (k : Remainder) (at n : ℕ) (ops : List ℤ) → IsWritten s a → Stands g at n (length ops) (item_code s a) → Performs g b x.env (at + (item_code s a).size) ops [] k → Follows g (from_item x a k) at ops []
+      (a : ActualTree) (k : Remainder) (at n : ℕ) (ops : List ℤ) → IsWritten s a → Stands g at n (length ops) (item_code s a) →
+      Performs g b x.env (at + (item_code s a).size) ops [] k → Follows g (from_item x a k) at ops []
   item_follows (actual e) k at n ops is st rest = plain_follows (as_string e) e k at n ops is st rest
   item_follows (actual_width e w) k at n ops is st rest = wide_follows (as_string e) e w k at n ops is.0 is.1 st rest
 
   pub writes_follow :
       (args : ActualTrees) (ends_line : Bool) (k : Remainder) (go : Action) (at n to : ℕ) (ops : List ℤ)
-      → AreWritten s args → Stands g at n (length ops) (writes_code s args ends_line) → at + (writes_code s args ends_line).size ≡ to → Performs g b x.env to ops [] k
+      → AreWritten s args → Stands g at n (length ops) (writes_code s args ends_line) →
+      at + (writes_code s args ends_line).size ≡ to → Performs g b x.env to ops [] k
       → Follows g go to ops [] → Follows g (from_writes x args ends_line k go) at ops []
   writes_follow no_actuals true k go at n to ops is st ends rest on =
       arrives at ops [] (b, checked, ((own, refl), (ops, newline refl refl (lone g s (λ at n. WRNL) st), moved to (at + 1) ops k (sym ends) rest)))
@@ -151,21 +171,24 @@ module _ (g : Setting) (b : Block) (names : List Level) (around : Around) (check
       let first = item_code s a in
       let others = writes_code s args ends_line in
       let mid = at + first.size in
-      let behind = back g first others (length ops) (sized_item s a) (held_grown g.program first 0 (item_changes s checked.sound a is.0) at n (length ops) ∙ omega arith) st in
+      let behind = back g first others (length ops) (sized_item s a) (held_grown g.program first 0 (item_changes s checked.sound a is.0) at n (length ops) ∙
+      omega arith) st in
       item_follows a (write_on line args ends_line k) at n ops is.0 (front g first others st)
       ((own, refl), (mid, arrived mid, (is.1, n + length first.texts, behind, moved to (mid + others.size) ops k (omega arith) rest)))
 
   -- ## Input
 
   input_follows :
-      (d : Option DesigTree) (k : Remainder) (go : Action) (at n : ℕ) (ops : List ℤ) → IsRead s d → Stands g at n (length ops) (input_code s d) → Performs g b x.env (at + (input_code s d).size) ops [] k → Follows g (from_input x d k go) at ops []
+      (d : Option DesigTree) (k : Remainder) (go : Action) (at n : ℕ) (ops : List ℤ) → IsRead s d → Stands g at n (length ops) (input_code s d) →
+      Performs g b x.env (at + (input_code s d).size) ops [] k → Follows g (from_input x d k go) at ops []
   input_follows None k go at n ops is st rest = absurd is
   input_follows (Some d) k go at n ops is st rest =
       let t = desig_type s.env d in
       let code = desig_code s d in
       let i = read_instr (simple_of t) in
       let mid = at + code.size in
-      let last = back g code (one s i) (suc (length ops)) (sized_desig s d) (held_grown g.program code 1 (desig_changes s checked.sound d (Some is.0) is.2) at n (length ops) ∙ omega arith) st in
+      let last = back g code (one s i) (suc (length ops)) (sized_desig s d)
+      (held_grown g.program code 1 (desig_changes s checked.sound d (Some is.0) is.2) at n (length ops) ∙ omega arith) st in
       let is_it = lone g s (λ at n. i) last in
       let after = moved (at + (code ⨾ one s i).size) (mid + 1) ops k (omega arith) rest in
       variable_follows g b x checked [] few d (Some is.0) is.2 (input_to t k) (λ l. inputs x t l.spot k) at n ops (front g code (one s i) st)
@@ -184,7 +207,8 @@ module _ (g : Setting) (b : Block) (names : List Level) (around : Around) (check
       let first = input_code s d in
       let others = reads_code s args skip in
       let mid = at + first.size in
-      let behind = back g first others (length ops) (sized_input s d) (held_grown g.program first 0 (input_changes s checked.sound d is.0) at n (length ops) ∙ omega arith) st in
+      let behind = back g first others (length ops) (sized_input s d) (held_grown g.program first 0 (input_changes s checked.sound d is.0) at n (length ops) ∙
+      omega arith) st in
       input_follows d (read_on line args skip k) (from_reads x args skip k go) at n ops is.0 (front g first others st)
       ((own, refl), (mid, arrived mid, (is.1, n + length first.texts, behind, moved to (mid + others.size) ops k (omega arith) rest)))
 
@@ -200,7 +224,8 @@ module _ (g : Setting) (b : Block) (names : List Level) (around : Around) (check
       let code = args_code s sub.formals args in
       let i = call_instr s sub in
       let w = formals_cells g.program.state.forms sub.formals in
-      let last = back g code (one s i) (w + length ops) (sized_args s sub.formals args) (held_grown g.program code w (args_change s checked.sound sub.formals args is.1) at n (length ops)) st in
+      let last = back g code (one s i) (w + length ops) (sized_args s sub.formals args)
+      (held_grown g.program code w (args_change s checked.sound sub.formals args is.1) at n (length ops)) st in
       arguments_follow g b x checked [] few args sub.formals is.1 [] [] (to_procedure sub.scope k) at n ops ops (none_held ops) (front g code (one s i) st)
       ((own, refl), (is.0.headed, is.0.taken, is.0.leaves, lone g s (λ at n. i) last, moved to (at + code.size + 1) ops k (omega arith) rest))
 
@@ -208,7 +233,8 @@ module _ (g : Setting) (b : Block) (names : List Level) (around : Around) (check
   pub exported_follows :
       (m q : ℕ) (args : ActualTrees) (k : Remainder) (at n to : ℕ) (ops : List ℤ)
       → (let sub = sub_at g.program.state.blocks q in
-      let code = args_code s sub.formals args ⨾ one s (enter_instr (module_at g.program.state.blocks m).resource (module_number g.program.state.blocks m) (block_number g.program sub.scope)) in
+      let code = args_code s sub.formals args ⨾ one s (enter_instr (module_at g.program.state.blocks m).resource
+      (module_number g.program.state.blocks m) (block_number g.program sub.scope)) in
       IsSubCall s (FromOutside g.program.state.blocks m) q args → Stands g at n (length ops) code → at + code.size ≡ to → Performs g b x.env to ops [] k
       → Follows g (from_args x sub.formals args [] (to_module m sub.scope k)) at ops [])
   exported_follows m q args k at n to ops is st ends rest =
@@ -216,7 +242,8 @@ module _ (g : Setting) (b : Block) (names : List Level) (around : Around) (check
       let code = args_code s sub.formals args in
       let i = enter_instr (module_at g.program.state.blocks m).resource (module_number g.program.state.blocks m) (block_number g.program sub.scope) in
       let w = formals_cells g.program.state.forms sub.formals in
-      let last = back g code (one s i) (w + length ops) (sized_args s sub.formals args) (held_grown g.program code w (args_change s checked.sound sub.formals args is.1) at n (length ops)) st in
+      let last = back g code (one s i) (w + length ops) (sized_args s sub.formals args)
+      (held_grown g.program code w (args_change s checked.sound sub.formals args is.1) at n (length ops)) st in
       arguments_follow g b x checked [] few args sub.formals is.1 [] [] (to_module m sub.scope k) at n ops ops (none_held ops) (front g code (one s i) st)
       ((own, refl), (is.0.headed, is.0.taken, lone g s (λ at n. i) last, moved to (at + code.size + 1) ops k (omega arith) rest))
 
@@ -224,12 +251,14 @@ module _ (g : Setting) (b : Block) (names : List Level) (around : Around) (check
       (q : ℕ) (args : ActualTrees) (at n : ℕ) (ops : List ℤ)
       → (let sub = sub_at g.program.state.blocks q in
       let code = args_code s sub.formals args ⨾ one s (REQ (resource_of s) (block_number g.program sub.scope)) in
-      IsSubCall s (ByRequeue b) q args → AreOver g ops → Stands g at n (length ops) code → Follows g (from_args x sub.formals args [] (to_requeue sub.scope)) at ops [])
+      IsSubCall s (ByRequeue b) q args → AreOver g ops → Stands g at n (length ops) code →
+      Follows g (from_args x sub.formals args [] (to_requeue sub.scope)) at ops [])
   requeue_follows q args at n ops is over st =
       let sub = sub_at g.program.state.blocks q in
       let code = args_code s sub.formals args in
       let i = REQ (resource_of s) (block_number g.program sub.scope) in
       let w = formals_cells g.program.state.forms sub.formals in
-      let last = back g code (one s i) (w + length ops) (sized_args s sub.formals args) (held_grown g.program code w (args_change s checked.sound sub.formals args is.1) at n (length ops)) st in
+      let last = back g code (one s i) (w + length ops) (sized_args s sub.formals args)
+      (held_grown g.program code w (args_change s checked.sound sub.formals args is.1) at n (length ops)) st in
       arguments_follow g b x checked [] few args sub.formals is.1 [] [] (to_requeue sub.scope) at n ops ops (none_held ops) (front g code (one s i) st)
       ((own, refl), (over, is.0.headed, is.0.taken, lone g s (λ at n. i) last))

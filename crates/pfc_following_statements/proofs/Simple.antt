@@ -46,7 +46,8 @@ or_last false false = refl
 pub channel_is_object : (forms : Forms) (t : Option TypeId) (u : TypeId) → IsChannel forms t u → is_object_type forms t ≡ true
 channel_is_object forms t u is =
     ap (λ (k : Option TypeId). is_object_type forms k) is.typed
-    ∙ ap (λ (f : Option TypeForm). is_same is.channel semaphore || is_same is.channel condition || has_object_form f) is.form ∙ or_last (is_same is.channel semaphore) (is_same is.channel condition)
+    ∙ ap (λ (f : Option TypeForm). is_same is.channel semaphore || is_same is.channel condition || has_object_form f) is.form ∙
+    or_last (is_same is.channel semaphore) (is_same is.channel condition)
 
 pub process_is_object : (s : Site) (n : ℕ) (v : Spot) (t : Option TypeId) → IsProcessType s n v t → is_object_type (forms_of s) t ≡ true
 process_is_object s n v None is = refl
@@ -67,7 +68,8 @@ module _ (g : Setting) (b : Block) (names : List Level) (around : Around) (check
   abbrev s : Site
   s = site_of g b x
 
-  pub performs_moved : (at to : ℕ) (ops : List ℤ) (k : Remainder) → at ≡ to → Performs g b (env_in g names around) at ops [] k → Performs g b (env_in g names around) to ops [] k
+  pub performs_moved : (at to : ℕ) (ops : List ℤ) (k : Remainder) → at ≡ to → Performs g b (env_in g names around) at ops [] k →
+      Performs g b (env_in g names around) to ops [] k
   performs_moved at to ops k e h = subst (λ (y : ℕ). Performs g b (env_in g names around) y ops [] k) e h
 
   -- ## Assignments
@@ -75,7 +77,8 @@ module _ (g : Setting) (b : Block) (names : List Level) (around : Around) (check
   -- the value, behind its target
   pub stored_follows :
       (l : Spot) (v : TypeId) (e : ExprTree) (k : Remainder) (w : ℤ) (at n : ℕ) (ops : List ℤ)
-      → IsWord g.view s l (Some v) w → HasShape s e (shape_of v) → type_cells g.program.state.forms (expr_type s.env e) ≡ shape_cells g.program.state.forms (shape_of v)
+      → IsWord g.view s l (Some v) w → HasShape s e (shape_of v) →
+      type_cells g.program.state.forms (expr_type s.env e) ≡ shape_cells g.program.state.forms (shape_of v)
       → IsValueType g.program.state.forms v
       → Stands g at n (suc (length ops)) (expr_code s e ⨾ one s (STORE (type_cells g.program.state.forms (expr_type s.env e))))
       → Performs g b x.env (at + (expr_code s e ⨾ one s (STORE (type_cells g.program.state.forms (expr_type s.env e)))).size) ops [] k
@@ -84,8 +87,10 @@ module _ (g : Setting) (b : Block) (names : List Level) (around : Around) (check
       let value = expr_code s e in
       let z = type_cells g.program.state.forms (expr_type s.env e) in
       let size = shape_cells g.program.state.forms (shape_of v) in
-      let stores = back g value (one s (STORE z)) (size + suc (length ops)) (sized_expr s e) (held_grown g.program value size (expr_changes s checked.sound e (shape_of v) shape) at n (suc (length ops))) st in
-      let store : IsAt g (at + value.size) (STORE size) line = subst (λ (y : ℕ). IsAt g (at + value.size) (STORE y) line) cells (lone g s (λ at n. STORE z) stores) in
+      let stores = back g value (one s (STORE z)) (size + suc (length ops)) (sized_expr s e)
+      (held_grown g.program value size (expr_changes s checked.sound e (shape_of v) shape) at n (suc (length ops))) st in
+      let store : IsAt g (at + value.size) (STORE size) line =
+      subst (λ (y : ℕ). IsAt g (at + value.size) (STORE y) line) cells (lone g s (λ at n. STORE z) stores) in
       let after = performs_moved (at + (value.size + 1)) (at + value.size + 1) ops k (omega arith) rest in
       expression_follows g b x checked [] few e (shape_of v) shape (store_at l k) (λ a. writes x l a k) at n (w ∷ ops) (front g value (one s (STORE z)) st)
       ((own, refl), (v, w, ops, refl, refl, lies, store, after, values))
@@ -101,9 +106,11 @@ module _ (g : Setting) (b : Block) (names : List Level) (around : Around) (check
       let last = expr_code s e ⨾ one s (STORE (type_cells g.program.state.forms (expr_type s.env e))) in
       let mid = at + first.size in
       let m = n + length first.texts in
-      let behind = back g first last (suc (length ops)) (sized_desig s d) (held_grown g.program first 1 (desig_changes s checked.sound d (Some is.t) is.target) at n (length ops) ∙ omega arith) st in
+      let behind = back g first last (suc (length ops)) (sized_desig s d)
+      (held_grown g.program first 1 (desig_changes s checked.sound d (Some is.t) is.target) at n (length ops) ∙ omega arith) st in
       let rest = performs_moved to (mid + last.size) ops k (omega arith) left in
-      variable_follows g b x checked [] few d (Some is.t) is.target (assign_to e k) (λ v. from_expr x e (store_at v.spot k) (λ a. writes x v.spot a k)) at n ops (front g first last st)
+      variable_follows g b x checked [] few d (Some is.t) is.target (assign_to e k)
+      (λ v. from_expr x e (store_at v.spot k) (λ a. writes x v.spot a k)) at n ops (front g first last st)
       ((own, refl), (is.t, refl, is.value, is.cells, m, behind, rest, is.values))
       (λ l y lies. stored_follows l.spot is.t e k y mid m ops lies is.value is.cells is.values behind rest)
 
@@ -116,7 +123,8 @@ module _ (g : Setting) (b : Block) (names : List Level) (around : Around) (check
     pub i : ℕ
     pub behind : Stands g (at + address.size + 1) i (suc held) code
 
-  pub object_parts : (address code : Code) (at n held : ℕ) → IsSized address → Changes g.program address 0 1 → Stands g at n held ((address ⨾ one s OBJ) ⨾ code) → Parts address code at n held
+  pub object_parts : (address code : Code) (at n held : ℕ) → IsSized address → Changes g.program address 0 1 →
+      Stands g at n held ((address ⨾ one s OBJ) ⨾ code) → Parts address code at n held
   object_parts address code at n held sized changes st =
       let object = address ⨾ one s OBJ in
       let both = front g object code st in
@@ -125,11 +133,19 @@ module _ (g : Setting) (b : Block) (names : List Level) (around : Around) (check
       let sized_object : IsSized object = sized_then s address (λ at n. OBJ) sized in
       let behind = back g object code (suc held) sized_object (held_grown g.program object 1 whole at n held ∙ omega arith) st in
       let same : at + object.size ≡ at + address.size + 1 = omega arith in
-      record { first = front g address (one s OBJ) both; obj = lone g s (λ at n. OBJ) obj; room = room_for g obj; i = n + length object.texts; behind = stands_moved g (at + address.size + 1) same behind }
+      record {
+        first = front g address (one s OBJ) both;
+        obj = lone g s (λ at n. OBJ) obj;
+        room = room_for g obj;
+        i = n + length object.texts;
+        behind =
+            stands_moved g (at + address.size + 1) same behind;
+      }
 
   -- an object that is on top by its address
   pub numbered_follows :
-      {n : Action} (v : Spot) (t : Option TypeId) (w : ℤ) (at : ℕ) (ops : List ℤ) → IsWord g.view s v t w → is_object_type g.program.state.forms t ≡ true → IsAt g at OBJ line → suc (length ops) ≤ g.room
+      {n : Action} (v : Spot) (t : Option TypeId) (w : ℤ) (at : ℕ) (ops : List ℤ) → IsWord g.view s v t w → is_object_type g.program.state.forms t ≡ true →
+      IsAt g at OBJ line → suc (length ops) ≤ g.room
       → ((i : ℤ) → IsObject g s v t i → Follows g n (at + 1) (i ∷ ops) []) → Follows g n at (w ∷ ops) []
   numbered_follows v t w at ops is object obj room on = object_follows g b names around checked line [] few v t w at ops is object obj room on
 
@@ -138,7 +154,8 @@ module _ (g : Setting) (b : Block) (names : List Level) (around : Around) (check
   -- behind the channel's number
   pub sent_follows :
       (channel : Spot) (t : Option TypeId) (u : TypeId) (i : ℤ) (m : Option ExprTree) (k : Remainder) (at n : ℕ) (ops : List ℤ)
-      → IsChannel g.program.state.forms t u → IsObject g s channel t i → IsMessage s m u → Stands g at n (suc (length ops)) (message_code s m ⨾ one s (SEND (message_cells s m)))
+      → IsChannel g.program.state.forms t u → IsObject g s channel t i → IsMessage s m u →
+      Stands g at n (suc (length ops)) (message_code s m ⨾ one s (SEND (message_cells s m)))
       → Performs g b x.env (at + (message_code s m ⨾ one s (SEND (message_cells s m))).size) ops [] k
       → Follows g (from_sent x channel m k) at (i ∷ ops) []
   sent_follows channel t u i None k at n ops carries object is st left =
@@ -167,10 +184,12 @@ module _ (g : Setting) (b : Block) (names : List Level) (around : Around) (check
       let value = expr_code s e in
       let z = message_cells s (Some e) in
       let w = shape_cells g.program.state.forms (shape_of u) in
-      let behind = back g value (one s (SEND z)) (w + suc (length ops)) (sized_expr s e) (held_grown g.program value w (expr_changes s checked.sound e (shape_of u) is.0) at n (suc (length ops))) st in
+      let behind = back g value (one s (SEND z)) (w + suc (length ops)) (sized_expr s e)
+      (held_grown g.program value w (expr_changes s checked.sound e (shape_of u) is.0) at n (suc (length ops))) st in
       let send : IsAt g (at + value.size) (SEND w) line = subst (λ (y : ℕ). IsAt g (at + value.size) (SEND y) line) is.1 (lone g s (λ at n. SEND z) behind) in
       let rest = performs_moved (at + (value.size + 1)) (at + value.size + 1) ops k (omega arith) left in
-      expression_follows g b x checked [] few e (shape_of u) is.0 (send_on channel k) (λ v. meets x (plain_open (to_send channel v)) k) at n (i ∷ ops) (front g value (one s (SEND z)) st)
+      expression_follows g b x checked [] few e (shape_of u) is.0 (send_on channel k) (λ v. meets x (plain_open (to_send channel v)) k) at n
+      (i ∷ ops) (front g value (one s (SEND z)) st)
       ((own, refl), (t, u, i, ops, refl, refl, carries, is.2, object, send, rest))
       (λ v simple. arrives (at + value.size) (v ∷ i ∷ ops) [] (
         b,
@@ -186,7 +205,8 @@ module _ (g : Setting) (b : Block) (names : List Level) (around : Around) (check
 
   pub send_follows :
       (d : DesigTree) (m : Option ExprTree) (k : Remainder) (at n to : ℕ) (ops : List ℤ)
-      → IsSend s d m → Stands g at n (length ops) (object_code s d ⨾ message_code s m ⨾ one s (SEND (message_cells s m))) → at + (object_code s d ⨾ message_code s m ⨾ one s (SEND (message_cells s m))).size ≡ to
+      → IsSend s d m → Stands g at n (length ops) (object_code s d ⨾ message_code s m ⨾ one s (SEND (message_cells s m))) →
+      at + (object_code s d ⨾ message_code s m ⨾ one s (SEND (message_cells s m))).size ≡ to
       → Performs g b x.env to ops [] k → Follows g (from_desig x d (send_to m k) (λ channel. from_sent x channel.spot m k)) at ops []
   send_follows d m k at n to ops is st ends left =
       let first = desig_code s d in
@@ -203,7 +223,8 @@ module _ (g : Setting) (b : Block) (names : List Level) (around : Around) (check
 
   pub received_follows :
       (channel : Spot) (t : Option TypeId) (u : TypeId) (i : ℤ) (r : Option DesigTree) (k : Remainder) (at n : ℕ) (ops : List ℤ)
-      → IsChannel g.program.state.forms t u → IsObject g s channel t i → IsReceiver s r u → Stands g at n (suc (length ops)) (receiver_code s r ⨾ one s (RECV (receiver_cells s r)))
+      → IsChannel g.program.state.forms t u → IsObject g s channel t i → IsReceiver s r u →
+      Stands g at n (suc (length ops)) (receiver_code s r ⨾ one s (RECV (receiver_cells s r)))
       → Performs g b x.env (at + (receiver_code s r ⨾ one s (RECV (receiver_cells s r))).size) ops [] k
       → Follows g (from_received x channel r k) at (i ∷ ops) []
   received_follows channel t u i None k at n ops carries object is st left =
@@ -232,10 +253,13 @@ module _ (g : Setting) (b : Block) (names : List Level) (around : Around) (check
       let target = desig_code s d in
       let z = receiver_cells s (Some d) in
       let w = shape_cells g.program.state.forms (shape_of u) in
-      let behind = back g target (one s (RECV z)) (suc (suc (length ops))) (sized_desig s d) (held_grown g.program target 1 (desig_changes s checked.sound d (Some u) is.0) at n (suc (length ops)) ∙ omega arith) st in
-      let receive : IsAt g (at + target.size) (RECV w) line = subst (λ (y : ℕ). IsAt g (at + target.size) (RECV y) line) is.1 (lone g s (λ at n. RECV z) behind) in
+      let behind = back g target (one s (RECV z)) (suc (suc (length ops))) (sized_desig s d)
+      (held_grown g.program target 1 (desig_changes s checked.sound d (Some u) is.0) at n (suc (length ops)) ∙ omega arith) st in
+      let receive : IsAt g (at + target.size) (RECV w) line =
+      subst (λ (y : ℕ). IsAt g (at + target.size) (RECV y) line) is.1 (lone g s (λ at n. RECV z) behind) in
       let rest = performs_moved (at + (target.size + 1)) (at + target.size + 1) ops k (omega arith) left in
-      variable_follows g b x checked [] few d (Some u) is.0 (receive_into channel k) (λ v. meets x (plain_open (to_receive channel (Some v.spot))) k) at n (i ∷ ops) (front g target (one s (RECV z)) st)
+      variable_follows g b x checked [] few d (Some u) is.0 (receive_into channel k) (λ v. meets x (plain_open (to_receive channel (Some v.spot))) k) at n
+      (i ∷ ops) (front g target (one s (RECV z)) st)
       ((own, refl), (t, u, i, ops, refl, is.2, carries, refl, object, receive, rest))
       (λ l y lies. arrives (at + target.size) (y ∷ i ∷ ops) [] (
         b,
@@ -251,7 +275,8 @@ module _ (g : Setting) (b : Block) (names : List Level) (around : Around) (check
 
   pub receive_follows :
       (d : DesigTree) (r : Option DesigTree) (k : Remainder) (at n to : ℕ) (ops : List ℤ)
-      → IsReceive s d r → Stands g at n (length ops) (object_code s d ⨾ receiver_code s r ⨾ one s (RECV (receiver_cells s r))) → at + (object_code s d ⨾ receiver_code s r ⨾ one s (RECV (receiver_cells s r))).size ≡ to
+      → IsReceive s d r → Stands g at n (length ops) (object_code s d ⨾ receiver_code s r ⨾ one s (RECV (receiver_cells s r))) →
+      at + (object_code s d ⨾ receiver_code s r ⨾ one s (RECV (receiver_cells s r))).size ≡ to
       → Performs g b x.env to ops [] k → Follows g (from_desig x d (receive_from r k) (λ channel. from_received x channel.spot r k)) at ops []
   receive_follows d r k at n to ops is st ends left =
       let first = desig_code s d in

@@ -93,13 +93,15 @@ abbrev pub ActivationFollows : Setting → Block → Context → Type 0
 ActivationFollows g b x =
     IsChecked g b x.env → g.trial ≡ of_own → (q : ℕ) (v : TypedSpot) (ss : SelectorTrees) (args : ActualTrees) (k : Remainder)
     → IsActivation (site_of g b x) q v ss args
-    → CodeFollows g b x (activation_code (site_of g b x) q (base_code (site_of g b x) v.spot ⨾ selectors_code (site_of g b x) v.t ss) args) k (from_activation x v ss (process_at x.env.state.blocks q).formals args k)
+    → CodeFollows g b x (activation_code (site_of g b x) q (base_code (site_of g b x) v.spot ⨾ selectors_code (site_of g b x) v.t ss) args) k
+    (from_activation x v ss (process_at x.env.state.blocks q).formals args k)
 
 abbrev pub EntryCallFollows : Setting → Block → Context → Type 0
 EntryCallFollows g b x =
     IsChecked g b x.env → g.trial ≡ of_own → (q entry : ℕ) (v : TypedSpot) (ss : SelectorTrees) (args : ActualTrees) (k : Remainder)
     → IsEntryCall (site_of g b x) q entry v ss args
-    → CodeFollows g b x (entry_code (site_of g b x) q (Some (Entry entry)) (base_code (site_of g b x) v.spot ⨾ selectors_code (site_of g b x) v.t ss) args) k (from_entry_call x v ss entry (entry_at x.env.state.blocks q entry) args k)
+    → CodeFollows g b x (entry_code (site_of g b x) q (Some (Entry entry)) (base_code (site_of g b x) v.spot ⨾ selectors_code (site_of g b x) v.t ss) args) k
+    (from_entry_call x v ss entry (entry_at x.env.state.blocks q entry) args k)
 
 -- a name that is called as a statement, whatever it is
 abbrev pub EveryCallFollows : Setting → Block → Context → Type 0

@@ -96,10 +96,12 @@ module _ (g : Setting) (b : Block) (names : List Level) (around : Around) (check
       by true e =
           let n = label_of (value_of l) in
           let below : length ops ≤ g.room = omega arith in
-          move g [] few at (v ∷ ops) (CEQ n a) line a ops is (fits g [] (CEQ n a) (v ∷ ops) (omega arith) tt tt) (ap (λ (r : Bool). of_own_effect (if r then quiet a ops else quiet (at + 1) (v ∷ ops)) []) (sym same ∙ e)) up below on
+          move g [] few at (v ∷ ops) (CEQ n a) line a ops is (fits g [] (CEQ n a) (v ∷ ops) (omega arith) tt tt)
+          (ap (λ (r : Bool). of_own_effect (if r then quiet a ops else quiet (at + 1) (v ∷ ops)) []) (sym same ∙ e)) up below on
       by false e =
           let n = label_of (value_of l) in
-          next_move g [] few at (v ∷ ops) (CEQ n a) line (v ∷ ops) is (fits g [] (CEQ n a) (v ∷ ops) (omega arith) tt tt) (ap (λ (r : Bool). of_own_effect (if r then quiet a ops else quiet (at + 1) (v ∷ ops)) []) (sym same ∙ e)) room rest
+          next_move g [] few at (v ∷ ops) (CEQ n a) line (v ∷ ops) is (fits g [] (CEQ n a) (v ∷ ops) (omega arith) tt tt)
+          (ap (λ (r : Bool). of_own_effect (if r then quiet a ops else quiet (at + 1) (v ∷ ops)) []) (sym same ∙ e)) room rest
 
   labels_follow :
       (line : ℕ) (ls : List Constant) (v : ℤ) (between a at n held : ℕ) (ops : List ℤ) (so otherwise : Action)
@@ -115,8 +117,10 @@ module _ (g : Setting) (b : Block) (names : List Level) (around : Around) (check
       let behind = tail g s (λ at k. CEQ label (at + 1 + (length ls + between))) rest held (omega arith) st in
       let target : a ≡ to = sym e ∙ omega arith in
       let again : at + 1 + length ls + between ≡ a = omega arith ∙ e in
-      label_follows line l ls v values.0.0 to at ops so otherwise values.0.1 room (head g s (λ at k. CEQ label (at + 1 + (length ls + between))) rest st) (omega arith) (follows_moved g [] few a to target on)
-      (labels_follow line ls v between a (at + 1) (n + 0) held ops so otherwise values.1 room behind again on (follows_moved g [] few (at + (1 + rest.size)) (at + 1 + rest.size) (omega arith) off))
+      label_follows line l ls v values.0.0 to at ops so otherwise values.0.1 room (head g s (λ at k. CEQ label (at + 1 + (length ls + between))) rest st)
+      (omega arith) (follows_moved g [] few a to target on)
+      (labels_follow line ls v between a (at + 1) (n + 0) held ops so otherwise values.1 room behind again on (follows_moved g [] few (at + (1 + rest.size))
+      (at + 1 + rest.size) (omega arith) off))
 
   -- ## Arms
 
@@ -125,7 +129,8 @@ module _ (g : Setting) (b : Block) (names : List Level) (around : Around) (check
       let x : Context = record { env = env_in g names around; line = line } in
       fault_at g [] few b x Case tests (v ∷ ops) CERR is.tests_stand.has.0 (fits g [] CERR (v ∷ ops) (omega arith) tt tt) refl
 
-  pub more_arms_follow : (ls : List Constant) (t : StmtTree) (arms : ArmTrees) → StatementFollows g b env t → ArmsFollow g b env arms → ArmsFollow g b env (more_arms (arm ls t) arms)
+  pub more_arms_follow : (ls : List Constant) (t : StmtTree) (arms : ArmTrees) → StatementFollows g b env t → ArmsFollow g b env arms →
+      ArmsFollow g b env (more_arms (arm ls t) arms)
   more_arms_follow ls t arms inner others line m v k go tests i first n from to ops is begin whole_end rest on =
       let s = site line in
       let between = label_count arms + 1 + from in
@@ -141,19 +146,24 @@ module _ (g : Setting) (b : Block) (names : List Level) (around : Around) (check
       let mid = tests + labels.size in
       let j = n + length yes.texts in
       let whole : Stands g tests i (1 + length ops) (labels ⨾ (other_tests ⨾ one s CERR)) = last_joined g labels other_tests (one s CERR) is.tests_stand in
-      let tests_behind = back g labels (other_tests ⨾ one s CERR) (1 + length ops) (sized_labels s between ls) (held_grown g.program labels 0 (labels_change s between ls) tests i (1 + length ops) ∙ omega arith) whole in
-      let second = back g yes (over s JMP other_arms.size ⨾ other_arms) (length ops) (sized_stmt s m t) (held_grown g.program yes 0 (stmt_changes t s m checked.sound is.typed.1) first n (length ops) ∙ omega arith) is.arms_stand in
+      let tests_behind = back g labels (other_tests ⨾ one s CERR) (1 + length ops) (sized_labels s between ls)
+      (held_grown g.program labels 0 (labels_change s between ls) tests i (1 + length ops) ∙ omega arith) whole in
+      let second = back g yes (over s JMP other_arms.size ⨾ other_arms) (length ops) (sized_stmt s m t)
+      (held_grown g.program yes 0 (stmt_changes t s m checked.sound is.typed.1) first n (length ops) ∙ omega arith) is.arms_stand in
       let third = tail g s (λ at k. JMP (at + 1 + other_arms.size)) other_arms (length ops) (omega arith) second in
       let is_jump = head g s (λ at k. JMP (at + 1 + other_arms.size)) other_arms second in
       let end = y + 1 + other_arms.size in
       let up : y < end = omega arith in
       let ended : to ≡ end = sym whole_end ∙ omega arith in
       let here = moved to end ops k ended rest in
-      let inner_at : StmtAt g s first n (length ops) m t = record { typed = is.typed.1; code = front g yes (over s JMP other_arms.size ⨾ other_arms) is.arms_stand } in
-      let arms_at : ArmsAt g s mid (i + length labels.texts) (y + 1) (j + 0) next from_next (length ops) arms = record { typed = is.typed.2; tests_stand = tests_behind; arms_stand = third } in
+      let inner_at : StmtAt g s first n (length ops) m t =
+      record { typed = is.typed.1; code = front g yes (over s JMP other_arms.size ⨾ other_arms) is.arms_stand } in
+      let arms_at : ArmsAt g s mid (i + length labels.texts) (y + 1) (j + 0) next from_next (length ops) arms =
+      record { typed = is.typed.2; tests_stand = tests_behind; arms_stand = third } in
       let target : tests + length ls + between ≡ first = sym (begin ∙ omega arith) in
       let count : y + 1 ≡ mid + label_count arms + 1 + from_next = omega (arith, begin, labels_are) in
-      labels_follow line ls v between first tests i (1 + length ops) ops (from_stmt env m t k go) (from_arms (context env line) next v arms k go) is.typed.0 room (front g labels (other_tests ⨾ one s CERR) whole) target
+      labels_follow line ls v between first tests i (1 + length ops) ops (from_stmt env m t k go)
+      (from_arms (context env line) next v arms k go) is.typed.0 room (front g labels (other_tests ⨾ one s CERR) whole) target
       (inner line m k go first n y ops inner_at refl (performs_jumped g b (env_in g names around) k y end ops [] line is_jump up here)
       (jump_move g [] few y end ops line is_jump up (room_for g third) (follows_moved g [] few to end ended on)))
       (others line next v k go mid (i + length labels.texts) (y + 1) (j + 0) from_next to ops arms_at count (sym ended) rest on)
@@ -169,14 +179,23 @@ module _ (g : Setting) (b : Block) (names : List Level) (around : Around) (check
       let i = n + length value.texts in
       let count = tests_size s m 0 arms in
       let first = mid + label_count arms + 1 in
-      let behind = back g value (tests ⨾ one s CERR ⨾ all) (suc (length ops)) (sized_expr s e) (held_grown g.program value 1 (expr_changes s checked.sound e a_number is.typed.0) at n (length ops) ∙ omega arith) is.code in
-      let arms_end = back g tests (one s CERR ⨾ all) (suc (length ops)) (sized_tests s m 0 arms) (held_grown g.program tests 0 (tests_change arms s m 0) mid i (suc (length ops)) ∙ omega arith) behind in
+      let behind = back g value (tests ⨾ one s CERR ⨾ all) (suc (length ops)) (sized_expr s e)
+      (held_grown g.program value 1 (expr_changes s checked.sound e a_number is.typed.0) at n (length ops) ∙ omega arith) is.code in
+      let arms_end = back g tests (one s CERR ⨾ all) (suc (length ops)) (sized_tests s m 0 arms) (held_grown g.program tests 0 (tests_change arms s m 0) mid i
+      (suc (length ops)) ∙ omega arith) behind in
       let last_part = tail g s (λ at k. CERR) all (length ops) (omega arith) arms_end in
       let start : mid + tests.size + 1 ≡ first = omega (arith, count) in
       let over_value : suc (length ops) ≡ 1 + length ops = omega arith in
       let arms_at : ArmsAt g s mid i first (i + length tests.texts + 0) m 0 (length ops) arms =
-      record { typed = is.typed.1; tests_stand = stands_over g (1 + length ops) over_value (front g (tests ⨾ one s CERR) all (first_joined g tests (one s CERR) all behind)); arms_stand = stands_moved g first start last_part } in
+      record {
+        typed = is.typed.1;
+        tests_stand =
+            stands_over g (1 + length ops) over_value (front g (tests ⨾ one s CERR) all (first_joined g tests (one s CERR) all behind));
+        arms_stand =
+            stands_moved g first start last_part;
+      } in
       let end : first + all.size ≡ to = omega (arith, count) in
-      expression_follows g b x checked [] few e a_number is.typed.0 (choose_arm m arms k) (λ v. from_arms x m (ordinal_of v) arms k go) at n ops (front g value (tests ⨾ one s CERR ⨾ all) is.code)
+      expression_follows g b x checked [] few e a_number is.typed.0 (choose_arm m arms k) (λ v. from_arms x m (ordinal_of v) arms k go) at n ops
+      (front g value (tests ⨾ one s CERR ⨾ all) is.code)
       ((own, refl), (refl, i, i + length tests.texts + 0, arms_at, moved to (first + all.size) ops k (sym end) rest))
       (λ v simple. inner p.line m v k go mid i first (i + length tests.texts + 0) 0 to ops arms_at (omega arith) end rest on)

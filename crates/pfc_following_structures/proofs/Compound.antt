@@ -60,13 +60,15 @@ module _ (g : Setting) (b : Block) (names : List Level) (around : Around) (check
   null_follows p line m k go at n to ops is e rest on = follows_moved g [] few to at (sym e ∙ omega arith) on
 
   pub block_follows : (ts : StmtTrees) (first last p : Place) → StatementsFollow g b env ts → StatementFollows g b env (block (body ts first last) p)
-  block_follows ts first last p inner line m k go at n to ops is e rest on = inner line m k go at n to ops (record { typed = is.typed; code = is.code }) e rest on
+  block_follows ts first last p inner line m k go at n to ops is e rest on =
+      inner line m k go at n to ops (record { typed = is.typed; code = is.code }) e rest on
 
   pub none_follow : StatementsFollow g b env no_stmts
   none_follow line m k go at n to ops is e rest on = follows_moved g [] few to at (sym e ∙ omega arith) on
 
   -- what is left behind the first of some statements
-  behind_left : (line m : ℕ) (ts : StmtTrees) (k : Remainder) (at n to : ℕ) (ops : List ℤ) → StmtsAt g (site line) at n (length ops) m ts → at + (stmts_code (site line) m ts).size ≡ to → left to ops k → left at ops (behind m ts k)
+  behind_left : (line m : ℕ) (ts : StmtTrees) (k : Remainder) (at n to : ℕ) (ops : List ℤ) → StmtsAt g (site line) at n (length ops) m ts →
+      at + (stmts_code (site line) m ts).size ≡ to → left to ops k → left at ops (behind m ts k)
   behind_left line m no_stmts k at n to ops is e rest = moved to at ops k (sym e ∙ omega arith) rest
   behind_left line m (more_stmts t ts) k at n to ops is e rest =
       ((own, refl), (at, arrived at, (line, (n, is, moved to (at + (stmts_code (site line) m (more_stmts t ts)).size) ops k (sym e) rest))))
@@ -96,7 +98,8 @@ module _ (g : Setting) (b : Block) (names : List Level) (around : Around) (check
       let mid = at + test.size in
       let i = n + length test.texts in
       let end = mid + 1 + yes.size in
-      let behind = back g test (over s JF yes.size ⨾ yes) (suc (length ops)) (sized_expr s e) (held_grown g.program test 1 (expr_changes s checked.sound e a_number is.typed.0) at n (length ops) ∙ omega arith) is.code in
+      let behind = back g test (over s JF yes.size ⨾ yes) (suc (length ops)) (sized_expr s e)
+      (held_grown g.program test 1 (expr_changes s checked.sound e a_number is.typed.0) at n (length ops) ∙ omega arith) is.code in
       let third = tail g s (λ at k. JF (at + 1 + yes.size)) yes (length ops) (omega arith) behind in
       let is_test = head g s (λ at k. JF (at + 1 + yes.size)) yes behind in
       let inner_at : StmtAt g s (mid + 1) (i + 0) (length ops) m t = record { typed = is.typed.1; code = third } in
@@ -104,12 +107,14 @@ module _ (g : Setting) (b : Block) (names : List Level) (around : Around) (check
       let up : mid < end = omega arith in
       let here = moved to end ops k ended rest in
       let none : Stands g end 0 (length ops) nothing = record { has = tt; texts = tt; room = room_for g third; arms = few } in
-      expression_follows g b x checked [] few e a_number is.typed.0 (choose m t empty k) (λ v. if is_true (ordinal_of v) then from_stmt env m t k go else go) at n ops (front g test (over s JF yes.size ⨾ yes) is.code)
+      expression_follows g b x checked [] few e a_number is.typed.0 (choose m t empty k) (λ v. if is_true (ordinal_of v) then
+      from_stmt env m t k go else go) at n ops (front g test (over s JF yes.size ⨾ yes) is.code)
       ((own, refl), (refl, end, is_test, up, (i + 0, inner_at, here), (0, record { typed = tt; code = none }, moved end (end + 0) ops k (omega arith) here)))
       (λ v simple. test_move g [] few v (from_stmt env m t k go) go mid ops end p.line is_test up (room_for g third)
       (inner p.line m k go (mid + 1) (i + 0) end ops inner_at refl here (follows_moved g [] few to end ended on)) (follows_moved g [] few to end ended on))
 
-  pub if_else_follows : (e : ExprTree) (t u : StmtTree) (p : Place) → StatementFollows g b env t → StatementFollows g b env u → StatementFollows g b env (if_then_else e t u p)
+  pub if_else_follows : (e : ExprTree) (t u : StmtTree) (p : Place) → StatementFollows g b env t → StatementFollows g b env u →
+      StatementFollows g b env (if_then_else e t u p)
   if_else_follows e t u p inner other line m k go at n to ops is whole_end rest on =
       let s = site p.line in
       let x : Context = record { env = env_in g names around; line = p.line } in
@@ -125,10 +130,12 @@ module _ (g : Setting) (b : Block) (names : List Level) (around : Around) (check
       let from = mid + 1 + (yes.size + 1) in
       let end = y + 1 + no.size in
       let j = i + 0 + length yes.texts in
-      let behind = back g test whole (suc (length ops)) (sized_expr s e) (held_grown g.program test 1 (expr_changes s checked.sound e a_number is.typed.0) at n (length ops) ∙ omega arith) is.code in
+      let behind = back g test whole (suc (length ops)) (sized_expr s e)
+      (held_grown g.program test 1 (expr_changes s checked.sound e a_number is.typed.0) at n (length ops) ∙ omega arith) is.code in
       let third = tail g s (λ at k. JF (at + 1 + (yes.size + 1))) (yes ⨾ last) (length ops) (omega arith) behind in
       let is_test = head g s (λ at k. JF (at + 1 + (yes.size + 1))) (yes ⨾ last) behind in
-      let fourth = back g yes last (length ops) (sized_stmt s m t) (held_grown g.program yes 0 (stmt_changes t s m checked.sound is.typed.1) (mid + 1) (i + 0) (length ops) ∙ omega arith) third in
+      let fourth = back g yes last (length ops) (sized_stmt s m t) (held_grown g.program yes 0 (stmt_changes t s m checked.sound is.typed.1) (mid + 1)
+      (i + 0) (length ops) ∙ omega arith) third in
       let fifth = tail g s (λ at k. JMP (at + 1 + no.size)) no (length ops) (omega arith) fourth in
       let is_jump = head g s (λ at k. JMP (at + 1 + no.size)) no fourth in
       let yes_at : StmtAt g s (mid + 1) (i + 0) (length ops) m t = record { typed = is.typed.1; code = front g yes last third } in
@@ -141,7 +148,8 @@ module _ (g : Setting) (b : Block) (names : List Level) (around : Around) (check
       let here = moved to end ops k ended rest in
       let on_end = follows_moved g [] few to end ended on in
       let yes_left = performs_jumped g b (env_in g names around) k y end ops [] p.line is_jump jump_up here in
-      expression_follows g b x checked [] few e a_number is.typed.0 (choose m t u k) (λ v. if is_true (ordinal_of v) then from_stmt env m t k go else from_stmt env next u k go) at n ops (front g test whole is.code)
+      expression_follows g b x checked [] few e a_number is.typed.0 (choose m t u k) (λ v. if is_true (ordinal_of v) then
+      from_stmt env m t k go else from_stmt env next u k go) at n ops (front g test whole is.code)
       ((own, refl), (refl, from, is_test, up, (i + 0, yes_at, yes_left), (j + 0, no_at, moved end (from + no.size) ops k (sym no_end) here)))
       (λ v simple. test_move g [] few v (from_stmt env m t k go) (from_stmt env next u k go) mid ops from p.line is_test up (room_for g third)
       (inner p.line m k go (mid + 1) (i + 0) y ops yes_at refl yes_left (jump_move g [] few y end ops p.line is_jump jump_up (room_for g fifth) on_end))
@@ -150,10 +158,12 @@ module _ (g : Setting) (b : Block) (names : List Level) (around : Around) (check
   -- ## Loops
 
   -- a loop stands once more
-  pub again_left : (line m : ℕ) (t : StmtTree) (k : Remainder) (at n : ℕ) (ops : List ℤ) → StmtAt g (site line) at n (length ops) m t → left (at + (stmt_code (site line) m t).size) ops k → left at ops (again m t k)
+  pub again_left : (line m : ℕ) (t : StmtTree) (k : Remainder) (at n : ℕ) (ops : List ℤ) → StmtAt g (site line) at n (length ops) m t →
+      left (at + (stmt_code (site line) m t).size) ops k → left at ops (again m t k)
   again_left line m t k at n ops is rest =
       let code = stmt_code (site line) m t in
-      let all : StmtsAt g (site line) at n (length ops) m (more_stmts t no_stmts) = record { typed = (is.typed, tt); code = stands_alone g at n (length ops) code is.code } in
+      let all : StmtsAt g (site line) at n (length ops) m (more_stmts t no_stmts) =
+      record { typed = (is.typed, tt); code = stands_alone g at n (length ops) code is.code } in
       ((own, refl), (at, arrived at, (line, (n, all, moved (at + code.size) (at + (code ⨾ nothing).size) ops k (omega arith) rest))))
 
   pub turns_follow :
@@ -170,18 +180,25 @@ module _ (g : Setting) (b : Block) (names : List Level) (around : Around) (check
       let code = stmts_code s m ts in
       let mid = at + code.size in
       let back_to : mid - code.size ≡ at = omega arith in
-      let last = back g code (to_back s TURN code.size) (length ops) (sized_stmts s m ts) (held_grown g.program code 0 (stmts_change ts s m checked.sound is.typed) at n (length ops) ∙ omega arith) is.code in
+      let last = back g code (to_back s TURN code.size) (length ops) (sized_stmts s m ts)
+      (held_grown g.program code 0 (stmts_change ts s m checked.sound is.typed) at n (length ops) ∙ omega arith) is.code in
       let turn_is : IsAt g mid (TURN at) p.line = subst (λ (y : ℕ). IsAt g mid (TURN y) p.line) back_to (lone g s (λ at k. TURN (at - code.size)) last) in
       let whole = moved to (at + (stmt_code (site line) m loop).size) ops k (sym whole_end) rest in
-      inner p.line m (turn m loop k) (turns (context env p.line) (again m loop k)) at n mid ops (record { typed = is.typed; code = front g code (to_back s TURN code.size) is.code }) refl
+      inner p.line m (turn m loop k) (turns (context env p.line) (again m loop k)) at n mid ops (record {
+        typed = is.typed;
+        code =
+            front g code (to_back s TURN code.size) is.code;
+      }) refl
       ((own, refl), (mid, arrived mid, (line, at, turn_is, (n, is, whole))))
       (turns_follow line p.line m loop k mid at n ops turn_is is whole)
 
   -- behind the test of a `while`
   pub while_tested :
       (e : ExprTree) (t : StmtTree) (p : Place) → StatementFollows g b env t → (line m : ℕ) (k : Remainder) (go : Action) (a n : ℕ) (ops : List ℤ) (v : ℤ)
-      → StmtAt g (site line) a n (length ops) m (while_do e t p) → left (a + (stmt_code (site line) m (while_do e t p)).size) ops k → Follows g go (a + (stmt_code (site line) m (while_do e t p)).size) ops []
-      → Follows g (if is_true v then from_stmt env m t (turn m (while_do e t p) k) (turns (context env p.line) (again m (while_do e t p) k)) else go) (a + (expr_code (site p.line) e).size) (v ∷ ops) []
+      → StmtAt g (site line) a n (length ops) m (while_do e t p) → left (a + (stmt_code (site line) m (while_do e t p)).size) ops k →
+      Follows g go (a + (stmt_code (site line) m (while_do e t p)).size) ops []
+      → Follows g (if is_true v then from_stmt env m t (turn m (while_do e t p) k) (turns (context env p.line) (again m (while_do e t p) k)) else go)
+      (a + (expr_code (site p.line) e).size) (v ∷ ops) []
   while_tested e t p inner line m k go a n ops v is rest on =
       let s = site p.line in
       let loop = while_do e t p in
@@ -193,15 +210,18 @@ module _ (g : Setting) (b : Block) (names : List Level) (around : Around) (check
       let i = n + length test.texts in
       let y = mid + 1 + yes.size in
       let out = mid + 1 + (yes.size + 1) in
-      let behind = back g test (over s JF (yes.size + 1) ⨾ yes ⨾ turn_code) (suc (length ops)) (sized_expr s e) (held_grown g.program test 1 (expr_changes s checked.sound e a_number is.typed.0) a n (length ops) ∙ omega arith) is.code in
+      let behind = back g test (over s JF (yes.size + 1) ⨾ yes ⨾ turn_code) (suc (length ops)) (sized_expr s e)
+      (held_grown g.program test 1 (expr_changes s checked.sound e a_number is.typed.0) a n (length ops) ∙ omega arith) is.code in
       let third = tail g s (λ at k. JF (at + 1 + (yes.size + 1))) (yes ⨾ turn_code) (length ops) (omega arith) behind in
       let is_test = head g s (λ at k. JF (at + 1 + (yes.size + 1))) (yes ⨾ turn_code) behind in
-      let last = back g yes turn_code (length ops) (sized_stmt s m t) (held_grown g.program yes 0 (stmt_changes t s m checked.sound is.typed.1) (mid + 1) (i + 0) (length ops) ∙ omega arith) third in
+      let last = back g yes turn_code (length ops) (sized_stmt s m t) (held_grown g.program yes 0 (stmt_changes t s m checked.sound is.typed.1) (mid + 1)
+      (i + 0) (length ops) ∙ omega arith) third in
       let back_to : y - count ≡ a = omega arith in
       let turn_is : IsAt g y (TURN a) p.line = subst (λ (z : ℕ). IsAt g y (TURN z) p.line) back_to (lone g s (λ at k. TURN (at - count)) last) in
       let inner_at : StmtAt g s (mid + 1) (i + 0) (length ops) m t = record { typed = is.typed.1; code = front g yes turn_code third } in
       let same : a + (stmt_code (site line) m loop).size ≡ out = omega arith in
-      test_move g [] few v (from_stmt env m t (turn m loop k) (turns (context env p.line) (again m loop k))) go mid ops out p.line is_test (omega arith) (room_for g third)
+      test_move g [] few v (from_stmt env m t (turn m loop k) (turns (context env p.line) (again m loop k))) go mid ops out p.line is_test (omega arith)
+      (room_for g third)
       (inner p.line m (turn m loop k) (turns (context env p.line) (again m loop k)) (mid + 1) (i + 0) y ops inner_at refl
       ((own, refl), (y, arrived y, (line, a, turn_is, (n, is, rest)))) (turns_follow line p.line m loop k y a n ops turn_is is rest))
       (follows_moved g [] few (a + (stmt_code (site line) m loop).size) out same on)
@@ -218,7 +238,8 @@ module _ (g : Setting) (b : Block) (names : List Level) (around : Around) (check
       let whole = moved to (at + size) ops k (sym whole_end) rest in
       let on_end = follows_moved g [] few to (at + size) (sym whole_end) on in
       expression_follows g b x checked [] few e a_number is.typed.0 (while_true m e t p k)
-      (λ v. if is_true (ordinal_of v) then from_stmt env m t (turn m loop k) (turns (context env p.line) (again m loop k)) else go) at n ops (front g test others is.code)
+      (λ v. if is_true (ordinal_of v) then
+      from_stmt env m t (turn m loop k) (turns (context env p.line) (again m loop k)) else go) at n ops (front g test others is.code)
       ((own, refl), (refl, refl, line, at, refl, (n, is, whole)))
       (λ v simple. while_tested e t p inner line m k go at n ops v is whole on_end)
 
@@ -233,8 +254,10 @@ module _ (g : Setting) (b : Block) (names : List Level) (around : Around) (check
   -- behind the test of a `repeat`
   pub tested_follows :
       (ts : StmtTrees) (e : ExprTree) (p : Place) (line m : ℕ) (k : Remainder) (go : Action) (a n : ℕ) (ops : List ℤ) (v : ℤ)
-      → StmtAt g (site line) a n (length ops) m (repeat_until ts e p) → left (a + (stmt_code (site line) m (repeat_until ts e p)).size) ops k → Follows g go (a + (stmt_code (site line) m (repeat_until ts e p)).size) ops []
-      → Follows g (from_until (context env p.line) m (repeat_until ts e p) k go (ordinal v)) (a + (stmts_code (site p.line) m ts).size + (expr_code (site p.line) e).size) (v ∷ ops) []
+      → StmtAt g (site line) a n (length ops) m (repeat_until ts e p) → left (a + (stmt_code (site line) m (repeat_until ts e p)).size) ops k →
+      Follows g go (a + (stmt_code (site line) m (repeat_until ts e p)).size) ops []
+      → Follows g (from_until (context env p.line) m (repeat_until ts e p) k go (ordinal v)) (a + (stmts_code (site p.line) m ts).size +
+      (expr_code (site p.line) e).size) (v ∷ ops) []
   tested_follows ts e p line m k go a n ops v is rest on =
       let s = site p.line in
       let loop = repeat_until ts e p in
@@ -247,14 +270,17 @@ module _ (g : Setting) (b : Block) (names : List Level) (around : Around) (check
       let right = mid + test.size in
       let out = right + 1 + 1 + 1 in
       let i = n + length inner.texts in
-      let behind = back g inner (test ⨾ one s NOT ⨾ jump_code) (length ops) (sized_stmts s m ts) (held_grown g.program inner 0 (stmts_change ts s m checked.sound is.typed.0) a n (length ops) ∙ omega arith) is.code in
-      let third = back g test (one s NOT ⨾ jump_code) (suc (length ops)) (sized_expr s e) (held_grown g.program test 1 (expr_changes s checked.sound e a_number is.typed.1) mid i (length ops) ∙ omega arith) behind in
+      let behind = back g inner (test ⨾ one s NOT ⨾ jump_code) (length ops) (sized_stmts s m ts)
+      (held_grown g.program inner 0 (stmts_change ts s m checked.sound is.typed.0) a n (length ops) ∙ omega arith) is.code in
+      let third = back g test (one s NOT ⨾ jump_code) (suc (length ops)) (sized_expr s e)
+      (held_grown g.program test 1 (expr_changes s checked.sound e a_number is.typed.1) mid i (length ops) ∙ omega arith) behind in
       let fourth = tail g s (λ at k. NOT) jump_code (suc (length ops)) (omega arith) third in
       let fifth = tail g s (λ at k. JF (at + 1 + 1)) turn_code (length ops) (omega arith) fourth in
       let is_not = head g s (λ at k. NOT) jump_code third in
       let is_test = head g s (λ at k. JF (at + 1 + 1)) turn_code fourth in
       let back_to : right + 1 + 1 - count ≡ a = omega arith in
-      let turn_is : IsAt g (right + 1 + 1) (TURN a) p.line = subst (λ (z : ℕ). IsAt g (right + 1 + 1) (TURN z) p.line) back_to (lone g s (λ at k. TURN (at - count)) fifth) in
+      let turn_is : IsAt g (right + 1 + 1) (TURN a) p.line =
+      subst (λ (z : ℕ). IsAt g (right + 1 + 1) (TURN z) p.line) back_to (lone g s (λ at k. TURN (at - count)) fifth) in
       let same : a + (stmt_code (site line) m loop).size ≡ out = omega arith in
       let turning = turns (context env p.line) (again m loop k) in
       let either : from_until (context env p.line) m loop k go (ordinal v) ≡ (if is_true (inverse_of v) then turning else go) =
@@ -262,7 +288,8 @@ module _ (g : Setting) (b : Block) (names : List Level) (around : Around) (check
       subst (λ (y : Action). Follows g y right (v ∷ ops) []) (sym either)
       (next_move g [] few right (v ∷ ops) NOT p.line (inverse_of v ∷ ops) is_not (fits g [] NOT (v ∷ ops) (omega arith) tt tt) refl (room_for g fourth)
       (test_move g [] few (inverse_of v) turning go (right + 1) ops out p.line is_test (omega arith) (room_for g fifth)
-      (turns_follow line p.line m loop k (right + 1 + 1) a n ops turn_is is rest) (follows_moved g [] few (a + (stmt_code (site line) m loop).size) out same on)))
+      (turns_follow line p.line m loop k (right + 1 + 1) a n ops turn_is is rest)
+      (follows_moved g [] few (a + (stmt_code (site line) m loop).size) out same on)))
 
   pub repeat_follows : (ts : StmtTrees) (e : ExprTree) (p : Place) → StatementsFollow g b env ts → StatementFollows g b env (repeat_until ts e p)
   repeat_follows ts e p inner line m k go at n to ops is whole_end rest on =
@@ -277,8 +304,13 @@ module _ (g : Setting) (b : Block) (names : List Level) (around : Around) (check
       let i = n + length code.texts in
       let whole = moved to (at + size) ops k (sym whole_end) rest in
       let on_end = follows_moved g [] few to (at + size) (sym whole_end) on in
-      let behind = back g code (test ⨾ last) (length ops) (sized_stmts s m ts) (held_grown g.program code 0 (stmts_change ts s m checked.sound is.typed.0) at n (length ops) ∙ omega arith) is.code in
-      inner p.line m (until m ts e p k) (from_expr x e (until_true m ts e p k) (from_until x m loop k go)) at n mid ops (record { typed = is.typed.0; code = front g code (test ⨾ last) is.code }) refl
+      let behind = back g code (test ⨾ last) (length ops) (sized_stmts s m ts)
+      (held_grown g.program code 0 (stmts_change ts s m checked.sound is.typed.0) at n (length ops) ∙ omega arith) is.code in
+      inner p.line m (until m ts e p k) (from_expr x e (until_true m ts e p k) (from_until x m loop k go)) at n mid ops (record {
+        typed = is.typed.0;
+        code =
+            front g code (test ⨾ last) is.code;
+      }) refl
       ((own, refl), (mid, arrived mid, (line, at, refl, (n, is, whole))))
       (expression_follows g b x checked [] few e a_number is.typed.1 (until_true m ts e p k) (from_until x m loop k go) mid i ops (front g test last behind)
       ((own, refl), (refl, refl, line, at, refl, (n, is, whole)))
@@ -287,8 +319,10 @@ module _ (g : Setting) (b : Block) (names : List Level) (around : Around) (check
   -- the test of a `repeat`, behind its statements
   pub until_follows :
       (ts : StmtTrees) (e : ExprTree) (p : Place) (line m : ℕ) (k : Remainder) (go : Action) (at n : ℕ) (ops : List ℤ)
-      → StmtAt g (site line) at n (length ops) m (repeat_until ts e p) → left (at + (stmt_code (site line) m (repeat_until ts e p)).size) ops k → Follows g go (at + (stmt_code (site line) m (repeat_until ts e p)).size) ops []
-      → Follows g (from_expr (context env p.line) e (until_true m ts e p k) (from_until (context env p.line) m (repeat_until ts e p) k go)) (at + (stmts_code (site p.line) m ts).size) ops []
+      → StmtAt g (site line) at n (length ops) m (repeat_until ts e p) → left (at + (stmt_code (site line) m (repeat_until ts e p)).size) ops k →
+      Follows g go (at + (stmt_code (site line) m (repeat_until ts e p)).size) ops []
+      → Follows g (from_expr (context env p.line) e (until_true m ts e p k) (from_until (context env p.line) m (repeat_until ts e p) k go))
+      (at + (stmts_code (site p.line) m ts).size) ops []
   until_follows ts e p line m k go at n ops is rest on =
       let x : Context = record { env = env_in g names around; line = p.line } in
       let s = site p.line in
@@ -296,8 +330,10 @@ module _ (g : Setting) (b : Block) (names : List Level) (around : Around) (check
       let code = stmts_code s m ts in
       let test = expr_code s e in
       let last = one s NOT ⨾ over s JF 1 ⨾ to_back s TURN (code.size + test.size + 2) in
-      let behind = back g code (test ⨾ last) (length ops) (sized_stmts s m ts) (held_grown g.program code 0 (stmts_change ts s m checked.sound is.typed.0) at n (length ops) ∙ omega arith) is.code in
-      expression_follows g b x checked [] few e a_number is.typed.1 (until_true m ts e p k) (from_until x m loop k go) (at + code.size) (n + length code.texts) ops (front g test last behind)
+      let behind = back g code (test ⨾ last) (length ops) (sized_stmts s m ts)
+      (held_grown g.program code 0 (stmts_change ts s m checked.sound is.typed.0) at n (length ops) ∙ omega arith) is.code in
+      expression_follows g b x checked [] few e a_number is.typed.1 (until_true m ts e p k) (from_until x m loop k go) (at + code.size)
+      (n + length code.texts) ops (front g test last behind)
       ((own, refl), (refl, refl, line, at, refl, (n, is, rest)))
       (λ v simple. tested_follows ts e p line m k go at n ops v is rest on)
 
@@ -308,10 +344,15 @@ module _ (g : Setting) (b : Block) (names : List Level) (around : Around) (check
       let s = site line in
       let code = stmts_code s m ts in
       let mid = at + code.size in
-      let joining = back g code (one (at_line s last.line) COEND) (length ops) (sized_stmts s m ts) (held_grown g.program code 0 (stmts_change ts s m checked.sound is.typed) at n (length ops) ∙ omega arith) is.code in
+      let joining = back g code (one (at_line s last.line) COEND) (length ops) (sized_stmts s m ts)
+      (held_grown g.program code 0 (stmts_change ts s m checked.sound is.typed) at n (length ops) ∙ omega arith) is.code in
       let coend_is = lone g (at_line s last.line) (λ at n. COEND) joining in
       let after = moved to (mid + 1) ops k (sym whole_end ∙ omega arith) rest in
-      inner line m (at_coend last.line k) (joins (context env last.line) k) at n mid ops (record { typed = is.typed; code = front g code (one (at_line s last.line) COEND) is.code }) refl
+      inner line m (at_coend last.line k) (joins (context env last.line) k) at n mid ops (record {
+        typed = is.typed;
+        code =
+            front g code (one (at_line s last.line) COEND) is.code;
+      }) refl
       ((own, refl), (mid, arrived mid, (coend_is, after)))
       (arrives mid ops [] (b, checked, ((own, refl), (coend_is, after))))
 

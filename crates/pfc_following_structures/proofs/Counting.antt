@@ -65,7 +65,8 @@ module _ (g : Setting) (b : Block) (names : List Level) (around : Around) (check
 
   pub first_pass :
       (f : Count) (k : Remainder) (at n : ℕ) (ops below : List ℤ)
-      → HoldsCount g (site f.line) f ops below → HasPass g (site f.line) f at n (length ops) → left (at + 1 + inside f + 1) below k → Follows g (begin_pass (context env f.line) f k) at ops []
+      → HoldsCount g (site f.line) f ops below → HasPass g (site f.line) f at n (length ops) → left (at + 1 + inside f + 1) below k →
+      Follows g (begin_pass (context env f.line) f k) at ops []
   first_pass f k at n ops below holds pass rest =
       let q = at + 1 + inside f in
       let behind : left q ops (behind_pass f k) = ((own, refl), (q, arrived q, (at, n, below, holds, pass, refl, rest))) in
@@ -86,7 +87,8 @@ module _ (g : Setting) (b : Block) (names : List Level) (around : Around) (check
       → Follows g go (a + 1 + inside f + 1) below [] → Follows g (from_pass (context env f.line) f k go) (a + 1 + inside f) ops []
   behind_follows f k go a n ops below holds pass rest on = by (int_eq f.kept f.last) refl
     where
-      by : (r : Bool) → int_eq f.kept f.last ≡ r → Follows g (if r then go else turns (context env f.line) (next_pass (next_count f) k)) (a + 1 + inside f) ops []
+      by : (r : Bool) → int_eq f.kept f.last ≡ r →
+          Follows g (if r then go else turns (context env f.line) (next_pass (next_count f) k)) (a + 1 + inside f) ops []
       by true e =
           let d = direction f.down in
           let at = a + 1 + inside f in
@@ -94,7 +96,9 @@ module _ (g : Setting) (b : Block) (names : List Level) (around : Around) (check
           let before : is_before d f.kept f.last ≡ false = before_or_last f.down f.kept f.last holds.within ∙ ap not e in
           let room : length below ≤ g.room = (let all = room_for g pass.inner.code in omega arith) in
           next_move g [] few at ops (FORT d a) f.line below pass.back (fits g [] (FORT d a) ops (omega arith) tt tt)
-          (ap (λ (y : List ℤ). effect_of g (FORT d a) at y []) holds.held ∙ ap (λ (r : Bool). of_own_effect (if r then action a (f.last ∷ value_behind d f.kept ∷ holds.w ∷ below) else quiet (at + 1) below) []) before) room on
+          (ap (λ (y : List ℤ). effect_of g (FORT d a) at y []) holds.held ∙
+          ap (λ (r : Bool). of_own_effect (if r then
+          action a (f.last ∷ value_behind d f.kept ∷ holds.w ∷ below) else quiet (at + 1) below) []) before) room on
       by false e =
           let d = direction f.down in
           let at = a + 1 + inside f in
@@ -107,7 +111,8 @@ module _ (g : Setting) (b : Block) (names : List Level) (around : Around) (check
             within = next_is_within f.down f.kept f.last before;
           } in
           let same : length ops ≡ length left_over = ap (λ (y : List ℤ). length y) holds.held in
-          let inner : StmtAt g (site f.line) (a + 1) n (length left_over) f.next f.pass = subst (λ (y : ℕ). StmtAt g (site f.line) (a + 1) n y f.next f.pass) same pass.inner in
+          let inner : StmtAt g (site f.line) (a + 1) n (length left_over) f.next f.pass =
+          subst (λ (y : ℕ). StmtAt g (site f.line) (a + 1) n y f.next f.pass) same pass.inner in
           let again_pass : HasPass g (site f.line) (next_count f) a n (length left_over) = record { write = pass.write; inner = inner; back = pass.back } in
           arrives at ops [] (
             b,
@@ -132,7 +137,8 @@ module _ (g : Setting) (b : Block) (names : List Level) (around : Around) (check
       let turn = to_back s (λ to. FORT d to) (inner.size + 1) in
       let second = tail g s (λ at k. FORB d (at + 1 + (inner.size + 2))) (one s FORW ⨾ inner ⨾ turn) held (omega arith) st in
       let third = tail g s (λ at k. FORW) (inner ⨾ turn) held (omega arith) second in
-      let fourth = back g inner turn held (sized_stmt s f.next f.pass) (held_grown g.program inner 0 (stmt_changes f.pass s f.next checked.sound typed) (at + 1 + 1) (n + 0 + 0) held ∙ omega arith) third in
+      let fourth = back g inner turn held (sized_stmt s f.next f.pass) (held_grown g.program inner 0 (stmt_changes f.pass s f.next checked.sound typed)
+      (at + 1 + 1) (n + 0 + 0) held ∙ omega arith) third in
       let back_to : at + 1 + 1 + inner.size - (inner.size + 1) ≡ at + 1 = omega arith in (
         head g s (λ at k. FORB d (at + 1 + (inner.size + 2))) (one s FORW ⨾ inner ⨾ turn) st,
         (
@@ -148,7 +154,8 @@ module _ (g : Setting) (b : Block) (names : List Level) (around : Around) (check
   -- both bounds are held
   pub bounds_follow :
       (f : Count) (k : Remainder) (go : Action) (w : ℤ) (at n to : ℕ) (ops : List ℤ)
-      → IsSimpleWord g.view (site f.line) f.at w → IsTyped (site f.line) f.next f.pass → Stands g at n (suc (suc (suc (length ops)))) (pass_code (site f.line) f.down f.next f.pass)
+      → IsSimpleWord g.view (site f.line) f.at w → IsTyped (site f.line) f.next f.pass →
+      Stands g at n (suc (suc (suc (length ops)))) (pass_code (site f.line) f.down f.next f.pass)
       → at + (pass_code (site f.line) f.down f.next f.pass).size ≡ to → left to ops k → Follows g go to ops []
       → Follows g (from_bounds (context env f.line) f k go) at (f.last ∷ f.kept ∷ w ∷ ops) []
   bounds_follow f k go w at n to ops lies typed st whole_end rest on = by (is_past f.down f.kept f.last) refl
@@ -162,7 +169,8 @@ module _ (g : Setting) (b : Block) (names : List Level) (around : Around) (check
           let room : length ops ≤ g.room = (let most = room_for g st in omega arith) in
           let ended : to ≡ end = omega arith in
           move g [] few at all (FORB d end) f.line end ops parts.0 (fits g [] (FORB d end) all (omega arith) tt tt)
-          (ap (λ (r : Bool). of_own_effect (if r then quiet end ops else quiet (at + 1) all) []) (past_alike f.down f.kept f.last ∙ past)) (omega arith) room (follows_moved g [] few to end ended on)
+          (ap (λ (r : Bool). of_own_effect (if r then quiet end ops else quiet (at + 1) all) []) (past_alike f.down f.kept f.last ∙ past)) (omega arith) room
+          (follows_moved g [] few to end ended on)
       by false past =
           let d = direction f.down in
           let end = at + 1 + (inside f + 2) in
@@ -178,9 +186,11 @@ module _ (g : Setting) (b : Block) (names : List Level) (around : Around) (check
   pub second_follows :
       (line m : ℕ) (v : Spot) (kept w : ℤ) (down : Bool) (e : ExprTree) (t : StmtTree) (k : Remainder) (go : Action) (at n to : ℕ) (ops : List ℤ)
       → IsSimpleWord g.view (site line) v w → HasShape (site line) e a_number → IsTyped (site line) m t
-      → Stands g at n (suc (suc (length ops))) (expr_code (site line) e ⨾ pass_code (site line) down m t) → at + (expr_code (site line) e ⨾ pass_code (site line) down m t).size ≡ to
+      → Stands g at n (suc (suc (length ops))) (expr_code (site line) e ⨾ pass_code (site line) down m t) →
+      at + (expr_code (site line) e ⨾ pass_code (site line) down m t).size ≡ to
       → left to ops k → Follows g go to ops []
-      → Follows g (from_expr (context env line) e (count_to m v kept down t k) (λ last. from_bounds (context env line) (counting (context env line) m v (ordinal kept) last down t) k go)) at (kept ∷ w ∷ ops) []
+      → Follows g (from_expr (context env line) e (count_to m v kept down t k)
+      (λ last. from_bounds (context env line) (counting (context env line) m v (ordinal kept) last down t) k go)) at (kept ∷ w ∷ ops) []
   second_follows line m v kept w down e t k go at n to ops lies num typed st whole_end rest on =
       let s = site line in
       let x : Context = record { env = env_in g names around; line = line } in
@@ -188,13 +198,16 @@ module _ (g : Setting) (b : Block) (names : List Level) (around : Around) (check
       let pass = pass_code s down m t in
       let mid = at + code.size in
       let i = n + length code.texts in
-      let behind = back g code pass (suc (suc (suc (length ops)))) (sized_expr s e) (held_grown g.program code 1 (expr_changes s checked.sound e a_number num) at n (suc (suc (length ops))) ∙ omega arith) st in
+      let behind = back g code pass (suc (suc (suc (length ops)))) (sized_expr s e)
+      (held_grown g.program code 1 (expr_changes s checked.sound e a_number num) at n (suc (suc (length ops))) ∙ omega arith) st in
       let end : mid + pass.size ≡ to = omega arith in
-      expression_follows g b x checked [] few e a_number num (count_to m v kept down t k) (λ last. from_bounds x (counting x m v (ordinal kept) last down t) k go) at n (kept ∷ w ∷ ops) (front g code pass st)
+      expression_follows g b x checked [] few e a_number num (count_to m v kept down t k)
+      (λ last. from_bounds x (counting x m v (ordinal kept) last down t) k go) at n (kept ∷ w ∷ ops) (front g code pass st)
       ((own, refl), (refl, w, ops, refl, lies, typed, i, behind, moved to (mid + pass.size) ops k (sym end) rest))
       (λ last simple. bounds_follow (counting x m v (ordinal kept) (ordinal last) down t) k go w mid i to ops lies typed behind end rest on)
 
-  pub for_follows : (y : Text) (from : ExprTree) (down : Bool) (last : ExprTree) (t : StmtTree) (p q : Place) → StatementFollows g b env (for_do y from down last t p q)
+  pub for_follows : (y : Text) (from : ExprTree) (down : Bool) (last : ExprTree) (t : StmtTree) (p q : Place) →
+      StatementFollows g b env (for_do y from down last t p q)
   for_follows y from down last t p q line m k go at n to ops is whole_end rest on =
       let s = site p.line in
       let x : Context = record { env = env_in g names around; line = p.line } in
@@ -207,11 +220,14 @@ module _ (g : Setting) (b : Block) (names : List Level) (around : Around) (check
       let i = n + length base.texts in
       let j = i + length lower.texts in
       let lies : IsSimpleWord g.view s v.spot w = (is.typed.0.0, is.typed.0.1, whole_part g b names around checked p.line [] few v is.typed.0.2) in
-      let behind = back g base (lower ⨾ others) (suc (length ops)) (sized_base s v.spot) (held_grown g.program base 1 (base_changes g.program s v.spot) at n (length ops) ∙ omega arith) is.code in
-      let third = back g lower others (suc (suc (length ops))) (sized_expr s from) (held_grown g.program lower 1 (expr_changes s checked.sound from a_number is.typed.1) (at + 1) i (suc (length ops)) ∙ omega arith) behind in
+      let behind = back g base (lower ⨾ others) (suc (length ops)) (sized_base s v.spot)
+      (held_grown g.program base 1 (base_changes g.program s v.spot) at n (length ops) ∙ omega arith) is.code in
+      let third = back g lower others (suc (suc (length ops))) (sized_expr s from)
+      (held_grown g.program lower 1 (expr_changes s checked.sound from a_number is.typed.1) (at + 1) i (suc (length ops)) ∙ omega arith) behind in
       let end : mid + others.size ≡ to = omega arith in
       base_follows g b names around checked p.line [] few v at n ops is.typed.0.2 (front g base (lower ⨾ others) is.code)
       (expression_follows g b x checked [] few from a_number is.typed.1 (count_from m v.spot down last t k)
-      (λ kept. from_expr x last (count_to m v.spot (ordinal_of kept) down t k) (λ most. from_bounds x (counting x m v.spot kept most down t) k go)) (at + 1) i (w ∷ ops) (front g lower others behind)
+      (λ kept. from_expr x last (count_to m v.spot (ordinal_of kept) down t k) (λ most. from_bounds x (counting x m v.spot kept most down t) k go)) (at + 1) i
+      (w ∷ ops) (front g lower others behind)
       ((own, refl), (refl, w, ops, refl, lies, is.typed.2, is.typed.3, j, third, moved to (mid + others.size) ops k (sym end) rest))
       (λ kept simple. second_follows p.line m v.spot kept w down last t k go mid j to ops lies is.typed.2 is.typed.3 third end rest on))

@@ -55,7 +55,8 @@ module _ (g : Setting) (b : Block) (few : 0 ≤ g.arms) where
       turn : ℕ
       turn = tries.attempt.turn
 
-      by : (r : Bool) → is_true v ≡ r → Follows g (if r then passes x w scan k else scans (context x.env scan.line) (record scan { after = Some w.ticket }) k) at (v ∷ ops) []
+      by : (r : Bool) → is_true v ≡ r →
+          Follows g (if r then passes x w scan k else scans (context x.env scan.line) (record scan { after = Some w.ticket }) k) at (v ∷ ops) []
       by true e = arrives at (v ∷ ops) [] (b, known, (refl, (v, ops, tries, refl, e, is, way)))
       by false e =
           move g [] few at (v ∷ ops) (GRD scan.resource) x.line turn ops is (fits g [] (GRD scan.resource) (v ∷ ops) (omega arith) tt tt)
@@ -74,11 +75,13 @@ module _ (g : Setting) (b : Block) (few : 0 ≤ g.arms) where
       let known = h.0 in
       let n = h.2 in
       let mid = at + test.size in
-      let last = back g test (one s (GRD bar.resource)) (suc (length ops)) (sized_expr s bar.test) (held_grown g.program test 1 (expr_changes s known.sound bar.test a_number h.1) at n (length ops) ∙ omega arith) h.3 in
+      let last = back g test (one s (GRD bar.resource)) (suc (length ops)) (sized_expr s bar.test)
+      (held_grown g.program test 1 (expr_changes s known.sound bar.test a_number h.1) at n (length ops) ∙ omega arith) h.3 in
       let is = lone g s (λ at n. GRD bar.resource) last in
       let end : at + (test.size + 1) ≡ mid + 1 = omega arith in
       let rest : PerformsAnywhere g b (mid + 1) ops k = (λ (e : Env). subst (λ (y : ℕ). IsCheckedFor g b e k × Performs g b e y ops [] k) end (h.4 e)) in
-      expression_follows g b x known [] few bar.test a_number h.1 (pass_own bar k) (λ v. if is_true (ordinal_of v) then from_remainder env k else bars bar.context bar k) at n ops (front g test (one s (GRD bar.resource)) h.3)
+      expression_follows g b x known [] few bar.test a_number h.1 (pass_own bar k) (λ v. if is_true (ordinal_of v) then
+      from_remainder env k else bars bar.context bar k) at n ops (front g test (one s (GRD bar.resource)) h.3)
       ((own, refl), (refl, mine, is, rest))
       (λ v simple. tested x bar k (from_remainder env k) v mid ops known own mine is (room_for g h.3) rest (on (mid + 1) (rest env).0 (rest env).1))
 
@@ -95,10 +98,12 @@ module _ (g : Setting) (b : Block) (few : 0 ≤ g.arms) where
       let known = h.0 in
       let n = h.2 in
       let mid = at + test.size in
-      let last = back g test (one s (GRD bar.resource)) (suc (length ops)) (sized_expr s bar.test) (held_grown g.program test 1 (expr_changes s known.sound bar.test a_number h.1) at n (length ops) ∙ omega arith) h.3 in
+      let last = back g test (one s (GRD bar.resource)) (suc (length ops)) (sized_expr s bar.test)
+      (held_grown g.program test 1 (expr_changes s known.sound bar.test a_number h.1) at n (length ops) ∙ omega arith) h.3 in
       let is : IsAt g mid (GRD scan.resource) x.line = subst (λ (r : ℕ). IsAt g mid (GRD r) x.line) same (lone g s (λ at n. GRD bar.resource) last) in
       let below : at + (test.size + 1) ≤ tries.attempt.turn = h.4 in
       let up : mid < tries.attempt.turn = omega (arith, below) in
-      expression_follows g b x known [] few bar.test a_number h.1 (pass_other w scan k) (from_other x w scan k) at n ops (front g test (one s (GRD bar.resource)) h.3)
+      expression_follows g b x known [] few bar.test a_number h.1 (pass_other w scan k) (from_other x w scan k) at n ops
+      (front g test (one s (GRD bar.resource)) h.3)
       (refl, (refl, tries, up, is, way))
       (λ v simple. tried x w scan k v mid ops known tries up is (room_for g h.3) way)

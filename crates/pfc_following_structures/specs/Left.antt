@@ -27,7 +27,8 @@ UntilFollows g b env =
     → StmtAt g (site_of g b (context env line)) at n (length ops) m (repeat_until ts e p)
     → Performs g b env (at + (stmt_code (site_of g b (context env line)) m (repeat_until ts e p)).size) ops [] k
     → Follows g go (at + (stmt_code (site_of g b (context env line)) m (repeat_until ts e p)).size) ops []
-    → Follows g (from_expr (context env p.line) e (until_true m ts e p k) (from_until (context env p.line) m (repeat_until ts e p) k go)) (at + (stmts_code (site_of g b (context env p.line)) m ts).size) ops []
+    → Follows g (from_expr (context env p.line) e (until_true m ts e p k) (from_until (context env p.line) m (repeat_until ts e p) k go))
+    (at + (stmts_code (site_of g b (context env p.line)) m ts).size) ops []
 
 -- the next pass of a `for`, whose operands are held
 abbrev pub PassFollows : Setting → Block → Env → Type 0

@@ -74,7 +74,8 @@ CaseFollows g b env =
 abbrev pub ArmListFollows : Setting → Block → Env → Type 0
 ArmListFollows g b env =
     IsChecked g b env → g.trial ≡ of_own → ArmsFollow g b env no_arms
-    × ((ls : List Constant) (t : StmtTree) (arms : ArmTrees) → StatementFollows g b env t → ArmsFollow g b env arms → ArmsFollow g b env (more_arms (arm ls t) arms))
+    × ((ls : List Constant) (t : StmtTree) (arms : ArmTrees) → StatementFollows g b env t → ArmsFollow g b env arms →
+    ArmsFollow g b env (more_arms (arm ls t) arms))
 
 abbrev pub WhileFollows : Setting → Block → Env → Type 0
 WhileFollows g b env =

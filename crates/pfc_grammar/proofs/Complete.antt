@@ -33,7 +33,8 @@ unfolding over
 over-append n [] b = refl
 over-append n (d ∷ a) b = at (nat_le d n) (over-append n a b)
   where
-    at : (t : Bool) → over n (a ++ b) ≡ over_then (over n a) (over n b) (length b) → over_at t (suc (length (a ++ b))) (over n (a ++ b)) ≡ over_then (over_at t (suc (length a)) (over n a)) (over n b) (length b)
+    at : (t : Bool) → over n (a ++ b) ≡ over_then (over n a) (over n b) (length b) →
+        over_at t (suc (length (a ++ b))) (over n (a ++ b)) ≡ over_then (over_at t (suc (length a)) (over n a)) (over n b) (length b)
     at true h = h
     at false h = ap suc (length-append a b) ∙ omega arith
 
@@ -46,7 +47,8 @@ unfolding over
 over-up n [] = refl
 over-up n (d ∷ m) = ap (λ t. over_at t (suc (length (map suc m))) (over (suc n) (map suc m))) (leb-suc-suc d n) ∙ at (nat_le d n) (over-up n m)
   where
-    at : (t : Bool) → over (suc n) (map suc m) ≡ over n m → over_at t (suc (length (map suc m))) (over (suc n) (map suc m)) ≡ over_at t (suc (length m)) (over n m)
+    at : (t : Bool) → over (suc n) (map suc m) ≡ over n m →
+        over_at t (suc (length (map suc m))) (over (suc n) (map suc m)) ≡ over_at t (suc (length m)) (over n m)
     at true h = h
     at false h = ap suc (length-map m suc)
 
@@ -75,7 +77,8 @@ abbrev pub Any : List Symbol → Type 0
 Any ss = Unit {0}
 
 -- reading on after an outcome that is known
-pub after : {A B : Type 0} (n : ℕ) (ma m : List ℕ) (x : A) (l rest : List Symbol) (g : A → Reader B) (v : B) → g x l ≡ limited n m v rest → length l ≡ length m + length rest →
+pub after : {A B : Type 0} (n : ℕ) (ma m : List ℕ) (x : A) (l rest : List Symbol) (g : A → Reader B) (v : B) →
+    g x l ≡ limited n m v rest → length l ≡ length m + length rest →
     then_read (limited n ma x l) g ≡ limited n (ma ++ m) v rest
 after n ma m x l rest g v e k = at (over n ma) ∙ ap (λ z. limited_at z v rest) (sym (over-append n ma m))
   where
@@ -88,12 +91,15 @@ unfolding pure over
 complete_pure = record { same = refl; reads = λ rest c. refl }
 
 -- the same reading where less may follow
-pub complete_less : {A : Type 0} {n : ℕ} {k : Reader A} {toks : List Symbol} {m : List ℕ} {v : A} {C C' : List Symbol → Type 0} → ((rest : List Symbol) → C' rest → C rest) → Complete n k toks m v C → Complete n k toks m v C'
+pub complete_less : {A : Type 0} {n : ℕ} {k : Reader A} {toks : List Symbol} {m : List ℕ} {v : A} {C C' : List Symbol → Type 0} →
+    ((rest : List Symbol) → C' rest → C rest) → Complete n k toks m v C → Complete n k toks m v C'
 complete_less h c = record { same = c.same; reads = λ rest c'. c.reads rest (h rest c') }
 
 -- one reader after the other
-pub complete_bind : {A B : Type 0} {n : ℕ} {r : Reader A} (g : A → Reader B) {ta toks : List Symbol} {ma m : List ℕ} {x : A} {v : B} {C' C : List Symbol → Type 0} →
-    Complete n r ta ma x C' → ((rest : List Symbol) → C rest → C' (toks ++ rest)) → Complete n (g x) toks m v C → Complete n (bind r g) (ta ++ toks) (ma ++ m) v C
+pub complete_bind : {A B : Type 0} {n : ℕ} {r : Reader A} (g : A → Reader B) {ta toks : List Symbol} {ma m : List ℕ} {x : A}
+    {v : B} {C' C : List Symbol → Type 0} →
+    Complete n r ta ma x C' → ((rest : List Symbol) → C rest → C' (toks ++ rest)) → Complete n (g x) toks m v C →
+    Complete n (bind r g) (ta ++ toks) (ma ++ m) v C
 unfolding bind
 complete_bind {n = n} {r = r} g {ta = ta} {toks = toks} {ma = ma} {m = m} {x = x} {v = v} h f k = record {
   same = length-append ta toks ∙ ap (λ z. z + length toks) h.same ∙ ap (λ z. length ma + z) k.same ∙ sym (length-append ma m);
@@ -105,14 +111,16 @@ complete_bind {n = n} {r = r} g {ta = ta} {toks = toks} {ma = ma} {m = m} {x = x
 pub complete_last : {A B : Type 0} {n : ℕ} {r : Reader A} (h : A → B) {ta : List Symbol} {ma : List ℕ} {x : A} {C' C : List Symbol → Type 0} →
     Complete n r ta ma x C' → ((rest : List Symbol) → C rest → C' rest) → Complete n (bind r (λ y. pure (h y))) ta ma (h x) C
 unfolding bind pure
-complete_last {n = n} {r = r} h {ma = ma} {x = x} c f = record { same = c.same; reads = λ rest k. ap (λ z. then_read z (λ y. pure (h y))) (c.reads rest (f rest k)) ∙ at rest (over n ma) }
+complete_last {n = n} {r = r} h {ma = ma} {x = x} c f =
+    record { same = c.same; reads = λ rest k. ap (λ z. then_read z (λ y. pure (h y))) (c.reads rest (f rest k)) ∙ at rest (over n ma) }
   where
     at : (rest : List Symbol) (t : ℕ) → then_read (limited_at t x rest) (λ y. pure (h y)) ≡ limited_at t (h x) rest
     at rest zero = refl
     at rest (suc t) = refl
 
 -- a symbol that is taken
-pub complete_take : {O B : Type 0} {n : ℕ} (f : Symbol → Option O) (g : O → Reader B) (r : Reader B) {s : Symbol} (o : O) {toks : List Symbol} {m : List ℕ} {v : B} {C : List Symbol → Type 0} →
+pub complete_take : {O B : Type 0} {n : ℕ} (f : Symbol → Option O) (g : O → Reader B) (r : Reader B) {s : Symbol} (o : O) {toks : List Symbol}
+    {m : List ℕ} {v : B} {C : List Symbol → Type 0} →
     f s ≡ Some o → Complete n (g o) toks m v C → Complete n (branch f g r) (s ∷ toks) (0 ∷ m) v C
 unfolding branch
 complete_take {n = n} f g r {s = s} o {toks = toks} {m = m} {v = v} e h = record {
@@ -121,7 +129,8 @@ complete_take {n = n} f g r {s = s} o {toks = toks} {m = m} {v = v} e h = record
 }
 
 -- a symbol that is not taken
-pub complete_skip : {O B : Type 0} {n : ℕ} (f : Symbol → Option O) (g : O → Reader B) {r : Reader B} {toks : List Symbol} {m : List ℕ} {v : B} {C : List Symbol → Type 0} →
+pub complete_skip : {O B : Type 0} {n : ℕ} (f : Symbol → Option O) (g : O → Reader B) {r : Reader B} {toks : List Symbol}
+    {m : List ℕ} {v : B} {C : List Symbol → Type 0} →
     ((rest : List Symbol) → C rest → Skips f (toks ++ rest)) → Complete n r toks m v C → Complete n (branch f g r) toks m v C
 unfolding branch
 complete_skip f g {r = r} {toks = toks} skips h = record { same = h.same; reads = λ rest c. at (toks ++ rest) (skips rest c) ∙ h.reads rest c }
@@ -130,7 +139,8 @@ complete_skip f g {r = r} {toks = toks} skips h = record { same = h.same; reads 
     at [] e = refl
     at (s ∷ ss) e = ap (λ z. branch_at z g r s ss) e
 
-pub complete_pass : {B : Type 0} {n : ℕ} (p : Symbol → Bool) (g : Reader B) {r : Reader B} {toks : List Symbol} {m : List ℕ} {v : B} {C : List Symbol → Type 0} →
+pub complete_pass : {B : Type 0} {n : ℕ} (p : Symbol → Bool) (g : Reader B) {r : Reader B} {toks : List Symbol}
+    {m : List ℕ} {v : B} {C : List Symbol → Type 0} →
     ((rest : List Symbol) → C rest → Lacks p (toks ++ rest)) → Complete n r toks m v C → Complete n (choose p g r) toks m v C
 unfolding choose
 complete_pass p g {r = r} {toks = toks} lacks h = record { same = h.same; reads = λ rest c. at (toks ++ rest) (lacks rest c) ∙ h.reads rest c }
@@ -144,13 +154,19 @@ unfolding take_as
 complete_symbol f {o = o} e = complete_take f pure stop o e complete_pure
 
 -- one symbol, and then the rest
-pub complete_next : {O B : Type 0} {n : ℕ} (f : Symbol → Option O) (g : O → Reader B) {s : Symbol} (o : O) {toks : List Symbol} {m : List ℕ} {v : B} {C : List Symbol → Type 0} →
+pub complete_next : {O B : Type 0} {n : ℕ} (f : Symbol → Option O) (g : O → Reader B) {s : Symbol} (o : O) {toks : List Symbol}
+    {m : List ℕ} {v : B} {C : List Symbol → Type 0} →
     f s ≡ Some o → Complete n (g o) toks m v C → Complete n (bind (take_as f) g) (s ∷ toks) (0 ∷ m) v C
 complete_next f g {s = s} o e h = complete_bind g {ta = s ∷ []} {ma = 0 ∷ []} (complete_symbol f e) (λ rest c. tt) h
 
 -- one level deeper
-pub complete_up : {A : Type 0} {n : ℕ} {k : Reader A} {toks : List Symbol} {m : List ℕ} {v : A} {C : List Symbol → Type 0} → Complete n k toks m v C → Complete (suc n) k toks (map suc m) v C
-complete_up {n = n} {m = m} {v = v} h = record { same = h.same ∙ sym (length-map m suc); reads = λ rest c. h.reads rest c ∙ ap (λ z. limited_at z v rest) (sym (over-up n m)) }
+pub complete_up : {A : Type 0} {n : ℕ} {k : Reader A} {toks : List Symbol} {m : List ℕ} {v : A} {C : List Symbol → Type 0} → Complete n k toks m v C →
+    Complete (suc n) k toks (map suc m) v C
+complete_up {n = n} {m = m} {v = v} h = record {
+  same = h.same ∙ sym (length-map m suc);
+  reads = λ rest c. h.reads rest c ∙
+      ap (λ z. limited_at z v rest) (sym (over-up n m));
+}
 
 -- where no level is left, a first symbol halts
 pub complete_deep : {A : Type 0} (p : Symbol → Bool) (r : Reader A) {s : Symbol} {toks : List Symbol} (d : ℕ) (m : List ℕ) {v : A} {C : List Symbol → Type 0} →
@@ -159,16 +175,19 @@ unfolding choose stop_deep over
 complete_deep p r {s = s} {toks = toks} d m {v = v} e k = record {
   same = ap suc (k ∙ sym (length-map m suc));
   reads = λ rest c. ap (λ z. choose_at z stop_deep r (s ∷ (toks ++ rest))) e
-      ∙ (let count : suc (length (toks ++ rest)) ≡ suc (length (map suc m)) + length rest = omega (arith, length-append toks rest, k, length-map m suc) in ap (λ z. Err (deep z)) count)
+      ∙ (let count : suc (length (toks ++ rest)) ≡ suc (length (map suc m)) + length rest =
+      omega (arith, length-append toks rest, k, length-map m suc) in ap (λ z. Err (deep z)) count)
       ∙ ap (λ z. limited_at (over_at z (suc (length (map suc m))) (over 0 (map suc m))) v rest) (sym (leb-suc-zero d));
 }
 
 -- the same reading, said of equal symbols, marks and values
-pub complete_same : {A : Type 0} {n : ℕ} {k : Reader A} {toks toks' : List Symbol} {m m' : List ℕ} {v v' : A} {C : List Symbol → Type 0} → toks' ≡ toks → m' ≡ m → v' ≡ v → Complete n k toks' m' v' C → Complete n k toks m v C
+pub complete_same : {A : Type 0} {n : ℕ} {k : Reader A} {toks toks' : List Symbol} {m m' : List ℕ} {v v' : A} {C : List Symbol → Type 0} → toks' ≡ toks →
+    m' ≡ m → v' ≡ v → Complete n k toks' m' v' C → Complete n k toks m v C
 complete_same {A = A} {n = n} {k = k} {toks' = toks'} {m = m} {m' = m'} {v = v} {v' = v'} {C = C} et em ev h =
     subst (λ z. Complete n k z m v C) et (subst (λ z. Complete n k toks' z v C) em (subst (λ z. Complete n k toks' m' z C) ev h))
 
-pub complete_value : {A : Type 0} {n : ℕ} {k : Reader A} {toks : List Symbol} {m : List ℕ} {v v' : A} {C : List Symbol → Type 0} → v' ≡ v → Complete n k toks m v' C → Complete n k toks m v C
+pub complete_value : {A : Type 0} {n : ℕ} {k : Reader A} {toks : List Symbol} {m : List ℕ} {v v' : A} {C : List Symbol → Type 0} → v' ≡ v →
+    Complete n k toks m v' C → Complete n k toks m v C
 complete_value ev h = complete_same refl refl ev h
 
 -- Sets of symbols that do not follow.
@@ -180,6 +199,7 @@ untaken_none : {O : Type 0} (c : Option O) → takes c ≡ false → c ≡ None
 untaken_none (Some o) e = absurd (let e' : true ≡ false = e in cc)
 untaken_none None e = refl
 
-pub skips : {O : Type 0} (f : Symbol → Option O) (p : Symbol → Bool) → ((s : Symbol) → p s ≡ false → takes (f s) ≡ false) → (rest : List Symbol) → Lacks p rest → Skips f rest
+pub skips : {O : Type 0} (f : Symbol → Option O) (p : Symbol → Bool) → ((s : Symbol) → p s ≡ false → takes (f s) ≡ false) →
+    (rest : List Symbol) → Lacks p rest → Skips f rest
 skips f p h [] l = tt
 skips f p h (s ∷ rest) l = untaken_none (f s) (h s l)

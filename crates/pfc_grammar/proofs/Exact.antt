@@ -93,7 +93,15 @@ pub record FirstOver (n : ℕ) (m : List ℕ) (k : ℕ) : Type 0 where
   pub below : Each (λ d. d ≤ n) front
 
 one_more : (n d : ℕ) (m : List ℕ) (k : ℕ) → d ≤ n → FirstOver n m k → FirstOver n (d ∷ m) k
-one_more n d m k h w = record { front = d ∷ w.front; mark = w.mark; back = w.back; splits = ap (λ z. d ∷ z) w.splits; count = w.count; above = w.above; below = (h, w.below) }
+one_more n d m k h w = record {
+  front = d ∷ w.front;
+  mark = w.mark;
+  back = w.back;
+  splits = ap (λ z. d ∷ z) w.splits;
+  count = w.count;
+  above = w.above;
+  below = (h, w.below);
+}
 
 first_over : (n : ℕ) (m : List ℕ) (k : ℕ) → over n m ≡ suc k → FirstOver n m k
 unfolding over
@@ -102,7 +110,16 @@ first_over n (d ∷ m) k e = at (nat_le d n) refl e (first_over n m k)
   where
     at : (b : Bool) → nat_le d n ≡ b → over_at b (suc (length m)) (over n m) ≡ suc k → (over n m ≡ suc k → FirstOver n m k) → FirstOver n (d ∷ m) k
     at true h q r = one_more n d m k (leb-true d n h) (r q)
-    at false h q r = record { front = []; mark = d; back = m; splits = refl; count = (let q' : suc (length m) ≡ suc k = q in omega arith); above = leb-false d n h; below = tt }
+    at false h q r = record {
+      front = [];
+      mark = d;
+      back = m;
+      splits = refl;
+      count =
+          (let q' : suc (length m) ≡ suc k = q in omega arith);
+      above = leb-false d n h;
+      below = tt;
+    }
 
 none_over : (n : ℕ) (m : List ℕ) → over n m ≡ 0 → Each (λ d. d ≤ n) m
 unfolding over
@@ -136,7 +153,8 @@ mark_before : (n : ℕ) (m : List ℕ) (k : ℕ) (f : FirstOver n m k) (j : ℕ)
 mark_before n m k f j h = subst (λ z. get_or z j 0 ≤ n) (sym f.splits) (mark_below n f.front (f.mark ∷ f.back) j f.below h)
 
 mark_at : (n : ℕ) (m : List ℕ) (k : ℕ) (f : FirstOver n m k) (i : ℕ) → length f.front ≡ i → n < get_or m i 0
-mark_at n m k f i e = subst (λ z. n < z) (sym (ap (λ z. get_or z i 0) f.splits ∙ ap (λ z. get_or (f.front ++ (f.mark ∷ f.back)) z 0) (sym e) ∙ get_or-append_seam f.front f.mark f.back 0)) f.above
+mark_at n m k f i e = subst (λ z. n < z) (sym (ap (λ z. get_or z i 0) f.splits ∙ ap (λ z. get_or (f.front ++ (f.mark ∷ f.back)) z 0) (sym e) ∙
+    get_or-append_seam f.front f.mark f.back 0)) f.above
 
 le_or_lt : (a b : ℕ) → (a ≤ b) ⊎ (b < a)
 le_or_lt a b = grind arith
@@ -193,12 +211,19 @@ never_bad n t k l e = at (over n (depths_of t)) (sym (whole_reads n t l) ∙ e)
 
 -- a program that is read is lawful, writes the kinds, and has no token that is too deep
 pub whole_sound : (n : ℕ) (ss : List Symbol) (t : ProgramShape) (rest : List Symbol) → whole_at n ss ≡ Ok (t, rest) → IsRead n ss t
-whole_sound n ss t rest e = made (subst (λ o. When o (Took tokens_of IsLawful free here ss) (Halts tokens_of IsLawful here ss)) e ((sound_whole_at n).reads ss (apart_none ss)))
+whole_sound n ss t rest e =
+    made (subst (λ o. When o (Took tokens_of IsLawful free here ss) (Halts tokens_of IsLawful here ss)) e ((sound_whole_at n).reads ss (apart_none ss)))
   where
     made : Took tokens_of IsLawful free here ss t rest → IsRead n ss t
     made w =
         let written : ss ≡ tokens_of t = w.splits ∙ ap (λ z. w.read ++ z) (nothing_left n ss t rest e) ∙ append-nil w.read ∙ sym w.writes in
-        record { lawful = w.lawful; written = written; within = each_all n (depths_of t) (none_over n (depths_of t) (at (over n (depths_of t)) (sym (whole_reads n t w.lawful) ∙ ap (whole_at n) (sym written) ∙ e))) }
+        record {
+          lawful = w.lawful;
+          written = written;
+          within =
+              each_all n (depths_of t)
+              (none_over n (depths_of t) (at (over n (depths_of t)) (sym (whole_reads n t w.lawful) ∙ ap (whole_at n) (sym written) ∙ e)));
+        }
       where
         at : (o : ℕ) → limited_at o t [] ≡ Ok (t, rest) → o ≡ 0
         at zero q = refl
@@ -212,7 +237,8 @@ whole_complete n t l h = whole_reads n t l ∙ ap (λ o. limited_at o t []) (ove
 pub one_tree : (t u : ProgramShape) → IsLawful t → IsLawful u → tokens_of t ≡ tokens_of u → t ≡ u
 one_tree t u l m e =
     let n : ℕ = enough (depths_of t) + enough (depths_of u) in
-    ap (λ p. p.0) (ok_same (t, []) (u, []) (sym (reads_all n t l (more_enough (enough (depths_of t)) n (depths_of t) (omega arith) (is_enough (depths_of t)))) ∙ ap (whole_at n) e ∙ reads_all n u m (more_enough (enough (depths_of u)) n (depths_of u) (omega arith) (is_enough (depths_of u)))))
+    ap (λ p. p.0) (ok_same (t, []) (u, []) (sym (reads_all n t l (more_enough (enough (depths_of t)) n (depths_of t) (omega arith) (is_enough (depths_of t)))) ∙
+    ap (whole_at n) e ∙ reads_all n u m (more_enough (enough (depths_of u)) n (depths_of u) (omega arith) (is_enough (depths_of u)))))
   where
     reads_all : (n : ℕ) (x : ProgramShape) → IsLawful x → Each (λ d. d ≤ n) (depths_of x) → whole_at n (tokens_of x) ≡ Ok (x, [])
     reads_all n x k h = whole_reads n x k ∙ ap (λ o. limited_at o x []) (over_none n (depths_of x) h)
@@ -221,21 +247,26 @@ one_tree t u l m e =
 pub no_beginning : (t u : ProgramShape) (more : List Symbol) → IsLawful t → IsLawful u → tokens_of u ≡ tokens_of t ++ more → more ≡ []
 no_beginning t u more l m e =
     let n : ℕ = enough (depths_of t) + enough (depths_of u) in
-    ap (λ p. p.1) (ok_same (t, more) (u, []) (sym (reads_on n t l more (more_enough (enough (depths_of t)) n (depths_of t) (omega arith) (is_enough (depths_of t))))
-    ∙ ap (program_at n) (sym e ∙ sym (append-nil (tokens_of u))) ∙ reads_on n u m [] (more_enough (enough (depths_of u)) n (depths_of u) (omega arith) (is_enough (depths_of u)))))
+    ap (λ p. p.1) (ok_same (t, more) (u, [])
+    (sym (reads_on n t l more (more_enough (enough (depths_of t)) n (depths_of t) (omega arith) (is_enough (depths_of t))))
+    ∙ ap (program_at n) (sym e ∙ sym (append-nil (tokens_of u))) ∙
+    reads_on n u m [] (more_enough (enough (depths_of u)) n (depths_of u) (omega arith) (is_enough (depths_of u)))))
   where
-    reads_on : (n : ℕ) (x : ProgramShape) → IsLawful x → (rest : List Symbol) → Each (λ d. d ≤ n) (depths_of x) → program_at n (tokens_of x ++ rest) ≡ Ok (x, rest)
+    reads_on : (n : ℕ) (x : ProgramShape) → IsLawful x → (rest : List Symbol) → Each (λ d. d ≤ n) (depths_of x) →
+        program_at n (tokens_of x ++ rest) ≡ Ok (x, rest)
     reads_on n x k rest h = (complete_program_at n x k).reads rest tt ∙ ap (λ o. limited_at o x rest) (over_none n (depths_of x) h)
 
 -- Where something lawful begins with what was read, so does each beginning of that.
-continues_before : (ss read left : List Symbol) (j : ℕ) → ss ≡ read ++ left → (g : Goes tokens_of IsLawful (λ k. read ++ k)) → j < length read → Continues g.whole (up_to j ss)
+continues_before : (ss read left : List Symbol) (j : ℕ) → ss ≡ read ++ left → (g : Goes tokens_of IsLawful (λ k. read ++ k)) →
+    j < length read → Continues g.whole (up_to j ss)
 continues_before ss read left j e g h = record {
   lawful = g.lawful;
   rest = drop (j + 1) read ++ g.more;
   written = ap (λ z. take (j + 1) z ++ (drop (j + 1) read ++ g.more)) e ∙ beginning (j + 1) read left g.more (omega arith) ∙ sym g.writes;
 }
 
-begins_before : (ss read left : List Symbol) (j : ℕ) → ss ≡ read ++ left → Goes tokens_of IsLawful (λ k. read ++ k) → j < length read → BeginsProgram (up_to j ss)
+begins_before : (ss read left : List Symbol) (j : ℕ) → ss ≡ read ++ left → Goes tokens_of IsLawful (λ k. read ++ k) →
+    j < length read → BeginsProgram (up_to j ss)
 begins_before ss read left j e g h = record { tree = g.whole; continued = continues_before ss read left j e g h }
 
 -- the outcome of a reading that is known ends alike
@@ -243,17 +274,20 @@ ends_at : (n : ℕ) (ss : List Symbol) (o : Outcome ProgramShape) → whole_at n
 ends_at n ss o e = subst (λ z. Ends (Gives (whole_at n)) ss z) e ((local_whole_at n).ends ss)
 
 -- A halt that is bad: the kind there is unexpected, or the end is.
-none_here : (n : ℕ) (ss read : List Symbol) (s : Symbol) (l : List Symbol) (k : ℕ) → ss ≡ read ++ (s ∷ l) → suc (length l) ≡ k → whole_at n ss ≡ Err (bad k) → BeginsProgram (read ++ (s ∷ [])) → ⊥
+none_here : (n : ℕ) (ss read : List Symbol) (s : Symbol) (l : List Symbol) (k : ℕ) → ss ≡ read ++ (s ∷ l) → suc (length l) ≡ k →
+    whole_at n ss ≡ Err (bad k) → BeginsProgram (read ++ (s ∷ [])) → ⊥
 none_here n ss read s l k e c q b = at (ends_at n ss (Err (bad k)) q)
   where
     at : EndsHalted (Gives (whole_at n)) bad ss k → ⊥
     at w =
         let parts : (w.read ≡ read) × (w.left ≡ s ∷ l) = same_split w.read w.left read (s ∷ l) (sym w.splits ∙ e) (w.count ∙ sym c) in
         never_bad n b.tree (length (s ∷ b.continued.rest)) b.continued.lawful
-        (ap (whole_at n) (sym b.continued.written ∙ append_assoc read (s ∷ []) b.continued.rest ∙ ap (λ z. z ++ (s ∷ b.continued.rest)) (sym parts.0)) ∙ w.again (s ∷ b.continued.rest) (ap head_of parts.1))
+        (ap (whole_at n) (sym b.continued.written ∙ append_assoc read (s ∷ []) b.continued.rest ∙ ap (λ z. z ++ (s ∷ b.continued.rest)) (sym parts.0)) ∙
+        w.again (s ∷ b.continued.rest) (ap head_of parts.1))
 
 pub whole_unexpected : (n : ℕ) (ss : List Symbol) (k : ℕ) → whole_at n ss ≡ Err (bad k) → IsUnexpected ss (length ss - k)
-whole_unexpected n ss k q = made (subst (λ o. When o (Took tokens_of IsLawful free here ss) (Halts tokens_of IsLawful here ss)) q ((sound_whole_at n).reads ss (apart_none ss)))
+whole_unexpected n ss k q =
+    made (subst (λ o. When o (Took tokens_of IsLawful free here ss) (Halts tokens_of IsLawful here ss)) q ((sound_whole_at n).reads ss (apart_none ss)))
   where
     here_or_end : (w : HaltsAt tokens_of IsLawful here ss k) (left : List Symbol) → w.left ≡ left → StopsAt ss (length ss - k) ⊎ StopsAtEnd ss (length ss - k)
     here_or_end w [] e =
@@ -261,7 +295,15 @@ whole_unexpected n ss k q = made (subst (λ o. When o (Took tokens_of IsLawful f
         let nought : k ≡ 0 = sym w.count ∙ ap length e in
         inr (record {
           end = omega (arith, nought);
-          begun = record { tree = w.goes.whole; continued = record { lawful = w.goes.lawful; rest = w.goes.more; written = ap (λ z. z ++ w.goes.more) all ∙ sym w.goes.writes } };
+          begun = record {
+            tree = w.goes.whole;
+            continued = record {
+              lawful = w.goes.lawful;
+              rest = w.goes.more;
+              written =
+                  ap (λ z. z ++ w.goes.more) all ∙ sym w.goes.writes;
+            };
+          };
           none = λ p. never_bad n p.tree k p.lawful (ap (whole_at n) (sym p.written) ∙ q);
         })
     here_or_end w (s ∷ l) e =
@@ -271,7 +313,8 @@ whole_unexpected n ss k q = made (subst (λ o. When o (Took tokens_of IsLawful f
         let place : length ss - k ≡ length w.read = omega arith in
         inl (record {
           inside = omega arith;
-          none = λ b. none_here n ss w.read s l k split count q (subst BeginsProgram (ap (λ z. up_to z ss) place ∙ ap (λ z. take (length w.read + 1) z) split ∙ taken_up_to w.read s l) b);
+          none = λ b. none_here n ss w.read s l k split count q (subst BeginsProgram (ap (λ z. up_to z ss) place ∙
+              ap (λ z. take (length w.read + 1) z) split ∙ taken_up_to w.read s l) b);
         })
 
     made : HaltsAt tokens_of IsLawful here ss k → IsUnexpected ss (length ss - k)
@@ -309,9 +352,11 @@ deep_is_read ss j d = at (over most_depth (depths_of t)) refl
     taken_to : length (up_to j ss) ≡ j + 1
     taken_to = let h : j < length ss = d.inside in length_taken (j + 1) ss (omega arith)
 
-    ended : (o : ℕ) → FirstOver most_depth (depths_of t) o → EndsHalted (Gives (whole_at most_depth)) reading.deep (tokens_of t) (suc o + 0) → IsDeepAt most_depth ss
+    ended : (o : ℕ) → FirstOver most_depth (depths_of t) o →
+        EndsHalted (Gives (whole_at most_depth)) reading.deep (tokens_of t) (suc o + 0) → IsDeepAt most_depth ss
     ended o f w =
-        let order : length f.front ≤ j = ⊎_elim (λ q. q) (λ q. absurd (let below : get_or (depths_of t) j 0 ≤ most_depth = mark_before most_depth (depths_of t) o f j q in omega (arith, above, below))) (le_or_lt (length f.front) j) in
+        let order : length f.front ≤ j = ⊎_elim (λ q. q) (λ q. absurd (let below : get_or (depths_of t) j 0 ≤ most_depth =
+        mark_before most_depth (depths_of t) o f j q in omega (arith, above, below))) (le_or_lt (length f.front) j) in
         let depths : length (depths_of t) ≡ length f.front + suc (length f.back) = ap length f.splits ∙ length-append f.front (f.mark ∷ f.back) in
         let tokens : length (tokens_of t) ≡ length w.read + length w.left = ap length w.splits ∙ length-append w.read w.left in
         let even : length (depths_of t) ≡ length (tokens_of t) = program_even t in
@@ -320,25 +365,32 @@ deep_is_read ss j d = at (over most_depth (depths_of t)) refl
         let short : length w.read < length (up_to j ss) = omega (arith, taken_to) in
         again w (within w.read w.left (up_to j ss) c.rest (sym w.splits ∙ sym c.written) short)
       where
-        again : (v : EndsHalted (Gives (whole_at most_depth)) reading.deep (tokens_of t) (suc o + 0)) → Within v.read v.left (up_to j ss) c.rest → IsDeepAt most_depth ss
+        again : (v : EndsHalted (Gives (whole_at most_depth)) reading.deep (tokens_of t) (suc o + 0)) →
+            Within v.read v.left (up_to j ss) c.rest → IsDeepAt most_depth ss
         again v i = record {
           left = length (i.first ∷ (i.more ++ drop (j + 1) ss));
-          halts = ap (whole_at most_depth) (reread ss (up_to j ss) (drop (j + 1) ss) v.read i.first i.more (taken_dropped (j + 1) ss) i.inner) ∙ v.again (i.first ∷ (i.more ++ drop (j + 1) ss)) (ap head_of i.outer);
+          halts = ap (whole_at most_depth) (reread ss (up_to j ss) (drop (j + 1) ss) v.read i.first i.more (taken_dropped (j + 1) ss) i.inner) ∙
+              v.again (i.first ∷ (i.more ++ drop (j + 1) ss)) (ap head_of i.outer);
         }
 
     at : (o : ℕ) → over most_depth (depths_of t) ≡ o → IsDeepAt most_depth ss
-    at zero e = absurd (let below : get_or (depths_of t) j 0 ≤ most_depth = any_below most_depth (depths_of t) j (none_over most_depth (depths_of t) e) in omega (arith, above, below))
-    at (suc o) e = ended o (first_over most_depth (depths_of t) o e) (ends_at most_depth (tokens_of t) (Err (reading.deep (suc o + 0))) (whole_reads most_depth t c.lawful ∙ ap (λ z. limited_at z t []) e))
+    at zero e = absurd (let below : get_or (depths_of t) j 0 ≤ most_depth =
+        any_below most_depth (depths_of t) j (none_over most_depth (depths_of t) e) in omega (arith, above, below))
+    at (suc o) e = ended o (first_over most_depth (depths_of t) o e) (ends_at most_depth (tokens_of t) (Err (reading.deep (suc o + 0)))
+        (whole_reads most_depth t c.lawful ∙ ap (λ z. limited_at z t []) e))
 
 pub no_deep : (ss : List Symbol) (k j : ℕ) → whole_at most_depth ss ≡ Err (bad k) → IsTooDeep ss j → ⊥
 no_deep ss k j e d = let w : IsDeepAt most_depth ss = deep_is_read ss j d in bad_deep k w.left (err_same _ _ (sym e ∙ w.halts))
 
 -- A halt for depth: the kind there is too deep, and the first such.
-first_mark : (ss read : List Symbol) (s : Symbol) (l : List Symbol) (k : ℕ) → ss ≡ read ++ (s ∷ l) → suc (length l) ≡ k → whole_at most_depth ss ≡ Err (reading.deep k) →
-    (t : ProgramShape) (rest : List Symbol) → IsLawful t → tokens_of t ≡ read ++ (s ∷ rest) → (f : FirstOver most_depth (depths_of t) (length rest)) × (length f.front ≡ length read)
+first_mark : (ss read : List Symbol) (s : Symbol) (l : List Symbol) (k : ℕ) → ss ≡ read ++ (s ∷ l) → suc (length l) ≡ k →
+    whole_at most_depth ss ≡ Err (reading.deep k) →
+    (t : ProgramShape) (rest : List Symbol) → IsLawful t → tokens_of t ≡ read ++ (s ∷ rest) →
+    (f : FirstOver most_depth (depths_of t) (length rest)) × (length f.front ≡ length read)
 first_mark ss read s l k e c q t rest m written = at (ends_at most_depth ss (Err (reading.deep k)) q)
   where
-    counted : (o : ℕ) → over most_depth (depths_of t) ≡ o → limited_at o t [] ≡ Err (reading.deep (suc (length rest))) → over most_depth (depths_of t) ≡ suc (length rest)
+    counted : (o : ℕ) → over most_depth (depths_of t) ≡ o → limited_at o t [] ≡ Err (reading.deep (suc (length rest))) →
+        over most_depth (depths_of t) ≡ suc (length rest)
     counted zero h r = ok_err (t, []) (reading.deep (suc (length rest))) r
     counted (suc o) h r = h ∙ (let same : suc o + 0 ≡ suc (length rest) = deep_same _ _ (err_same _ _ r) in omega arith)
 
@@ -353,40 +405,64 @@ first_mark ss read s l k e c q t rest m written = at (ends_at most_depth ss (Err
     at : EndsHalted (Gives (whole_at most_depth)) reading.deep ss k → (f : FirstOver most_depth (depths_of t) (length rest)) × (length f.front ≡ length read)
     at w =
         let parts : (w.read ≡ read) × (w.left ≡ s ∷ l) = same_split w.read w.left read (s ∷ l) (sym w.splits ∙ e) (w.count ∙ sym c) in
-        let halts : whole_at most_depth (tokens_of t) ≡ Err (reading.deep (suc (length rest))) = ap (whole_at most_depth) (written ∙ ap (λ z. z ++ (s ∷ rest)) (sym parts.0)) ∙ w.again (s ∷ rest) (ap head_of parts.1) in
+        let halts : whole_at most_depth (tokens_of t) ≡ Err (reading.deep (suc (length rest))) =
+        ap (whole_at most_depth) (written ∙ ap (λ z. z ++ (s ∷ rest)) (sym parts.0)) ∙ w.again (s ∷ rest) (ap head_of parts.1) in
         placed (first_over most_depth (depths_of t) (length rest) (counted (over most_depth (depths_of t)) refl (sym (whole_reads most_depth t m) ∙ halts)))
 
 pub whole_deep : (ss : List Symbol) (k : ℕ) → whole_at most_depth ss ≡ Err (reading.deep k) → IsDeep ss (length ss - k)
-whole_deep ss k q = made (subst (λ o. When o (Took tokens_of IsLawful free here ss) (Halts tokens_of IsLawful here ss)) q ((sound_whole_at most_depth).reads ss (apart_none ss)))
+whole_deep ss k q = made (subst (λ o. When o (Took tokens_of IsLawful free here ss) (Halts tokens_of IsLawful here ss)) q
+    ((sound_whole_at most_depth).reads ss (apart_none ss)))
   where
     placed : (w : HaltsBehind tokens_of IsLawful here ss k) → length ss - k ≡ length w.read
-    placed w = let count : suc (length w.left) ≡ k = w.count in let total : length ss ≡ length w.read + suc (length w.left) = ap length w.splits ∙ length-append w.read (w.last ∷ w.left) in omega arith
+    placed w = let count : suc (length w.left) ≡ k = w.count in let total : length ss ≡ length w.read + suc (length w.left) = ap length w.splits ∙
+        length-append w.read (w.last ∷ w.left) in omega arith
 
     inside_of : (w : HaltsBehind tokens_of IsLawful here ss k) → length ss - k < length ss
-    inside_of w = let count : suc (length w.left) ≡ k = w.count in let total : length ss ≡ length w.read + suc (length w.left) = ap length w.splits ∙ length-append w.read (w.last ∷ w.left) in omega arith
+    inside_of w = let count : suc (length w.left) ≡ k = w.count in let total : length ss ≡ length w.read + suc (length w.left) = ap length w.splits ∙
+        length-append w.read (w.last ∷ w.left) in omega arith
 
     upto : (w : HaltsBehind tokens_of IsLawful here ss k) → up_to (length ss - k) ss ≡ w.read ++ (w.last ∷ [])
     upto w = ap (λ z. up_to z ss) (placed w) ∙ ap (λ z. take (length w.read + 1) z) w.splits ∙ taken_up_to w.read w.last w.left
 
-    too_deep : (w : HaltsBehind tokens_of IsLawful here ss k) (tree : ProgramShape) → Continues tree (up_to (length ss - k) ss) → most_depth < get_or (depths_of tree) (length ss - k) 0
+    too_deep : (w : HaltsBehind tokens_of IsLawful here ss k) (tree : ProgramShape) → Continues tree (up_to (length ss - k) ss) →
+        most_depth < get_or (depths_of tree) (length ss - k) 0
     too_deep w tree c =
-        let written : tokens_of tree ≡ w.read ++ (w.last ∷ c.rest) = sym c.written ∙ ap (λ z. z ++ c.rest) (upto w) ∙ append_assoc w.read (w.last ∷ []) c.rest in
-        let r : (f : FirstOver most_depth (depths_of tree) (length c.rest)) × (length f.front ≡ length w.read) = first_mark ss w.read w.last w.left k w.splits w.count q tree c.rest c.lawful written in
+        let written : tokens_of tree ≡ w.read ++ (w.last ∷ c.rest) = sym c.written ∙ ap (λ z. z ++ c.rest) (upto w) ∙
+        append_assoc w.read (w.last ∷ []) c.rest in
+        let r : (f : FirstOver most_depth (depths_of tree) (length c.rest)) × (length f.front ≡ length w.read) =
+        first_mark ss w.read w.last w.left k w.splits w.count q tree c.rest c.lawful written in
         mark_at most_depth (depths_of tree) (length c.rest) r.0 (length ss - k) (r.1 ∙ sym (placed w))
 
     earlier : (w : HaltsBehind tokens_of IsLawful here ss k) (j : ℕ) → j < length ss - k → IsTooDeep ss j → ⊥
     earlier w j h d =
         let before : j < length w.read = omega (arith, placed w, h) in
-        let r : (f : FirstOver most_depth (depths_of w.goes.whole) (length w.goes.more)) × (length f.front ≡ length w.read) = first_mark ss w.read w.last w.left k w.splits w.count q w.goes.whole w.goes.more w.goes.lawful w.goes.writes in
-        let below : get_or (depths_of w.goes.whole) j 0 ≤ most_depth = mark_before most_depth (depths_of w.goes.whole) (length w.goes.more) r.0 j (omega (arith, r.1, before)) in
-        let above : most_depth < get_or (depths_of w.goes.whole) j 0 = d.deep w.goes.whole (continues_before ss w.read (w.last ∷ w.left) j w.splits (record { whole = w.goes.whole; more = w.last ∷ w.goes.more; lawful = w.goes.lawful; writes = w.goes.writes }) before) in
+        let r : (f : FirstOver most_depth (depths_of w.goes.whole) (length w.goes.more)) × (length f.front ≡ length w.read) =
+        first_mark ss w.read w.last w.left k w.splits w.count q w.goes.whole w.goes.more w.goes.lawful w.goes.writes in
+        let below : get_or (depths_of w.goes.whole) j 0 ≤ most_depth =
+        mark_before most_depth (depths_of w.goes.whole) (length w.goes.more) r.0 j (omega (arith, r.1, before)) in
+        let above : most_depth < get_or (depths_of w.goes.whole) j 0 =
+        d.deep w.goes.whole (continues_before ss w.read (w.last ∷ w.left) j w.splits (record {
+          whole = w.goes.whole;
+          more = w.last ∷ w.goes.more;
+          lawful =
+              w.goes.lawful;
+          writes = w.goes.writes;
+        }) before) in
         omega (arith, below, above)
 
     made : HaltsBehind tokens_of IsLawful here ss k → IsDeep ss (length ss - k)
     made w = record {
       here = record {
         inside = inside_of w;
-        begun = record { tree = w.goes.whole; continued = record { lawful = w.goes.lawful; rest = w.goes.more; written = ap (λ z. z ++ w.goes.more) (upto w) ∙ append_assoc w.read (w.last ∷ []) w.goes.more ∙ sym w.goes.writes } };
+        begun = record {
+          tree = w.goes.whole;
+          continued = record {
+            lawful = w.goes.lawful;
+            rest = w.goes.more;
+            written = ap (λ z. z ++ w.goes.more) (upto w) ∙
+                append_assoc w.read (w.last ∷ []) w.goes.more ∙ sym w.goes.writes;
+          };
+        };
         deep = too_deep w;
       };
       first = earlier w;
@@ -401,7 +477,13 @@ deep_before ss i j d u = ⊎_elim (λ h. absurd (at h u.here)) (λ h. h) (le_or_
         let inside : i < length ss = d.inside in
         let size : length (up_to i ss) ≡ i + 1 = length_taken (i + 1) ss (omega arith) in
         begins_before ss (up_to i ss) (drop (i + 1) ss) j (sym (taken_dropped (i + 1) ss))
-        (record { whole = d.begun.tree; more = d.begun.continued.rest; lawful = d.begun.continued.lawful; writes = sym d.begun.continued.written }) (omega (arith, size, h))
+        (record {
+          whole = d.begun.tree;
+          more = d.begun.continued.rest;
+          lawful = d.begun.continued.lawful;
+          writes =
+              sym d.begun.continued.written;
+        }) (omega (arith, size, h))
 
     at : j ≤ i → StopsAt ss j ⊎ StopsAtEnd ss j → ⊥
     at h (inl s) = s.none (shorter h)

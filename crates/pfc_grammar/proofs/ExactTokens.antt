@@ -25,7 +25,8 @@ use Rattle.pfc_grammar.proofs.placed_one.Parts.{one_tree_of}
 of_kinds : (ts : List Token) (o : Outcome ProgramTree) → read_tokens ts ≡ o → read_program (symbols ts) ≡ bare_outcome o
 of_kinds ts o e = sym (tokens_are_read ts) ∙ ap bare_outcome e
 
-pub shape_is_read : (tokens rest : List Token) (tree : ProgramTree) → read_tokens tokens ≡ Ok (tree, rest) → IsRead most_depth (symbols tokens) (forget_program tree)
+pub shape_is_read : (tokens rest : List Token) (tree : ProgramTree) → read_tokens tokens ≡ Ok (tree, rest) →
+    IsRead most_depth (symbols tokens) (forget_program tree)
 shape_is_read tokens rest tree e = read_is_sound (symbols tokens) (forget_program tree) (symbols rest) (of_kinds tokens (Ok (tree, rest)) e)
 
 pub tree_is_read : (tokens rest : List Token) (tree : ProgramTree) → read_tokens tokens ≡ Ok (tree, rest) → IsTreeOf tokens tree
@@ -33,17 +34,20 @@ tree_is_read tokens rest tree e =
     let shape : IsRead most_depth (symbols tokens) (forget_program tree) = shape_is_read tokens rest tree e in
     record { lawful = shape.lawful; written = shape.written; kept = places_are_kept tokens rest tree e }
 
-pub lawful_is_read : (tokens : List Token) (shape : ProgramShape) → IsLawful shape → All (λ d. d ≤ most_depth) (depths_of shape) → symbols tokens ≡ tokens_of shape → bare_outcome (read_tokens tokens) ≡ Ok (shape, [])
+pub lawful_is_read : (tokens : List Token) (shape : ProgramShape) → IsLawful shape → All (λ d. d ≤ most_depth) (depths_of shape) →
+    symbols tokens ≡ tokens_of shape → bare_outcome (read_tokens tokens) ≡ Ok (shape, [])
 lawful_is_read tokens shape lawful within e = tokens_are_read tokens ∙ ap read_program e ∙ read_is_complete shape lawful within
 
 pub none_is_deep : (tokens rest : List Token) (tree : ProgramTree) (place : ℕ) → read_tokens tokens ≡ Ok (tree, rest) → IsDeep (symbols tokens) place → ⊥
 none_is_deep tokens rest tree place e d = read_is_not_deep (symbols tokens) (forget_program tree) (symbols rest) place (of_kinds tokens (Ok (tree, rest)) e) d
 
 pub bad_token : (tokens : List Token) (left : ℕ) → read_tokens tokens ≡ Err (bad left) → IsSyntaxFault (symbols tokens) 201 (length tokens - left)
-bad_token tokens left e = subst (λ n. IsSyntaxFault (symbols tokens) 201 (n - left)) (sym (counted tokens)) (bad_is_fault (symbols tokens) left (of_kinds tokens (Err (bad left)) e))
+bad_token tokens left e = subst (λ n. IsSyntaxFault (symbols tokens) 201 (n - left)) (sym (counted tokens))
+    (bad_is_fault (symbols tokens) left (of_kinds tokens (Err (bad left)) e))
 
 pub deep_token : (tokens : List Token) (left : ℕ) → read_tokens tokens ≡ Err (deep left) → IsSyntaxFault (symbols tokens) 202 (length tokens - left)
-deep_token tokens left e = subst (λ n. IsSyntaxFault (symbols tokens) 202 (n - left)) (sym (counted tokens)) (deep_is_fault (symbols tokens) left (of_kinds tokens (Err (deep left)) e))
+deep_token tokens left e = subst (λ n. IsSyntaxFault (symbols tokens) 202 (n - left)) (sym (counted tokens))
+    (deep_is_fault (symbols tokens) left (of_kinds tokens (Err (deep left)) e))
 
 -- The tree of the tokens is what is read.
 no_tokens : (ts : List Token) → symbols ts ≡ [] → ts ≡ []
@@ -54,7 +58,8 @@ left : kinds.Outcome ProgramShape → List Symbol
 left (Ok p) = p.1
 left (Err h) = []
 
-pub tree_is_read_again : (tokens : List Token) (tree : ProgramTree) → IsTreeOf tokens tree → All (λ d. d ≤ most_depth) (depths_of (forget_program tree)) → read_tokens tokens ≡ Ok (tree, [])
+pub tree_is_read_again : (tokens : List Token) (tree : ProgramTree) → IsTreeOf tokens tree →
+    All (λ d. d ≤ most_depth) (depths_of (forget_program tree)) → read_tokens tokens ≡ Ok (tree, [])
 unfolding left
 tree_is_read_again tokens tree w within = at (read_tokens tokens) refl (lawful_is_read tokens (forget_program tree) w.lawful within w.written)
   where

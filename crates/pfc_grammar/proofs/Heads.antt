@@ -25,7 +25,8 @@ use Rattle.pfc_grammar.proofs.Lists.{none, or_taken}
 use Rattle.pfc_grammar.proofs.Sound.{Sound, here, sound_branch, sound_bind, sound_pure, sound_stop}
 
 -- a test of a number that was passed: P holds where it does of the number that was asked for, and of what is said otherwise
-pub equal_or : {O : Type 0} (P : ℕ → O → Type 0) (n w : ℕ) (x : O) (other : Option O) → P w x → ((o : O) → other ≡ Some o → P n o) → (o : O) → if_equal n w x other ≡ Some o → P n o
+pub equal_or : {O : Type 0} (P : ℕ → O → Type 0) (n w : ℕ) (x : O) (other : Option O) → P w x → ((o : O) → other ≡ Some o → P n o) →
+    (o : O) → if_equal n w x other ≡ Some o → P n o
 equal_or {O = O} P n w x other h k o = at (nat_eq n w) refl
   where
     at : (b : Bool) → nat_eq n w ≡ b → (elim b as (λ z. Option O) [ true ↦ Some x | false ↦ other ]) ≡ Some o → P n o
@@ -76,7 +77,8 @@ number_is (Literal x) o e = nothing o e
 
 pub plus_minus_is : (s : Symbol) (o : plus_or_minus.Sign) → as_plus_minus s ≡ Some o → s ≡ sign_symbol o
 plus_minus_is (Word n) o e = nothing o e
-plus_minus_is (Sign n) o e = equal_or (λ m u. Sign m ≡ sign_symbol u) n PLUS Plus _ refl (equal_or (λ m u. Sign m ≡ sign_symbol u) n MINUS Minus None refl (λ u q. nothing u q)) o e
+plus_minus_is (Sign n) o e =
+    equal_or (λ m u. Sign m ≡ sign_symbol u) n PLUS Plus _ refl (equal_or (λ m u. Sign m ≡ sign_symbol u) n MINUS Minus None refl (λ u q. nothing u q)) o e
 plus_minus_is (Name x) o e = nothing o e
 plus_minus_is (Number n) o e = nothing o e
 plus_minus_is (Literal x) o e = nothing o e
@@ -84,21 +86,25 @@ plus_minus_is (Literal x) o e = nothing o e
 pub relation_is : (s : Symbol) (o : Relation) → as_relation s ≡ Some o → s ≡ relation_symbol o
 relation_is (Word n) o e = nothing o e
 relation_is (Sign n) o e =
-    equal_or (λ m u. Sign m ≡ relation_symbol u) n EQUAL Eq _ refl (equal_or (λ m u. Sign m ≡ relation_symbol u) n NOT_EQUAL Ne _ refl (equal_or (λ m u. Sign m ≡ relation_symbol u) n LESS Lt _ refl
-    (equal_or (λ m u. Sign m ≡ relation_symbol u) n LESS_EQUAL Le _ refl (equal_or (λ m u. Sign m ≡ relation_symbol u) n GREATER Gt _ refl (equal_or (λ m u. Sign m ≡ relation_symbol u) n GREATER_EQUAL Ge None refl (λ u q. nothing u q)))))) o e
+    equal_or (λ m u. Sign m ≡ relation_symbol u) n EQUAL Eq _ refl (equal_or (λ m u. Sign m ≡ relation_symbol u) n NOT_EQUAL Ne _ refl
+    (equal_or (λ m u. Sign m ≡ relation_symbol u) n LESS Lt _ refl
+    (equal_or (λ m u. Sign m ≡ relation_symbol u) n LESS_EQUAL Le _ refl (equal_or (λ m u. Sign m ≡ relation_symbol u) n GREATER Gt _ refl
+    (equal_or (λ m u. Sign m ≡ relation_symbol u) n GREATER_EQUAL Ge None refl (λ u q. nothing u q)))))) o e
 relation_is (Name x) o e = nothing o e
 relation_is (Number n) o e = nothing o e
 relation_is (Literal x) o e = nothing o e
 
 pub add_op_is : (s : Symbol) (o : AddOp) → as_add_op s ≡ Some o → s ≡ add_symbol o
 add_op_is (Word n) o e = equal_or (λ m u. Word m ≡ add_symbol u) n OR Or None refl (λ u q. nothing u q) o e
-add_op_is (Sign n) o e = equal_or (λ m u. Sign m ≡ add_symbol u) n PLUS Add _ refl (equal_or (λ m u. Sign m ≡ add_symbol u) n MINUS Sub None refl (λ u q. nothing u q)) o e
+add_op_is (Sign n) o e =
+    equal_or (λ m u. Sign m ≡ add_symbol u) n PLUS Add _ refl (equal_or (λ m u. Sign m ≡ add_symbol u) n MINUS Sub None refl (λ u q. nothing u q)) o e
 add_op_is (Name x) o e = nothing o e
 add_op_is (Number n) o e = nothing o e
 add_op_is (Literal x) o e = nothing o e
 
 pub mul_op_is : (s : Symbol) (o : MulOp) → as_mul_op s ≡ Some o → s ≡ mul_symbol o
-mul_op_is (Word n) o e = equal_or (λ m u. Word m ≡ mul_symbol u) n DIV Div _ refl (equal_or (λ m u. Word m ≡ mul_symbol u) n MOD Mod _ refl (equal_or (λ m u. Word m ≡ mul_symbol u) n AND And None refl (λ u q. nothing u q))) o e
+mul_op_is (Word n) o e = equal_or (λ m u. Word m ≡ mul_symbol u) n DIV Div _ refl (equal_or (λ m u. Word m ≡ mul_symbol u) n MOD Mod _ refl
+    (equal_or (λ m u. Word m ≡ mul_symbol u) n AND And None refl (λ u q. nothing u q))) o e
 mul_op_is (Sign n) o e = equal_or (λ m u. Sign m ≡ mul_symbol u) n STAR Mul None refl (λ u q. nothing u q) o e
 mul_op_is (Name x) o e = nothing o e
 mul_op_is (Number n) o e = nothing o e
@@ -111,13 +117,16 @@ selector_symbol false = Sign DOT
 
 pub selector_is : (s : Symbol) (o : Bool) → as_selector s ≡ Some o → s ≡ selector_symbol o
 selector_is (Word n) o e = nothing o e
-selector_is (Sign n) o e = equal_or (λ m u. Sign m ≡ selector_symbol u) n OPEN_BRACKET true _ refl (equal_or (λ m u. Sign m ≡ selector_symbol u) n DOT false None refl (λ u q. nothing u q)) o e
+selector_is (Sign n) o e = equal_or (λ m u. Sign m ≡ selector_symbol u) n OPEN_BRACKET true _ refl
+    (equal_or (λ m u. Sign m ≡ selector_symbol u) n DOT false None refl (λ u q. nothing u q)) o e
 selector_is (Name x) o e = nothing o e
 selector_is (Number n) o e = nothing o e
 selector_is (Literal x) o e = nothing o e
 
 pub direction_is : (s : Symbol) (o : Bool) → as_direction s ≡ Some o → s ≡ direction_symbol o
-direction_is (Word n) o e = equal_or (λ m u. Word m ≡ direction_symbol u) n TO false _ refl (equal_or (λ m u. Word m ≡ direction_symbol u) n DOWNTO true None refl (λ u q. nothing u q)) o e
+direction_is (Word n) o e =
+    equal_or (λ m u. Word m ≡ direction_symbol u) n TO false _ refl
+    (equal_or (λ m u. Word m ≡ direction_symbol u) n DOWNTO true None refl (λ u q. nothing u q)) o e
 direction_is (Sign n) o e = nothing o e
 direction_is (Name x) o e = nothing o e
 direction_is (Number n) o e = nothing o e
@@ -142,38 +151,49 @@ pub word_was : (w : ℕ) (s : Symbol) → is_word w s ≡ true → s ≡ Word w
 word_was w s e = word_is w s tt (taken (as_word w s) e).1
 
 -- Soundness where one symbol decides: m says what symbol a value stands for.
-pub sound_on : {O B : Type 0} {T : B → List Symbol} {L : B → Type 0} {X : B → Symbol → Bool} {t : Symbol → Bool} {F : List Symbol → List Symbol} {f : Symbol → Option O} {g : O → Reader B} {r : Reader B} (m : O → Symbol) →
-    ((s : Symbol) (o : O) → f s ≡ Some o → s ≡ m o) → ((o : O) → t (m o) ≡ false → Sound T L X none (λ k. F (m o ∷ k)) (g o)) → Sound T L X (or_taken f t) F r → Sound T L X t F (branch f g r)
+pub sound_on : {O B : Type 0} {T : B → List Symbol} {L : B → Type 0} {X : B → Symbol → Bool} {t : Symbol → Bool} {F : List Symbol → List Symbol} {f : Symbol →
+    Option O} {g : O → Reader B} {r : Reader B} (m : O → Symbol) →
+    ((s : Symbol) (o : O) → f s ≡ Some o → s ≡ m o) → ((o : O) → t (m o) ≡ false → Sound T L X none (λ k. F (m o ∷ k)) (g o)) →
+    Sound T L X (or_taken f t) F r → Sound T L X t F (branch f g r)
 sound_on {T = T} {L = L} {X = X} {t = t} {F = F} {g = g} m is h other =
     sound_branch (λ s o n e. subst (λ z. Sound T L X none (λ k. F (z ∷ k)) (g o)) (sym (is s o e)) (h o (subst (λ z. t z ≡ false) (is s o e) n))) other
 
-pub sound_symbol : {O : Type 0} {f : Symbol → Option O} (m : O → Symbol) → ((s : Symbol) (o : O) → f s ≡ Some o → s ≡ m o) → O → Sound (λ o. m o ∷ []) (λ o. Unit {0}) (λ o. none) none here (take_as f)
+pub sound_symbol : {O : Type 0} {f : Symbol → Option O} (m : O → Symbol) → ((s : Symbol) (o : O) → f s ≡ Some o → s ≡ m o) → O →
+    Sound (λ o. m o ∷ []) (λ o. Unit {0}) (λ o. none) none here (take_as f)
 unfolding take_as
 sound_symbol m is o₀ = sound_on m is (λ o n. sound_pure o refl tt (λ s e. e)) (sound_stop (record { whole = o₀; more = m o₀ ∷ []; lawful = tt; writes = refl }))
 
 -- one symbol, and then the rest
-pub sound_next : {O B : Type 0} {T : B → List Symbol} {L : B → Type 0} {X : B → Symbol → Bool} {t : Symbol → Bool} {F : List Symbol → List Symbol} {f : Symbol → Option O} {g : O → Reader B} (m : O → Symbol) →
+pub sound_next : {O B : Type 0} {T : B → List Symbol} {L : B → Type 0} {X : B → Symbol → Bool} {t : Symbol → Bool} {F : List Symbol → List Symbol} {f : Symbol →
+    Option O} {g : O → Reader B} (m : O → Symbol) →
     ((s : Symbol) (o : O) → f s ≡ Some o → s ≡ m o) → O → ((o : O) → Sound T L X none (λ k. F (m o ∷ k)) (g o)) → Sound T L X t F (bind (take_as f) g)
 sound_next m is o₀ h = sound_bind (sound_symbol m is o₀) (λ o l. h o)
 
 -- a word or a sign that has to stand there
-pub sound_word : {B : Type 0} {T : B → List Symbol} {L : B → Type 0} {X : B → Symbol → Bool} {t : Symbol → Bool} {F : List Symbol → List Symbol} {g : Unit {0} → Reader B} (w : ℕ) →
+pub sound_word : {B : Type 0} {T : B → List Symbol} {L : B → Type 0} {X : B → Symbol → Bool} {t : Symbol → Bool} {F : List Symbol →
+    List Symbol} {g : Unit {0} → Reader B} (w : ℕ) →
     ((u : Unit {0}) → Sound T L X none (λ k. F (Word w ∷ k)) (g u)) → Sound T L X t F (bind (take_as (as_word w)) g)
 sound_word w h = sound_next (λ o. Word w) (word_is w) tt h
 
-pub sound_sign : {B : Type 0} {T : B → List Symbol} {L : B → Type 0} {X : B → Symbol → Bool} {t : Symbol → Bool} {F : List Symbol → List Symbol} {g : Unit {0} → Reader B} (w : ℕ) →
+pub sound_sign : {B : Type 0} {T : B → List Symbol} {L : B → Type 0} {X : B → Symbol → Bool} {t : Symbol → Bool} {F : List Symbol →
+    List Symbol} {g : Unit {0} → Reader B} (w : ℕ) →
     ((u : Unit {0}) → Sound T L X none (λ k. F (Sign w ∷ k)) (g u)) → Sound T L X t F (bind (take_as (as_sign w)) g)
 sound_sign w h = sound_next (λ o. Sign w) (sign_is w) tt h
 
-pub sound_name : {B : Type 0} {T : B → List Symbol} {L : B → Type 0} {X : B → Symbol → Bool} {t : Symbol → Bool} {F : List Symbol → List Symbol} {g : Text → Reader B} →
+pub sound_name : {B : Type 0} {T : B → List Symbol} {L : B → Type 0} {X : B → Symbol → Bool} {t : Symbol →
+    Bool} {F : List Symbol → List Symbol} {g : Text → Reader B} →
     ((x : Text) → Sound T L X none (λ k. F (Name x ∷ k)) (g x)) → Sound T L X t F (bind (take_as as_name) g)
 sound_name h = sound_next Name name_is [] h
 
 -- a word or a sign that may stand there
-pub sound_on_word : {B : Type 0} {T : B → List Symbol} {L : B → Type 0} {X : B → Symbol → Bool} {t : Symbol → Bool} {F : List Symbol → List Symbol} {g : Unit {0} → Reader B} {r : Reader B} (w : ℕ) →
-    ((u : Unit {0}) → t (Word w) ≡ false → Sound T L X none (λ k. F (Word w ∷ k)) (g u)) → Sound T L X (or_taken (as_word w) t) F r → Sound T L X t F (branch (as_word w) g r)
+pub sound_on_word : {B : Type 0} {T : B → List Symbol} {L : B → Type 0} {X : B → Symbol → Bool} {t : Symbol → Bool} {F : List Symbol →
+    List Symbol} {g : Unit {0} → Reader B} {r : Reader B} (w : ℕ) →
+    ((u : Unit {0}) → t (Word w) ≡ false → Sound T L X none (λ k. F (Word w ∷ k)) (g u)) → Sound T L X (or_taken (as_word w) t) F r →
+    Sound T L X t F (branch (as_word w) g r)
 sound_on_word w h other = sound_on (λ o. Word w) (word_is w) h other
 
-pub sound_on_sign : {B : Type 0} {T : B → List Symbol} {L : B → Type 0} {X : B → Symbol → Bool} {t : Symbol → Bool} {F : List Symbol → List Symbol} {g : Unit {0} → Reader B} {r : Reader B} (w : ℕ) →
-    ((u : Unit {0}) → t (Sign w) ≡ false → Sound T L X none (λ k. F (Sign w ∷ k)) (g u)) → Sound T L X (or_taken (as_sign w) t) F r → Sound T L X t F (branch (as_sign w) g r)
+pub sound_on_sign : {B : Type 0} {T : B → List Symbol} {L : B → Type 0} {X : B → Symbol → Bool} {t : Symbol → Bool} {F : List Symbol →
+    List Symbol} {g : Unit {0} → Reader B} {r : Reader B} (w : ℕ) →
+    ((u : Unit {0}) → t (Sign w) ≡ false → Sound T L X none (λ k. F (Sign w ∷ k)) (g u)) → Sound T L X (or_taken (as_sign w) t) F r →
+    Sound T L X t F (branch (as_sign w) g r)
 sound_on_sign w h other = sound_on (λ o. Sign w) (sign_is w) h other

@@ -76,12 +76,14 @@ Chain s X L [] = ⊥
 Chain s X L (x ∷ []) = L x
 Chain s X L (x ∷ (y ∷ ys)) = L x × (X x s ≡ false) × Chain s X L (y ∷ ys)
 
-pub chain-snoc : {A : Type 0} (s : Symbol) (X : A → Symbol → Bool) (L : A → Type 0) (xs : List A) (x : A) → Chain s X L xs → behind_last X xs s ≡ false → L x → Chain s X L (xs ++ x ∷ [])
+pub chain-snoc : {A : Type 0} (s : Symbol) (X : A → Symbol → Bool) (L : A → Type 0) (xs : List A) (x : A) → Chain s X L xs →
+    behind_last X xs s ≡ false → L x → Chain s X L (xs ++ x ∷ [])
 chain-snoc s X L [] x h e l = absurd h
 chain-snoc s X L (y ∷ []) x h e l = (h, e, l)
 chain-snoc s X L (y ∷ (z ∷ zs)) x h e l = (h.0, h.1, chain-snoc s X L (z ∷ zs) x h.2 e l)
 
-pub separated-snoc : {A : Type 0} (s : Symbol) (T : A → List Symbol) (X : A → Symbol → Bool) (L : A → Type 0) (xs : List A) → Chain s X L xs → (x : A) → separated s T (xs ++ x ∷ []) ≡ separated s T xs ++ (s ∷ T x)
+pub separated-snoc : {A : Type 0} (s : Symbol) (T : A → List Symbol) (X : A → Symbol → Bool) (L : A → Type 0) (xs : List A) → Chain s X L xs → (x : A) →
+    separated s T (xs ++ x ∷ []) ≡ separated s T xs ++ (s ∷ T x)
 separated-snoc s T X L [] h x = absurd h
 separated-snoc s T X L (y ∷ ys) h x = ap (λ z. T y ++ z) (flat-snoc (λ y'. s ∷ T y') ys x) ∙ sym (append_assoc (T y) (flat (λ y'. s ∷ T y') ys) (s ∷ T x))
 

@@ -47,7 +47,8 @@ halted_behind P Q f u ss rest n e h w = record {
   left = w.left;
   splits = e ∙ ap (λ z. u ++ z) w.splits ∙ sym (append_assoc u w.read w.left);
   count = w.count;
-  again = λ l k. subst (λ z. Q z (Err (f (length l)))) (sym (append_assoc u w.read l)) (h (w.read ++ l) (ap head_of w.splits ∙ same_heads w.read w.left l k) (Err (f (length l))) (w.again l k));
+  again = λ l k. subst (λ z. Q z (Err (f (length l)))) (sym (append_assoc u w.read l)) (h (w.read ++ l) (ap head_of w.splits ∙
+      same_heads w.read w.left l k) (Err (f (length l))) (w.again l k));
 }
 
 pub joined_ends : {B : Type 0} (P Q : List Symbol → Outcome B → Type 0) (u ss rest : List Symbol) (o : Outcome B) → ss ≡ u ++ rest →
@@ -55,7 +56,8 @@ pub joined_ends : {B : Type 0} (P Q : List Symbol → Outcome B → Type 0) (u s
 joined_ends P Q u ss rest (Ok p) e h w = record {
   read = u ++ w.read;
   splits = e ∙ ap (λ z. u ++ z) w.splits ∙ sym (append_assoc u w.read p.1);
-  again = λ l k. subst (λ z. Q z (Ok (p.0, l))) (sym (append_assoc u w.read l)) (h (w.read ++ l) (ap head_of w.splits ∙ same_heads w.read p.1 l k) (Ok (p.0, l)) (w.again l k));
+  again = λ l k. subst (λ z. Q z (Ok (p.0, l))) (sym (append_assoc u w.read l)) (h (w.read ++ l) (ap head_of w.splits ∙
+      same_heads w.read p.1 l k) (Ok (p.0, l)) (w.again l k));
 }
 joined_ends P Q u ss rest (Err (bad n)) e h w = halted_behind P Q bad u ss rest n e h w
 joined_ends P Q u ss rest (Err (deep n)) e h w = halted_behind P Q deep u ss rest n e h w
@@ -66,21 +68,24 @@ pub ends_same : {B : Type 0} (P Q : List Symbol → Outcome B → Type 0) (p : O
 ends_same P Q p ss o h t w = joined_ends P Q [] ss ss o refl (λ l e c q. t l (subst p e h) c q) w
 
 -- a halt stays one where another reader goes on
-pub ends_halted : {A B : Type 0} (P : List Symbol → Outcome A → Type 0) (Q : List Symbol → Outcome B → Type 0) (u ss rest : List Symbol) (q : Halt) → ss ≡ u ++ rest →
+pub ends_halted : {A B : Type 0} (P : List Symbol → Outcome A → Type 0) (Q : List Symbol → Outcome B →
+    Type 0) (u ss rest : List Symbol) (q : Halt) → ss ≡ u ++ rest →
     ((l : List Symbol) → head_of rest ≡ head_of l → (c : Halt) → P l (Err c) → Q (u ++ l) (Err c)) → Ends P rest (Err q) → Ends Q ss (Err q)
 ends_halted P Q u ss rest (bad n) e h w = record {
   read = u ++ w.read;
   left = w.left;
   splits = e ∙ ap (λ z. u ++ z) w.splits ∙ sym (append_assoc u w.read w.left);
   count = w.count;
-  again = λ l k. subst (λ z. Q z (Err (bad (length l)))) (sym (append_assoc u w.read l)) (h (w.read ++ l) (ap head_of w.splits ∙ same_heads w.read w.left l k) (bad (length l)) (w.again l k));
+  again = λ l k. subst (λ z. Q z (Err (bad (length l)))) (sym (append_assoc u w.read l)) (h (w.read ++ l) (ap head_of w.splits ∙
+      same_heads w.read w.left l k) (bad (length l)) (w.again l k));
 }
 ends_halted P Q u ss rest (deep n) e h w = record {
   read = u ++ w.read;
   left = w.left;
   splits = e ∙ ap (λ z. u ++ z) w.splits ∙ sym (append_assoc u w.read w.left);
   count = w.count;
-  again = λ l k. subst (λ z. Q z (Err (deep (length l)))) (sym (append_assoc u w.read l)) (h (w.read ++ l) (ap head_of w.splits ∙ same_heads w.read w.left l k) (deep (length l)) (w.again l k));
+  again = λ l k. subst (λ z. Q z (Err (deep (length l)))) (sym (append_assoc u w.read l)) (h (w.read ++ l) (ap head_of w.splits ∙
+      same_heads w.read w.left l k) (deep (length l)) (w.again l k));
 }
 
 pub local_pure : {A : Type 0} (v : A) → Local (pure v)
@@ -100,7 +105,8 @@ unfolding bind
 local_bind {A = A} {B = B} {r = r} {g = g} h k = record { ends = λ ss. go ss (r ss) (h.ends ss) }
   where
     go : (ss : List Symbol) (o : Outcome A) → Ends (Gives r) ss o → Ends (Gives (bind r g)) ss (then_read o g)
-    go ss (Ok p) w = joined_ends (Gives (g p.0)) (Gives (bind r g)) w.read ss p.1 (g p.0 p.1) w.splits (λ l e c q. ap (λ z. then_read z g) (w.again l e) ∙ q) ((k p.0).ends p.1)
+    go ss (Ok p) w = joined_ends (Gives (g p.0)) (Gives (bind r g)) w.read ss p.1 (g p.0 p.1) w.splits
+        (λ l e c q. ap (λ z. then_read z g) (w.again l e) ∙ q) ((k p.0).ends p.1)
     go ss (Err q) w = ends_halted (Gives r) (Gives (bind r g)) [] ss ss q refl (λ l e c t. ap (λ z. then_read z g) t) w
 
 abbrev pub not_taken : {O : Type 0} → (Symbol → Option O) → Option Symbol → Type 0
@@ -117,7 +123,8 @@ unfolding branch
 local_branch {O = O} {B = B} f {g = g} {r = r} h k = record { ends = go }
   where
     at : (s : Symbol) (ss : List Symbol) (o : Option O) → f s ≡ o → Ends (Gives (branch f g r)) (s ∷ ss) (branch_at o g r s ss)
-    at s ss (Some o) e = joined_ends (Gives (g o)) (Gives (branch f g r)) (s ∷ []) (s ∷ ss) ss (g o ss) refl (λ l z c q. ap (λ y. branch_at y g r s l) e ∙ q) ((h o).ends ss)
+    at s ss (Some o) e = joined_ends (Gives (g o)) (Gives (branch f g r)) (s ∷ []) (s ∷ ss) ss (g o ss) refl
+        (λ l z c q. ap (λ y. branch_at y g r s l) e ∙ q) ((h o).ends ss)
     at s ss None e = ends_same (Gives r) (Gives (branch f g r)) (not_taken f) (s ∷ ss) (r (s ∷ ss)) e (λ l n c q. untaken f g r l n ∙ q) (k.ends (s ∷ ss))
 
     go : (ss : List Symbol) → Ends (Gives (branch f g r)) ss (branch f g r ss)
@@ -138,8 +145,10 @@ unfolding choose
 local_choose {B = B} p {g = g} {r = r} h k = record { ends = go }
   where
     at : (s : Symbol) (ss : List Symbol) (b : Bool) → p s ≡ b → Ends (Gives (choose p g r)) (s ∷ ss) (choose_at b g r (s ∷ ss))
-    at s ss true e = ends_same (Gives g) (Gives (choose p g r)) (has_test p true) (s ∷ ss) (g (s ∷ ss)) e (λ l n c q. tested p true g r l n ∙ q) (h.ends (s ∷ ss))
-    at s ss false e = ends_same (Gives r) (Gives (choose p g r)) (has_test p false) (s ∷ ss) (r (s ∷ ss)) e (λ l n c q. tested p false g r l n ∙ q) (k.ends (s ∷ ss))
+    at s ss true e = ends_same (Gives g) (Gives (choose p g r)) (has_test p true) (s ∷ ss) (g (s ∷ ss)) e
+        (λ l n c q. tested p true g r l n ∙ q) (h.ends (s ∷ ss))
+    at s ss false e = ends_same (Gives r) (Gives (choose p g r)) (has_test p false) (s ∷ ss) (r (s ∷ ss)) e
+        (λ l n c q. tested p false g r l n ∙ q) (k.ends (s ∷ ss))
 
     go : (ss : List Symbol) → Ends (Gives (choose p g r)) ss (choose p g r ss)
     go [] = ends_same (Gives r) (Gives (choose p g r)) (has_test p false) [] (r []) refl (λ l n c q. tested p false g r l n ∙ q) (k.ends [])

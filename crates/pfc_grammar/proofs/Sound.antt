@@ -20,7 +20,8 @@ pub record Goes {A : Type 0} (T : A → List Symbol) (L : A → Type 0) (F : Lis
   pub writes : T whole ≡ F more
 
 -- the value is lawful and writes what was taken, and no symbol of the set X v follows
-pub record Took {A : Type 0} (T : A → List Symbol) (L : A → Type 0) (X : A → Symbol → Bool) (F : List Symbol → List Symbol) (ss : List Symbol) (v : A) (rest : List Symbol) : Type 0 where
+pub record Took {A : Type 0} (T : A → List Symbol) (L : A → Type 0) (X : A → Symbol → Bool) (F : List Symbol → List Symbol) (ss : List Symbol)
+    (v : A) (rest : List Symbol) : Type 0 where
   pub read : List Symbol
   pub splits : ss ≡ read ++ rest
   pub writes : T v ≡ F read
@@ -49,7 +50,8 @@ Halts T L F ss (bad n) = HaltsAt T L F ss n
 Halts T L F ss (deep n) = HaltsBehind T L F ss n
 
 -- the reader k, after what F has and where no symbol of t stands, reads on to something lawful
-pub record Sound {A : Type 0} (T : A → List Symbol) (L : A → Type 0) (X : A → Symbol → Bool) (t : Symbol → Bool) (F : List Symbol → List Symbol) (k : Reader A) : Type 0 where
+pub record Sound {A : Type 0} (T : A → List Symbol) (L : A → Type 0) (X : A → Symbol → Bool) (t : Symbol → Bool) (F : List Symbol →
+    List Symbol) (k : Reader A) : Type 0 where
   pub goes : Goes T L F
   pub reads : (ss : List Symbol) → Apart t ss → When (k ss) (Took T L X F ss) (Halts T L F ss)
 
@@ -78,7 +80,8 @@ pub sound_any : {A : Type 0} {T : A → List Symbol} {L : A → Type 0} {X : A �
 sound_any t h = record { goes = h.goes; reads = λ ss a. h.reads ss (apart_none ss) }
 
 -- a smaller set after the value will do
-pub sound_less : {A : Type 0} {T : A → List Symbol} {L L' : A → Type 0} {X X' : A → Symbol → Bool} {t : Symbol → Bool} {F : List Symbol → List Symbol} {k : Reader A} →
+pub sound_less : {A : Type 0} {T : A → List Symbol} {L L' : A → Type 0} {X X' : A → Symbol → Bool} {t : Symbol →
+    Bool} {F : List Symbol → List Symbol} {k : Reader A} →
     ((x : A) → L x → L' x) → ((x : A) (s : Symbol) → X x s ≡ false → X' x s ≡ false) → Sound T L X t F k → Sound T L' X' t F k
 sound_less {A = A} {T = T} {L = L} {L' = L'} {X = X} {X' = X'} {F = F} {k = k} hl hx h = record {
   goes = less_goes F h.goes;
@@ -90,10 +93,25 @@ sound_less {A = A} {T = T} {L = L} {L' = L'} {X = X} {X' = X'} {F = F} {k = k} h
 
     less_halts : (ss : List Symbol) (e : Halt) → Halts T L F ss e → Halts T L' F ss e
     less_halts ss (bad n) w = record { read = w.read; left = w.left; splits = w.splits; count = w.count; goes = less_goes (λ m. F (w.read ++ m)) w.goes }
-    less_halts ss (deep n) w = record { read = w.read; last = w.last; left = w.left; splits = w.splits; count = w.count; goes = less_goes (λ m. F (w.read ++ (w.last ∷ m))) w.goes }
+    less_halts ss (deep n) w = record {
+      read = w.read;
+      last = w.last;
+      left = w.left;
+      splits = w.splits;
+      count = w.count;
+      goes =
+          less_goes (λ m. F (w.read ++ (w.last ∷ m))) w.goes;
+    }
 
     less : (ss : List Symbol) (o : Outcome A) → When o (Took T L X F ss) (Halts T L F ss) → When o (Took T L' X' F ss) (Halts T L' F ss)
-    less ss (Ok p) w = record { read = w.read; splits = w.splits; writes = w.writes; lawful = hl p.0 w.lawful; apart = apart_less (X p.0) (X' p.0) (hx p.0) p.1 w.apart }
+    less ss (Ok p) w = record {
+      read = w.read;
+      splits = w.splits;
+      writes = w.writes;
+      lawful = hl p.0 w.lawful;
+      apart =
+          apart_less (X p.0) (X' p.0) (hx p.0) p.1 w.apart;
+    }
     less ss (Err e) w = less_halts ss e w
 
 -- Joining what two readers took, one after the other: the first took u, which writes y.
@@ -109,7 +127,8 @@ joined_goes F y u v e g = record {
 joined_split : (ss u rest v rest' : List Symbol) → ss ≡ u ++ rest → rest ≡ v ++ rest' → ss ≡ (u ++ v) ++ rest'
 joined_split ss u rest v rest' e e' = e ∙ ap (λ a. u ++ a) e' ∙ sym (append_assoc u v rest')
 
-pub joined : {B : Type 0} (T : B → List Symbol) (L : B → Type 0) (X : B → Symbol → Bool) (F : List Symbol → List Symbol) (y u ss rest : List Symbol) (o : Outcome B) → y ≡ u → ss ≡ u ++ rest →
+pub joined : {B : Type 0} (T : B → List Symbol) (L : B → Type 0) (X : B → Symbol → Bool) (F : List Symbol → List Symbol) (y u ss rest : List Symbol)
+    (o : Outcome B) → y ≡ u → ss ≡ u ++ rest →
     When o (Took T L X (λ k. F (y ++ k)) rest) (Halts T L (λ k. F (y ++ k)) rest) → When o (Took T L X F ss) (Halts T L F ss)
 joined T L X F y u ss rest (Ok p) e split w = record {
   read = u ++ w.read;
@@ -140,7 +159,8 @@ joined T L X F y u ss rest (Err (deep n)) e split w = record {
 }
 
 -- a part that halts is completed, and then the whole
-pub wrapped : {A B : Type 0} (T' : A → List Symbol) (L' : A → Type 0) (T : B → List Symbol) (L : B → Type 0) (F : List Symbol → List Symbol) (ss : List Symbol) →
+pub wrapped : {A B : Type 0} (T' : A → List Symbol) (L' : A → Type 0) (T : B → List Symbol) (L : B →
+    Type 0) (F : List Symbol → List Symbol) (ss : List Symbol) →
     ((x : A) → L' x → Goes T L (λ k. F (T' x ++ k))) → (h : Halt) → Halts T' L' (λ k. k) ss h → Halts T L F ss h
 wrapped T' L' T L F ss after (bad n) w = record {
   read = w.read;
@@ -175,7 +195,8 @@ wrapped T' L' T L F ss after (deep n) w = record {
     }
 
 -- one reader after the other, where the first begins with no symbol of t
-pub sound_bind_at : {A B : Type 0} {T' : A → List Symbol} {L' : A → Type 0} {X' : A → Symbol → Bool} {T : B → List Symbol} {L : B → Type 0} {X : B → Symbol → Bool} {t : Symbol → Bool} {F : List Symbol → List Symbol} {r : Reader A} {g : A → Reader B} →
+pub sound_bind_at : {A B : Type 0} {T' : A → List Symbol} {L' : A → Type 0} {X' : A → Symbol → Bool} {T : B → List Symbol} {L : B → Type 0} {X : B → Symbol →
+    Bool} {t : Symbol → Bool} {F : List Symbol → List Symbol} {r : Reader A} {g : A → Reader B} →
     Sound T' L' X' t here r → ((x : A) → L' x → Sound T L X (X' x) (λ k. F (T' x ++ k)) (g x)) → Sound T L X t F (bind r g)
 unfolding bind
 sound_bind_at {A = A} {T' = T'} {L' = L'} {X' = X'} {T = T} {L = L} {X = X} {F = F} {r = r} {g = g} h after = record {
@@ -194,13 +215,16 @@ sound_bind_at {A = A} {T' = T'} {L' = L'} {X' = X'} {T = T} {L = L} {X = X} {F =
     go ss (Err e) w = wrapped T' L' T L F ss (λ x l. (after x l).goes) e w
 
 -- one reader after the other
-pub sound_bind : {A B : Type 0} {T' : A → List Symbol} {L' : A → Type 0} {X' : A → Symbol → Bool} {T : B → List Symbol} {L : B → Type 0} {X : B → Symbol → Bool} {t : Symbol → Bool} {F : List Symbol → List Symbol} {r : Reader A} {g : A → Reader B} →
+pub sound_bind : {A B : Type 0} {T' : A → List Symbol} {L' : A → Type 0} {X' : A → Symbol → Bool} {T : B → List Symbol} {L : B → Type 0} {X : B → Symbol →
+    Bool} {t : Symbol → Bool} {F : List Symbol → List Symbol} {r : Reader A} {g : A → Reader B} →
     Sound T' L' X' none here r → ((x : A) → L' x → Sound T L X (X' x) (λ k. F (T' x ++ k)) (g x)) → Sound T L X t F (bind r g)
 sound_bind {t = t} h after = sound_bind_at (sound_any t h) after
 
 -- one reader, and then a value made of what it read
-pub sound_last : {A B : Type 0} {T' : A → List Symbol} {L' : A → Type 0} {X' : A → Symbol → Bool} {T : B → List Symbol} {L : B → Type 0} {X : B → Symbol → Bool} {t : Symbol → Bool} {F : List Symbol → List Symbol} {r : Reader A} (m : A → B) →
-    Sound T' L' X' none here r → ((x : A) → L' x → T (m x) ≡ F (T' x)) → ((x : A) → L' x → L (m x)) → ((x : A) → L' x → (s : Symbol) → X' x s ≡ false → X (m x) s ≡ false) →
+pub sound_last : {A B : Type 0} {T' : A → List Symbol} {L' : A → Type 0} {X' : A → Symbol → Bool} {T : B → List Symbol} {L : B → Type 0} {X : B → Symbol →
+    Bool} {t : Symbol → Bool} {F : List Symbol → List Symbol} {r : Reader A} (m : A → B) →
+    Sound T' L' X' none here r → ((x : A) → L' x → T (m x) ≡ F (T' x)) → ((x : A) → L' x → L (m x)) →
+    ((x : A) → L' x → (s : Symbol) → X' x s ≡ false → X (m x) s ≡ false) →
     Sound T L X t F (bind r (λ x. pure (m x)))
 unfolding bind pure
 sound_last {A = A} {T' = T'} {L' = L'} {X' = X'} {T = T} {L = L} {X = X} {F = F} {r = r} m h w l x = record {
@@ -212,22 +236,56 @@ sound_last {A = A} {T' = T'} {L' = L'} {X' = X'} {T = T} {L = L} {X = X} {F = F}
     ends G G' e g = record { whole = m g.whole; more = g.more; lawful = l g.whole g.lawful; writes = w g.whole g.lawful ∙ ap F g.writes ∙ e g.more }
 
     halts : (ss : List Symbol) (e : Halt) → Halts T' L' here ss e → Halts T L F ss e
-    halts ss (bad n) v = record { read = v.read; left = v.left; splits = v.splits; count = v.count; goes = ends (λ k. v.read ++ k) (λ k. v.read ++ k) (λ k. refl) v.goes }
-    halts ss (deep n) v = record { read = v.read; last = v.last; left = v.left; splits = v.splits; count = v.count; goes = ends (λ k. v.read ++ (v.last ∷ k)) (λ k. v.read ++ (v.last ∷ k)) (λ k. refl) v.goes }
+    halts ss (bad n) v = record {
+      read = v.read;
+      left = v.left;
+      splits = v.splits;
+      count = v.count;
+      goes =
+          ends (λ k. v.read ++ k) (λ k. v.read ++ k) (λ k. refl) v.goes;
+    }
+    halts ss (deep n) v = record {
+      read = v.read;
+      last = v.last;
+      left = v.left;
+      splits = v.splits;
+      count = v.count;
+      goes =
+          ends (λ k. v.read ++ (v.last ∷ k)) (λ k. v.read ++ (v.last ∷ k)) (λ k. refl) v.goes;
+    }
 
-    go : (ss : List Symbol) (o : Outcome A) → When o (Took T' L' X' here ss) (Halts T' L' here ss) → When (then_read o (λ y. pure (m y))) (Took T L X F ss) (Halts T L F ss)
-    go ss (Ok p) v = record { read = v.read; splits = v.splits; writes = w p.0 v.lawful ∙ ap F v.writes; lawful = l p.0 v.lawful; apart = apart_less (X' p.0) (X (m p.0)) (x p.0 v.lawful) p.1 v.apart }
+    go : (ss : List Symbol) (o : Outcome A) → When o (Took T' L' X' here ss) (Halts T' L' here ss) →
+        When (then_read o (λ y. pure (m y))) (Took T L X F ss) (Halts T L F ss)
+    go ss (Ok p) v = record {
+      read = v.read;
+      splits = v.splits;
+      writes = w p.0 v.lawful ∙ ap F v.writes;
+      lawful = l p.0 v.lawful;
+      apart =
+          apart_less (X' p.0) (X (m p.0)) (x p.0 v.lawful) p.1 v.apart;
+    }
     go ss (Err e) v = halts ss e v
 
 -- What is read behind a symbol.
-pub behind_symbol : {B : Type 0} (T : B → List Symbol) (L : B → Type 0) (X : B → Symbol → Bool) (F : List Symbol → List Symbol) (s : Symbol) (ss : List Symbol) (o : Outcome B) →
+pub behind_symbol : {B : Type 0} (T : B → List Symbol) (L : B → Type 0) (X : B → Symbol → Bool) (F : List Symbol →
+    List Symbol) (s : Symbol) (ss : List Symbol) (o : Outcome B) →
     When o (Took T L X (λ k. F (s ∷ k)) ss) (Halts T L (λ k. F (s ∷ k)) ss) → When o (Took T L X F (s ∷ ss)) (Halts T L F (s ∷ ss))
 behind_symbol T L X F s ss (Ok p) w = record { read = s ∷ w.read; splits = ap (λ a. s ∷ a) w.splits; writes = w.writes; lawful = w.lawful; apart = w.apart }
 behind_symbol T L X F s ss (Err (bad n)) w = record { read = s ∷ w.read; left = w.left; splits = ap (λ a. s ∷ a) w.splits; count = w.count; goes = w.goes }
-behind_symbol T L X F s ss (Err (deep n)) w = record { read = s ∷ w.read; last = w.last; left = w.left; splits = ap (λ a. s ∷ a) w.splits; count = w.count; goes = w.goes }
+behind_symbol T L X F s ss (Err (deep n)) w = record {
+  read = s ∷ w.read;
+  last = w.last;
+  left = w.left;
+  splits =
+      ap (λ a. s ∷ a) w.splits;
+  count = w.count;
+  goes = w.goes;
+}
 
-pub sound_branch : {O B : Type 0} {T : B → List Symbol} {L : B → Type 0} {X : B → Symbol → Bool} {t : Symbol → Bool} {F : List Symbol → List Symbol} {f : Symbol → Option O} {g : O → Reader B} {r : Reader B} →
-    ((s : Symbol) (o : O) → t s ≡ false → f s ≡ Some o → Sound T L X none (λ k. F (s ∷ k)) (g o)) → Sound T L X (or_taken f t) F r → Sound T L X t F (branch f g r)
+pub sound_branch : {O B : Type 0} {T : B → List Symbol} {L : B → Type 0} {X : B → Symbol → Bool} {t : Symbol → Bool} {F : List Symbol →
+    List Symbol} {f : Symbol → Option O} {g : O → Reader B} {r : Reader B} →
+    ((s : Symbol) (o : O) → t s ≡ false → f s ≡ Some o → Sound T L X none (λ k. F (s ∷ k)) (g o)) →
+    Sound T L X (or_taken f t) F r → Sound T L X t F (branch f g r)
 unfolding branch
 sound_branch {O = O} {T = T} {L = L} {X = X} {t = t} {F = F} {f = f} {g = g} {r = r} h other = record { goes = other.goes; reads = go }
   where

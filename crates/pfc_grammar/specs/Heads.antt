@@ -73,7 +73,8 @@ as_plus_minus (Literal x) = None
 -- an operator between two sums
 abbrev pub as_relation : Symbol → Option Relation
 as_relation (Word n) = None
-as_relation (Sign n) = if_equal n EQUAL Eq (if_equal n NOT_EQUAL Ne (if_equal n LESS Lt (if_equal n LESS_EQUAL Le (if_equal n GREATER Gt (if_equal n GREATER_EQUAL Ge None)))))
+as_relation (Sign n) =
+    if_equal n EQUAL Eq (if_equal n NOT_EQUAL Ne (if_equal n LESS Lt (if_equal n LESS_EQUAL Le (if_equal n GREATER Gt (if_equal n GREATER_EQUAL Ge None)))))
 as_relation (Name x) = None
 as_relation (Number n) = None
 as_relation (Literal x) = None
@@ -145,11 +146,13 @@ begins_type s = takes (as_name s) || is_word CHANNEL s || is_word ARRAY s || is_
 
 -- the first symbol of a statement that is not empty
 abbrev pub begins_stmt : Symbol → Bool
-begins_stmt s = takes (as_name s) || is_word NULL s || is_word BEGIN s || is_word IF s || is_word CASE s || is_word WHILE s || is_word REPEAT s || is_word FOR s || is_word COBEGIN s || is_word ACCEPT s || is_word REQUEUE s || is_word PRI s || is_word SELECT s
+begins_stmt s = takes (as_name s) || is_word NULL s || is_word BEGIN s || is_word IF s || is_word CASE s || is_word WHILE s || is_word REPEAT s ||
+    is_word FOR s || is_word COBEGIN s || is_word ACCEPT s || is_word REQUEUE s || is_word PRI s || is_word SELECT s
 
 -- the first symbol of a part that is a block
 abbrev pub begins_block : Home → Symbol → Bool
-begins_block h s = is_word PROCEDURE s || is_word FUNCTION s || takes (as_word_of_resource h GUARDED s) || takes (as_word_of_program h MONITOR s) || takes (as_word_of_program h RESOURCE s) || takes (as_word_of_program h PROCESS s)
+begins_block h s = is_word PROCEDURE s || is_word FUNCTION s || takes (as_word_of_resource h GUARDED s) || takes (as_word_of_program h MONITOR s) || takes
+    (as_word_of_program h RESOURCE s) || takes (as_word_of_program h PROCESS s)
 
 -- the first symbol of a part
 abbrev pub begins_part : Home → Symbol → Bool

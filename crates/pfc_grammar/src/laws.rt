@@ -42,8 +42,10 @@ pub fn a_program_begins_no_other()
 pub fn a_reading_of_tokens_is_exact()
     ensures bare { (tokens : List Token) → bare_outcome (read_tokens tokens) ≡ read_program (symbols tokens) }
     ensures read { (tokens rest : List Token) (tree : ProgramTree) → read_tokens tokens ≡ Ok (tree, rest) → IsTreeOf tokens tree }
-    ensures within { (tokens rest : List Token) (tree : ProgramTree) → read_tokens tokens ≡ Ok (tree, rest) → All (λ d. d ≤ most_depth) (depths_of (forget_program tree)) }
-    ensures back { (tokens : List Token) (shape : ProgramShape) → IsLawful shape → All (λ d. d ≤ most_depth) (depths_of shape) → symbols tokens ≡ tokens_of shape → bare_outcome (read_tokens tokens) ≡ Ok (shape, []) }
+    ensures within { (tokens rest : List Token) (tree : ProgramTree) → read_tokens tokens ≡ Ok (tree, rest) →
+        All (λ d. d ≤ most_depth) (depths_of (forget_program tree)) }
+    ensures back { (tokens : List Token) (shape : ProgramShape) → IsLawful shape → All (λ d. d ≤ most_depth) (depths_of shape) →
+        symbols tokens ≡ tokens_of shape → bare_outcome (read_tokens tokens) ≡ Ok (shape, []) }
     ensures level { (tokens rest : List Token) (tree : ProgramTree) (place : ℕ) → read_tokens tokens ≡ Ok (tree, rest) → IsDeep (symbols tokens) place → ⊥ }
     ensures unexpected { (tokens : List Token) (left : ℕ) → read_tokens tokens ≡ Err (bad left) → IsSyntaxFault (symbols tokens) 201 (length tokens - left) }
     ensures too_deep { (tokens : List Token) (left : ℕ) → read_tokens tokens ≡ Err (deep left) → IsSyntaxFault (symbols tokens) 202 (length tokens - left) }
@@ -56,5 +58,6 @@ pub fn a_text_has_one_tree()
 
 /// The tree of the tokens is read, where it has no token deeper than 64.
 pub fn a_tree_of_tokens_is_read()
-    ensures { (tokens : List Token) (tree : ProgramTree) → IsTreeOf tokens tree → All (λ d. d ≤ most_depth) (depths_of (forget_program tree)) → read_tokens tokens ≡ Ok (tree, []) }
+    ensures { (tokens : List Token) (tree : ProgramTree) → IsTreeOf tokens tree →
+        All (λ d. d ≤ most_depth) (depths_of (forget_program tree)) → read_tokens tokens ≡ Ok (tree, []) }
 {}

@@ -35,7 +35,8 @@ module _ (g : Program) (standing : Standing) (c : Context) where
   target_unless false d suits = suits
 
   pub open_suits :
-      (a : Alternative) (s : Selecting) (offer : Offer) → SuitsAlternative g standing c.env a → SuitsSelecting g standing c.env s → SuitsOffer g standing c.env offer
+      (a : Alternative) (s : Selecting) (offer : Offer) → SuitsAlternative g standing c.env a →
+      SuitsSelecting g standing c.env s → SuitsOffer g standing c.env offer
       → SuitsSelecting g standing c.env (with_open a s offer)
   open_suits a s offer one all suits = (all_push (SuitsOpen g standing c.env) s.offered _ all.0 (suits, one.2), all.1)
 
@@ -44,13 +45,15 @@ module _ (g : Program) (standing : Standing) (c : Context) where
 
   -- ## All alternatives of a select
 
-  pub accepted_suits : (n : ℕ) (a : AcceptTree) (line : ℕ) → SuitsAccept g standing c.env n a → SuitsOffer g standing c.env (to_accept (accepting_of c n a line))
+  pub accepted_suits : (n : ℕ) (a : AcceptTree) (line : ℕ) → SuitsAccept g standing c.env n a →
+      SuitsOffer g standing c.env (to_accept (accepting_of c n a line))
   accepted_suits n (accept x gs p) line suits = tt
   accepted_suits n (accept_do x gs s p) line suits = suits
 
   spread_suits :
       (n : ℕ) (spread : Option Spread) (guard : Option ExprTree) (comm : CommTree) (ss : StmtTrees) → SuitsPerhaps g standing c.env guard
-      → SuitsComm g standing c.env n comm → SuitStmts g standing c.env (n + comm_scopes comm) ss → SuitAlternatives g standing c.env (spread_out c n spread guard comm ss)
+      → SuitsComm g standing c.env n comm → SuitStmts g standing c.env (n + comm_scopes comm) ss →
+      SuitAlternatives g standing c.env (spread_out c n spread guard comm ss)
   spread_suits n None guard comm ss test met behind = ((test, met, behind), tt)
   spread_suits n (Some s) guard comm ss test met behind =
       all_map (SuitsAlternative g standing c.env) (λ (r : Replica). alternative n guard comm ss (Some r)) (λ r. (test, met, behind)) (replicas c s)
@@ -68,15 +71,18 @@ module _ (g : Program) (standing : Standing) (scanned : Scan → Type 0) (c : Co
   GoesOn go = (s : Selecting) → SuitsSelecting g standing c.env s → SuitsAction g standing scanned (go s)
 
   pub seconds_suit :
-      (a : Alternative) (s : Selecting) (go : Selecting → Action) (v : Value) → SuitsAlternative g standing c.env a → SuitsSelecting g standing c.env s → GoesOn go
+      (a : Alternative) (s : Selecting) (go : Selecting → Action) (v : Value) → SuitsAlternative g standing c.env a →
+      SuitsSelecting g standing c.env s → GoesOn go
       → SuitsAction g standing scanned (from_seconds c a s go v)
   seconds_suit a s go v one all on =
       let open_one = with_open a s (to_wait (ordinal_of v)) in
       either g standing scanned (int_lt (ordinal_of v) (pos 0)) (faults c Below) (go open_one) tt
       (on open_one (open_suits g standing c a s (to_wait (ordinal_of v)) one all tt))
 
-  module _ (a : Alternative) (one : SuitsAlternative g standing c.env a) (rest : List Alternative) (others : SuitAlternatives g standing c.env rest) (s : Selecting)
-      (all : SuitsSelecting g standing c.env s) (k : Remainder) (left : SuitsRemainder g standing scanned c.env k) (go : Selecting → Action) (on : GoesOn go) where
+  module _ (a : Alternative) (one : SuitsAlternative g standing c.env a) (rest : List Alternative)
+      (others : SuitAlternatives g standing c.env rest) (s : Selecting)
+      (all : SuitsSelecting g standing c.env s) (k : Remainder) (left : SuitsRemainder g standing scanned c.env k)
+      (go : Selecting → Action) (on : GoesOn go) where
     offered : (offer : Offer) → SuitsOffer g standing c.env offer → SuitsAction g standing scanned (go (with_open a s offer))
     offered offer suits = on (with_open a s offer) (open_suits g standing c a s offer one all suits)
 
@@ -98,7 +104,8 @@ module _ (g : Program) (standing : Standing) (scanned : Scan → Type 0) (c : Co
     comm_suits (comm_accept x p) suits = offered (to_accept (accepting_of c a.next x p.line)) (accepted_suits g standing c a.next x p.line suits)
     comm_suits (comm_send d e p) suits =
         let message = perhaps_unless g standing c (names_any c.env (as_desig e)) e suits.1 in
-        desig_suits g standing scanned c d suits.0 (offer_to (message_of c e) a rest s k) (λ channel. from_message c channel.spot (message_of c e) a rest s k go)
+        desig_suits g standing scanned c d suits.0 (offer_to (message_of c e) a rest s k)
+        (λ channel. from_message c channel.spot (message_of c e) a rest s k go)
         (message, one, others, all, left) (λ channel. message_suits channel.spot (message_of c e) message)
     comm_suits (comm_receive d v p) suits =
         let target = target_unless g standing c (names_any c.env (Some v)) v suits.1 in

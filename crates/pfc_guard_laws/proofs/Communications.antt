@@ -72,7 +72,8 @@ module _ (g : Program) (standing : Standing) (env : Env) where
     replica_behind (Some r) k left = left
 
     pub open_behind :
-        (o : Open) (k : Remainder) → SuitsOpen g standing env o → SuitsRemainder g standing scanned env k → SuitsRemainder g standing scanned env (behind_open o k)
+        (o : Open) (k : Remainder) → SuitsOpen g standing env o → SuitsRemainder g standing scanned env k →
+        SuitsRemainder g standing scanned env (behind_open o k)
     open_behind o k suits left = replica_behind o.replica (behind o.next o.stmts k) (behind_suits g standing scanned env o.next o.stmts k suits.1 left)
 
     -- ## Partners
@@ -88,7 +89,8 @@ module _ (g : Program) (standing : Standing) (env : Env) where
             in_names (within_accept x.env a.scope)
             (perform (a.scope + 1) (more_stmts a.stmt no_stmts) (part_from caller a.line (in_names x.env (behind o.next o.stmts k))))
 
-        either_replica : (r : Option Replica) → SuitsRemainder g standing scanned x.env inside → SuitsRemainder g standing scanned x.env (behind_replica r inside)
+        either_replica : (r : Option Replica) → SuitsRemainder g standing scanned x.env inside →
+            SuitsRemainder g standing scanned x.env (behind_replica r inside)
         either_replica None is = is
         either_replica (Some r) is = is
 
@@ -244,7 +246,8 @@ module _ (g : Program) (tops : Option Tops) (scanned : List Activation → Scan 
       -- ## Selects
 
       takes_suit :
-          (k : Remainder) (o : Option Open) → SuitsChosen g (standing_in tops (owns p)) x.env o → SuitsRemainder g (standing_in tops (owns p)) (scanned (owns p)) x.env k
+          (k : Remainder) (o : Option Open) → SuitsChosen g (standing_in tops (owns p)) x.env o →
+          SuitsRemainder g (standing_in tops (owns p)) (scanned (owns p)) x.env k
           → SuitsConfig g tops scanned owns (takes g c p x k o)
       takes_suit k None at left = suits
       takes_suit k (Some o) at left = communicates_suit o k (partner_at c p (arm_of g c p o.offer)) at left
@@ -273,7 +276,8 @@ module _ (g : Program) (tops : Option Tops) (scanned : List Activation → Scan 
             (owns, goes_behind_own t.at k at left) (closed_suits (Some t) s.offered at)
 
         otherwise_suits :
-            (other : Option Otherwise) → SuitsOtherwise g (standing_in tops (owns p)) x.env other → SuitsEffect g tops scanned (goes_otherwise g c p x s k other)
+            (other : Option Otherwise) → SuitsOtherwise g (standing_in tops (owns p)) x.env other →
+            SuitsEffect g tops scanned (goes_otherwise g c p x s k other)
         otherwise_suits (Some other) stmts = (
           owns,
           on_it_goes g tops scanned owns c p x (behind other.next other.stmts k) suits

@@ -81,7 +81,8 @@ IsReturned g scanned c p =
     (a : Activation) (below own : List Activation) (env : Env) (k : Remainder) (r : ℕ) → (activity_of g c p).activations ≡ a ∷ below
     → a.caller ≡ of_remainder env k → StandsOn own below → a.mark ≡ of_resource r → scanned own (scan_of g r leave)
 
-module _ (g : Program) (tops : Option Tops) (program : SuitsInOrder g tops) (scanned : List Activation → Scan → Type 0) (requeued_so : IsRequeued g scanned) where
+module _ (g : Program) (tops : Option Tops) (program : SuitsInOrder g tops) (scanned : List Activation → Scan →
+    Type 0) (requeued_so : IsRequeued g scanned) where
   -- behind a requeue the process scans, and then tries its own guard
   requeue_left :
       (scope : ℕ) (m : Mark) → RequeuesFrom g m scope → (own : List Activation)
@@ -89,7 +90,8 @@ module _ (g : Program) (tops : Option Tops) (program : SuitsInOrder g tops) (sca
       SuitsRemainder g (standing_at tops m b.scope) (scanned own) b.env (scan_on (scan_of g r (way_to g r b b.guard)) (in_names b.env (body_of b))))
   requeue_left scope (of_resource r) may own = (
     by (block_at g scope).guard refl may.1,
-    λ (i : Env). body_suits g tops program (standing_at tops (of_resource r) (block_at g scope).scope) (scanned own) (block_at g scope) (entered_suits g tops program scope r may.0),
+    λ (i : Env). body_suits g tops program (standing_at tops (of_resource r) (block_at g scope).scope) (scanned own) (block_at g scope)
+        (entered_suits g tops program scope r may.0),
   )
     where
       by : (o : Option Guard) → (block_at g scope).guard ≡ o → is_some o ≡ true
@@ -253,12 +255,17 @@ module _ (g : Program) (tops : Option Tops) (program : SuitsInOrder g tops) (sca
     ended_suits =
         let a : Activity = activity_of g c p in (
           owns,
-          with_activity_suits g tops scanned owns (record c { store = without_all c.store a.activations; table = finished c.table p }) p (ended_activity a) suits
+          with_activity_suits g tops scanned owns (record c {
+            store = without_all c.store a.activations;
+            table =
+                finished c.table p;
+          }) p (ended_activity a) suits
               (record { stands = tt; doing = (suits p).doing; activations = tt; ordered = none_ordered tops; hand = tt }),
         )
 
     module _ (a : Activation) (below : List Activation) (innermost : (activity_of g c p).activations ≡ a ∷ below)
-        (others : SuitActivations g tops scanned below) (so : IsOrdered tops below) (own : List Activation) (stands : StandsOn own below) (returned : IsReturned g scanned c p) where
+        (others : SuitActivations g tops scanned below) (so : IsOrdered tops below) (own : List Activation) (stands : StandsOn own below)
+        (returned : IsReturned g scanned c p) where
       returns_suit :
           (env : Env) (k : Remainder) (mark : Mark) → a.caller ≡ of_remainder env k → a.mark ≡ mark
           → SuitsRemainder g (standing_in tops own) (scanned own) env k → SuitsEffect g tops scanned (Ok (returns_to g c p a below env k mark))
@@ -268,7 +275,8 @@ module _ (g : Program) (tops : Option Tops) (program : SuitsInOrder g tops) (sca
           left_suits g tops scanned owns c p a below own (going env (scan_on (scan_of g r leave) (in_names env k))) suits stands others so
           ((returned a below own env k r innermost is stands marked, tt), λ (i : Env). left)
 
-      ends_suit : (caller : Caller) → a.caller ≡ caller → SuitsCaller g tops scanned own caller → SuitsEffect g tops scanned (Ok (ends_for g c p a below caller))
+      ends_suit : (caller : Caller) → a.caller ≡ caller → SuitsCaller g tops scanned own caller →
+          SuitsEffect g tops scanned (Ok (ends_for g c p a below caller))
       ends_suit of_nobody is awaited = ended_suits
       ends_suit (of_remainder env k) is awaited = returns_suit env k a.mark is refl awaited
       ends_suit (of_value x u) is awaited = left_suits g tops scanned owns c p a below own (holding x (result_in g c a) u) suits stands others so awaited
@@ -306,7 +314,8 @@ module _ (g : Program) (tops : Option Tops) (program : SuitsInOrder g tops) (sca
         slept_suits zero = on x k left
         slept_suits (suc n) =
             let due : ℕ = c.table.moment + 1000 * suc n in
-            effect_either g tops scanned (nat_le due latest) (Ok (with_table (goes_on g c p x k) (blocked c.table p (Sleep due) []))) (Err Late) (on x k left) tt
+            effect_either g tops scanned (nat_le due latest)
+            (Ok (with_table (goes_on g c p x k) (blocked c.table p (Sleep due) []))) (Err Late) (on x k left) tt
 
         sleeps_suit : (n : ℤ) → SuitsEffect g tops scanned (sleeps_for g c p x n k)
         sleeps_suit (pos n) = slept_suits n
@@ -342,13 +351,18 @@ module _ (g : Program) (tops : Option Tops) (program : SuitsInOrder g tops) (sca
         scanned_suits s (Some w) scan bar = on x (try_other w s k) (bar w refl, scan, left)
 
         barred_suits : (b : Bar) → SuitsBar g tops b → SuitsEffect g tops scanned (Ok (showing g (goes_on g c p x k) p (barred_at b)))
-        barred_suits b bar = (owns, it_shows g tops scanned owns (goes_on g c p x k) p (barred_at b) (on_it_goes g tops scanned owns c p x k suits (left x.env)) bar)
+        barred_suits b bar = (
+          owns,
+          it_shows g tops scanned owns (goes_on g c p x k) p (barred_at b)
+              (on_it_goes g tops scanned owns c p x k suits (left x.env)) bar,
+        )
 
         passed_suits : (w : Tried) (r : ℕ) (way : Way) → SuitsWay g tops way → SuitsEffect g tops scanned (Ok (passed_by g c p x w k r way))
         passed_suits w r leave way = on x k (left x.env)
         passed_suits w r (trying b) way = barred_suits b way
 
-    tried_suits : (q : ℕ) (hand : Hand) (ticket : Option ℕ) → SuitsHand g tops scanned (owns q) hand → (t : Tried) → tried q hand ticket ≡ Some t → SuitsBar g tops t.bar
+    tried_suits : (q : ℕ) (hand : Hand) (ticket : Option ℕ) → SuitsHand g tops scanned (owns q) hand → (t : Tried) →
+        tried q hand ticket ≡ Some t → SuitsBar g tops t.bar
     tried_suits q (barred_at b) (Some ticket) shown t e = subst (λ (o : Option Tried). bar_in o) e shown
       where
         bar_in : Option Tried → Type 0

@@ -38,7 +38,8 @@ module _ (g : Program) (standing : Standing) (scanned : Scan → Type 0) where
   abbrev pub Arrives : (TypedSpot → Action) → Type 0
   Arrives go = (s : TypedSpot) → SuitsAction g standing scanned (go s)
 
-  pub either : (b : Bool) (n m : Action) → SuitsAction g standing scanned n → SuitsAction g standing scanned m → SuitsAction g standing scanned (if b then n else m)
+  pub either : (b : Bool) (n m : Action) → SuitsAction g standing scanned n → SuitsAction g standing scanned m →
+      SuitsAction g standing scanned (if b then n else m)
   either true n m first second = first
   either false n m first second = second
 
@@ -78,8 +79,10 @@ module _ (g : Program) (standing : Standing) (scanned : Scan → Type 0) where
 
     name_suits :
         (m : Option Meaning) (u : AwaitsValue) (go : Value → Action) (variable : AwaitsLocation → (TypedSpot → Action) → Action)
-        (called : List Formal → Call → Action) (predeclared : Function → Action) → SuitsName g standing c.env m → SuitsAwaiting g standing scanned c.env u → Goes go
-        → Locates variable → ((formals : List Formal) (call : Call) → SuitsCalling g standing scanned c.env call → SuitsAction g standing scanned (called formals call))
+        (called : List Formal → Call → Action) (predeclared : Function → Action) → SuitsName g standing c.env m →
+        SuitsAwaiting g standing scanned c.env u → Goes go
+        → Locates variable → ((formals : List Formal) (call : Call) → SuitsCalling g standing scanned c.env call →
+        SuitsAction g standing scanned (called formals call))
         → ((f : Function) → SuitsAction g standing scanned (predeclared f)) → SuitsAction g standing scanned (from_name c m u go variable called predeclared)
     name_suits (Some (Constant t n)) u go variable called predeclared suits waits on located made asks = on (ordinal n)
     name_suits (Some (Variable t reference)) u go variable called predeclared suits waits on located made asks =
@@ -197,7 +200,8 @@ module _ (g : Program) (standing : Standing) (scanned : Scan → Type 0) where
           selectors_suit ss suits.1 (field_spot c.env.state.forms s x) goal go waits on
 
       pub indices_suit :
-          (es : ExprTrees) → SuitExprs g standing c.env es → (ss : SelectorTrees) → SuitSelectors g standing c.env ss → (s : TypedSpot) → Locates (from_indices c s es ss)
+          (es : ExprTrees) → SuitExprs g standing c.env es → (ss : SelectorTrees) → SuitSelectors g standing c.env ss →
+          (s : TypedSpot) → Locates (from_indices c s es ss)
       indices_suit no_exprs suits ss behind s goal go waits on = on s
       indices_suit (more_exprs e es) suits ss behind s goal go waits on =
           expr_suits e suits.0 (index_into s es ss goal)

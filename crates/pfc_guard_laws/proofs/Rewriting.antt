@@ -37,7 +37,8 @@ module _ (g : Program) (standing : Standing) (scanned : Scan → Type 0) (past :
       (c : Context) (w : Tried) → SuitsBar g standing.tops w.bar → (s : Scan) → SuitsScan g standing.tops scanned s → (k : Remainder)
       → ((e : Env) → SuitsRemainder g standing scanned e k) → (v : Value) → SuitsAction g standing scanned (from_other c w s k v)
   other_suits c w bar s scan k left v =
-      either g standing scanned (is_true (ordinal_of v)) (passes c w s k) (scans (context c.env s.line) (record s { after = Some w.ticket }) k) (bar, scan, left)
+      either g standing scanned (is_true (ordinal_of v)) (passes c w s k)
+      (scans (context c.env s.line) (record s { after = Some w.ticket }) k) (bar, scan, left)
       (refl, (past s (Some w.ticket) scan.0, scan.1), left)
 
   pub remainder_suits : (env : Env) (k : Remainder) → SuitsRemainder g standing scanned env k → SuitsAction g standing scanned (from_remainder env k)
@@ -75,7 +76,8 @@ module _ (g : Program) (standing : Standing) (scanned : Scan → Type 0) (past :
       (λ v. other_suits w.bar.context w left.0 s left.1 k left.2 v)
 
   module _ (c : Context) where
-    pub location_suits : (goal : AwaitsLocation) → SuitsGoal g standing scanned c.env goal → (s : TypedSpot) → SuitsAction g standing scanned (from_location c goal s)
+    pub location_suits : (goal : AwaitsLocation) → SuitsGoal g standing scanned c.env goal → (s : TypedSpot) →
+        SuitsAction g standing scanned (from_location c goal s)
     location_suits (read_for u) suits s = suits
     location_suits (assign_to e k) suits s =
         expr_suits g standing scanned c e suits.0 (store_at s.spot k) (λ v. writes c s.spot v k) suits.1 (λ v. suits.1)
@@ -164,7 +166,8 @@ module _ (g : Program) (standing : Standing) (scanned : Scan → Type 0) (past :
         opened_suits g standing scanned c a suits.0 rest suits.1 s suits.2 k suits.3 (λ t. from_alternatives c rest t k)
         (λ t found. alternatives_suit g standing scanned c rest suits.1 t found k suits.3) v
     value_suits (offer_value channel a rest s k) suits v =
-        alternatives_suit g standing scanned c rest suits.1 (with_open a s (to_send channel v)) (open_suits g standing c a s (to_send channel v) suits.0 suits.2 tt) k
+        alternatives_suit g standing scanned c rest suits.1 (with_open a s (to_send channel v))
+        (open_suits g standing c a s (to_send channel v) suits.0 suits.2 tt) k
         suits.3
     value_suits (offer_wait a rest s k) suits v =
         seconds_suit g standing scanned c a s (λ t. from_alternatives c rest t k) v suits.0 suits.2

@@ -65,7 +65,8 @@ module _ (g : Program) (tops : Option Tops) (scanned : List Activation → Scan 
   )
 
   pub after_suits :
-      (c : Config) (p line : ℕ) (e : Effect) → SuitsEffect g tops scanned (Ok c) → SuitsEffect g tops scanned e → SuitsEffect g tops scanned (Ok (after g c p line e))
+      (c : Config) (p line : ℕ) (e : Effect) → SuitsEffect g tops scanned (Ok c) → SuitsEffect g tops scanned e →
+      SuitsEffect g tops scanned (Ok (after g c p line e))
   after_suits c p line (Ok d) so effect = done_suits d p line effect
   after_suits c p line (Err f) so effect =
       done_suits (record c { fault = Some (record { process = p; line = line; fault = f }) }) p line so

@@ -84,7 +84,8 @@ module _ (g : Program) (standing : Standing) (scanned : Scan → Type 0) (c : Co
 
   -- ## Assignments and output
 
-  assign_suits : (d : DesigTree) (e : ExprTree) (k : Remainder) → SuitsDesig g standing c.env d → SuitsExpr g standing c.env e → Left k → Comes (from_assign c d e k)
+  assign_suits : (d : DesigTree) (e : ExprTree) (k : Remainder) → SuitsDesig g standing c.env d →
+      SuitsExpr g standing c.env e → Left k → Comes (from_assign c d e k)
   assign_suits d e k target value left =
       desig_suits g standing scanned c d target (assign_to e k) (λ s. from_expr c e (store_at s.spot k) (λ v. writes c s.spot v k)) (value, left)
       (λ s. expr_suits g standing scanned c e value (store_at s.spot k) (λ v. writes c s.spot v k) left (λ v. left))
@@ -102,7 +103,8 @@ module _ (g : Program) (standing : Standing) (scanned : Scan → Type 0) (c : Co
   string_suits (Some x) e k suits left = left
 
   wide_suits :
-      (x : Option Text) (e w : ExprTree) (k : Remainder) → SuitsExpr g standing c.env e → SuitsExpr g standing c.env w → Left k → Comes (from_wide_string c x e w k)
+      (x : Option Text) (e w : ExprTree) (k : Remainder) → SuitsExpr g standing c.env e → SuitsExpr g standing c.env w →
+      Left k → Comes (from_wide_string c x e w k)
   wide_suits None e w k suits width left =
       let t = expr_type c.env e in
       expr_suits g standing scanned c e suits (show_wide t w k) (λ v. from_expr c w (pad (shown_as t v) k) (from_width c (shown_as t v) k)) (width, left)
@@ -127,7 +129,8 @@ module _ (g : Program) (standing : Standing) (scanned : Scan → Type 0) (c : Co
       let t = desig_type c.env d in desig_suits g standing scanned c d suits (input_to t k) (λ s. inputs c t s.spot k) left (λ s. left)
 
   pub reads_suit :
-      (args : ActualTrees) (skip : Bool) (k : Remainder) (go : Action) → SuitActuals g standing c.env args → Left k → Comes go → Comes (from_reads c args skip k go)
+      (args : ActualTrees) (skip : Bool) (k : Remainder) (go : Action) → SuitActuals g standing c.env args → Left k →
+      Comes go → Comes (from_reads c args skip k go)
   reads_suit no_actuals skip k go suits left on = either g standing scanned skip (skips c k) go left on
   reads_suit (more_actuals a rest) skip k go suits left on =
       input_suits (as_desig (item_of a)) (read_on c.line rest skip k) (from_reads c rest skip k go)
@@ -136,7 +139,8 @@ module _ (g : Program) (standing : Standing) (scanned : Scan → Type 0) (c : Co
   -- ## Predeclared procedures
 
   initial_suits :
-      (args : ActualTrees) (k : Remainder) (e : Option ExprTree) (go : Action) → SuitActuals g standing c.env args → Left k → SuitsPerhaps g standing c.env e → Comes go
+      (args : ActualTrees) (k : Remainder) (e : Option ExprTree) (go : Action) → SuitActuals g standing c.env args → Left k →
+      SuitsPerhaps g standing c.env e → Comes go
       → Comes (from_initial c args k e go)
   initial_suits args k None go suits left count on = on
   initial_suits args k (Some e) go suits left count on =
@@ -155,7 +159,8 @@ module _ (g : Program) (standing : Standing) (scanned : Scan → Type 0) (c : Co
   procedure_suits (reader skip) args k go suits left on = reads_suit args skip k go suits left on
   procedure_suits (writer newline) args k go suits left on = writes_suit args newline k go suits left on
   procedure_suits initial args k go suits left on =
-      initial_suits args k (expr_of (behind_first args)) go suits left (first_suits g standing c.env (behind_first args) (others_suit g standing c.env args suits)) on
+      initial_suits args k (expr_of (behind_first args)) go suits left (first_suits g standing c.env (behind_first args)
+      (others_suit g standing c.env args suits)) on
   procedure_suits wait args k go suits left on =
       reference_suits g standing scanned c args suits (wait_at k) (λ s. waits c s.spot k) left (λ s. left)
   procedure_suits signal args k go suits left on =
@@ -188,7 +193,8 @@ module _ (g : Program) (standing : Standing) (scanned : Scan → Type 0) (c : Co
       (suits, left) (λ p. args_suit g standing scanned c formals args suits [] (to_entry p.spot entry k) left)
 
   module _ (args : ActualTrees) (suits : SuitActuals g standing c.env args) (k : Remainder) (left : Left k) (go : Action) (on : Comes go) where
-    entry_suits : (n : ℕ) (s : TypedSpot) (ss : SelectorTrees) (m : Option Meaning) → SuitSelectors g standing c.env ss → Comes (from_entry c n s ss m args k go)
+    entry_suits : (n : ℕ) (s : TypedSpot) (ss : SelectorTrees) (m : Option Meaning) → SuitSelectors g standing c.env ss →
+        Comes (from_entry c n s ss m args k go)
     entry_suits n s ss (Some (Entry entry)) reached = entry_call_suits s ss entry (entry_at c.env.state.blocks n entry) args k reached suits left
     entry_suits n s ss m reached = on
 
@@ -239,7 +245,8 @@ module _ (g : Program) (standing : Standing) (scanned : Scan → Type 0) (c : Co
     requeue_suits m named = on
 
   call_suits :
-      (d : DesigTree) (args : ActualTrees) (k : Remainder) (go : Action) → SuitsCall g standing c.env d args → Left k → Comes go → Comes (from_call c d args k go)
+      (d : DesigTree) (args : ActualTrees) (k : Remainder) (go : Action) → SuitsCall g standing c.env d args → Left k →
+      Comes go → Comes (from_call c d args k go)
   call_suits (desig x ss p) args k go suits left on =
       let found = find c.env x in called_suits args suits.2 k left go on (meaning_of found) (spot_of c.env found) ss suits.0 suits.1
 
@@ -250,7 +257,8 @@ module _ (g : Program) (standing : Standing) (scanned : Scan → Type 0) (c : Co
   sent_suits channel (Some e) k suits left =
       expr_suits g standing scanned c e suits (send_on channel k) (λ v. meets c (plain_open (to_send channel v)) k) left (λ v. ((tt, tt), left))
 
-  send_suits : (d : DesigTree) (e : ExprTree) (k : Remainder) → SuitsDesig g standing c.env d → SuitsExpr g standing c.env e → Left k → Comes (from_send c d e k)
+  send_suits : (d : DesigTree) (e : ExprTree) (k : Remainder) → SuitsDesig g standing c.env d →
+      SuitsExpr g standing c.env e → Left k → Comes (from_send c d e k)
   send_suits d e k reached suits left =
       let message = perhaps_unless g standing c (names_any c.env (as_desig e)) e suits in
       desig_suits g standing scanned c d reached (send_to (message_of c e) k) (λ channel. from_sent c channel.spot (message_of c e) k) (message, left)
@@ -340,7 +348,8 @@ module _ (g : Program) (standing : Standing) (scanned : Scan → Type 0) where
         requeue_suits g standing scanned (context env p.line) args suits.1 k left go on (meaning_of (find env x.0)) suits.0
     stmt_suits env n (select pri alts p q) suits k left go on =
         let c = context env p.line in
-        alternatives_suit g standing scanned c (alternatives c n alts) (all_suit g standing c n alts suits) (select_begun pri) (begun_suits g standing c pri) k left
+        alternatives_suit g standing scanned c (alternatives c n alts) (all_suit g standing c n alts suits)
+        (select_begun pri) (begun_suits g standing c pri) k left
     stmt_suits env n (select_else pri alts ss at p q) suits k left go on =
         let c = context env p.line in
         let otherwise : Otherwise = record { next = n + alts_scopes alts; stmts = ss } in

@@ -153,7 +153,13 @@ module _ (g : Program) (tops : Option Tops) (scanned : List Activation → Scan 
         (c : Config) (p : ℕ) (doing : Doing) → SuitsConfig g tops scanned owns c → SuitsDoing g (standing_in tops (owns p)) (scanned (owns p)) doing
         → SuitsConfig g tops scanned owns (doing_next g c p doing)
     does_next c p doing suits does =
-        with_activity_suits owns c p _ suits (record { stands = (suits p).stands; doing = does; activations = (suits p).activations; ordered = (suits p).ordered; hand = tt })
+        with_activity_suits owns c p _ suits (record {
+          stands = (suits p).stands;
+          doing = does;
+          activations = (suits p).activations;
+          ordered = (suits p).ordered;
+          hand = tt;
+        })
 
     pub on_it_goes :
         (c : Config) (p : ℕ) (x : Context) (k : Remainder) → SuitsConfig g tops scanned owns c
@@ -206,7 +212,8 @@ module _ (g : Program) (tops : Option Tops) (scanned : List Activation → Scan 
 
     pub left_suits :
         (c : Config) (p : ℕ) (a : Activation) (below own : List Activation) (doing : Doing) → SuitsConfig g tops scanned owns c → StandsOn own below
-        → SuitActivations g tops scanned below → IsOrdered tops below → SuitsDoing g (standing_in tops own) (scanned own) doing → SuitsEffect (Ok (left_by g c p a below doing))
+        → SuitActivations g tops scanned below → IsOrdered tops below → SuitsDoing g (standing_in tops own) (scanned own) doing →
+        SuitsEffect (Ok (left_by g c p a below doing))
     left_suits c p a below own doing suits stands others so does = (
       instead owns p own,
       instead_suits owns (record c { store = without c.store a.number }) p own _ suits

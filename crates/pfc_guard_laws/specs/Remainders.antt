@@ -51,7 +51,8 @@ module _ (g : Program) (standing : Standing) where
   SuitOpens env os = AllByRecursion (SuitsOpen env) os
 
   abbrev pub SuitsAlternative : Env → Alternative → Type 0
-  SuitsAlternative env a = SuitsPerhaps g standing env a.guard × SuitsComm g standing env a.next a.comm × SuitStmts g standing env (a.next + comm_scopes a.comm) a.stmts
+  SuitsAlternative env a = SuitsPerhaps g standing env a.guard × SuitsComm g standing env a.next a.comm ×
+      SuitStmts g standing env (a.next + comm_scopes a.comm) a.stmts
 
   abbrev pub SuitAlternatives : Env → List Alternative → Type 0
   SuitAlternatives env alts = AllByRecursion (SuitsAlternative env) alts
@@ -141,9 +142,11 @@ module _ (g : Program) (standing : Standing) (scanned : Scan → Type 0) where
     SuitsGoal env (receive_from d k) = SuitsTarget g standing env d × SuitsRemainder env k
     SuitsGoal env (receive_into channel k) = SuitsRemainder env k
     SuitsGoal env (offer_to e a rest s k) =
-        SuitsPerhaps g standing env e × SuitsAlternative g standing env a × SuitAlternatives g standing env rest × SuitsSelecting g standing env s × SuitsRemainder env k
+        SuitsPerhaps g standing env e × SuitsAlternative g standing env a × SuitAlternatives g standing env rest ×
+        SuitsSelecting g standing env s × SuitsRemainder env k
     SuitsGoal env (offer_from d a rest s k) =
-        SuitsTarget g standing env d × SuitsAlternative g standing env a × SuitAlternatives g standing env rest × SuitsSelecting g standing env s × SuitsRemainder env k
+        SuitsTarget g standing env d × SuitsAlternative g standing env a × SuitAlternatives g standing env rest ×
+        SuitsSelecting g standing env s × SuitsRemainder env k
     SuitsGoal env (offer_into channel a rest s k) =
         SuitsAlternative g standing env a × SuitAlternatives g standing env rest × SuitsSelecting g standing env s × SuitsRemainder env k
 

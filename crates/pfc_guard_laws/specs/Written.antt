@@ -106,7 +106,8 @@ abbrev mutual
   SuitsFactor g standing env (literal x p) = Unit {0}
   SuitsFactor g standing env (negation f p) = SuitsFactor g standing env f
   SuitsFactor g standing env (paren e p) = SuitsExpr g standing env e
-  SuitsFactor g standing env (applied (desig x ss q) args p) = SuitsName g standing env (meaning_of (find env x)) × SuitSelectors g standing env ss × SuitActuals g standing env args
+  SuitsFactor g standing env (applied (desig x ss q) args p) = SuitsName g standing env (meaning_of (find env x)) ×
+      SuitSelectors g standing env ss × SuitActuals g standing env args
 
   pub SuitSelectors : Program → Standing → Env → SelectorTrees → Type 0
   SuitSelectors g standing env no_selectors = Unit {0}
@@ -140,7 +141,8 @@ SuitsTarget g standing env None = Unit {0}
 SuitsTarget g standing env (Some d) = SuitsDesig g standing env d
 
 abbrev pub SuitsCall : Program → Standing → Env → DesigTree → ActualTrees → Type 0
-SuitsCall g standing env (desig x ss p) args = SuitsCalled g standing env (meaning_of (find env x)) ss × SuitSelectors g standing env ss × SuitActuals g standing env args
+SuitsCall g standing env (desig x ss p) args = SuitsCalled g standing env (meaning_of (find env x)) ss ×
+    SuitSelectors g standing env ss × SuitActuals g standing env args
 
 -- ## Statements, in an activation with this standing; the next scope of the text has the number n
 

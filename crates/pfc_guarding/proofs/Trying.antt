@@ -28,7 +28,8 @@ pub other_is :
 other_is t xs ys p q old d b other there h =
     let here : q < length xs = subst (λ n. q < n) (sym (as_many t xs ys p old h)) there.within in
     let e : Shown = shown d in
-    let apart : get_or (set (activities_shown t ys) p old) q e ≡ get_or (activities_shown t ys) q e = get_or-set_other (activities_shown t ys) p q old e other in
+    let apart : get_or (set (activities_shown t ys) p old) q e ≡ get_or (activities_shown t ys) q e =
+    get_or-set_other (activities_shown t ys) p q old e other in
     sym (get_or-map shown xs q d e here) ∙ ap (λ (l : List Shown). get_or l q e) h ∙ apart
     ∙ get_or_default (activities_shown t ys) q e (activity_shown t b) (subst (λ n. q < n) (sym (length-map ys (activity_shown t))) there.within)
     ∙ get_or-map (activity_shown t) ys q b (activity_shown t b) there.within ∙ ap (activity_shown t) (there.is b)
@@ -50,7 +51,8 @@ tried_is source g s c p a n (Some q) found before ready h =
     let b : Activity = get_or s.activities.items q a in
     let there : IsIn s.activities.items q b = record { within = within; is = λ d. get_or_default s.activities.items q d a within } in
     let seen : shown (activity_of g c q) ≡ activity_shown t b
-    = other_is t c.activities s.activities.items p q (shown_before source a n before.hand) (nobody g) b (waits_apart s.world.rows p q ready h.1) there before.activities in
+    = other_is t c.activities s.activities.items p q (shown_before source a n before.hand) (nobody g) b
+    (waits_apart s.world.rows p q ready h.1) there before.activities in
     h.2 t b there
     ∙ ap (λ (x : Shown). tried q x.hand (ticket_of (at s.world.rows q))) (sym seen)
     ∙ ap (λ (w : Table). tried q (activity_of g c q).hand (ticket_of (at w.rows q))) rows

@@ -25,7 +25,8 @@ abbrev pub IsTried : State → Option ℕ → Option Tried → Type 0
 IsTried s None found = found ≡ None
 IsTried s (Some q) found =
     (q < length s.world.rows) × IsWaiting (at s.world.rows q)
-    × ((t : Tables) (b : Activity) → IsIn s.activities.items q b → option_map (tried_view t) found ≡ tried q (hand_view t b.doing b.hand) (ticket_of (at s.world.rows q)))
+    × ((t : Tables) (b : Activity) → IsIn s.activities.items q b →
+    option_map (tried_view t) found ≡ tried q (hand_view t b.doing b.hand) (ticket_of (at s.world.rows q)))
 
 abbrev pub IsNext : State → ℕ → Option ℕ → Option Tried → Type 0
 IsNext s r after found = IsTried s (next_barred s.world.rows r after) found

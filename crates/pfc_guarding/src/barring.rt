@@ -11,7 +11,8 @@ use pfc_pending::{At, Bar};
 /// The process shows the guard.
 fn show_bar<'t>(state: &mut State<'t>, p: u32, bar: Bar<'t>)
     requires { p < length state.old.activities.items }
-    ensures activity { (a : Activity) → IsIn state.old.activities.items p a → state.new.activities.items ≡ set state.old.activities.items p (showing_bar a bar.entry) }
+    ensures activity { (a : Activity) → IsIn state.old.activities.items p a →
+        state.new.activities.items ≡ set state.old.activities.items p (showing_bar a bar.entry) }
     ensures count { length state.new.activities.items ≡ length state.old.activities.items }
     ensures kept { IsKept state.old state.new }
     ensures world { state.new.world ≡ state.old.world }

@@ -16,7 +16,8 @@ use pfc_pending::{Bar, Tried};
 
 /// The guard at which a process shows that it is barred; None where it shows none.
 fn shown_bar<'t>(hand: &Hand<'t>) -> Option<Bar<'t>>
-    ensures { (t : Tables) (d : Doing) (q : ℕ) (ticket : Option ℕ) → definitions.tried q (hand_at t result) ticket ≡ definitions.tried q (hand_view t d hand.now) ticket }
+    ensures { (t : Tables) (d : Doing) (q : ℕ) (ticket : Option ℕ) →
+        definitions.tried q (hand_at t result) ticket ≡ definitions.tried q (hand_view t d hand.now) ticket }
 {
     match hand {
         Hand::Barred(bar) => Some(*bar),
@@ -29,7 +30,8 @@ fn shown_bar<'t>(hand: &Hand<'t>) -> Option<Bar<'t>>
 /// The process with the guard at which it is barred, and its ticket; None where it shows no guard.
 fn barred_process<'t>(state: &State<'t>, q: u32) -> Option<Tried<'t>>
     requires { q < length state.now.world.rows }
-    ensures { (t : Tables) (b : Activity) → IsIn state.now.activities.items q b → option_map (tried_view t) result ≡ definitions.tried q (hand_view t b.doing b.hand) (ticket_of (at state.now.world.rows q)) }
+    ensures { (t : Tables) (b : Activity) → IsIn state.now.activities.items q b →
+        option_map (tried_view t) result ≡ definitions.tried q (hand_view t b.doing b.hand) (ticket_of (at state.now.world.rows q)) }
 {
     let i = q as usize;
     if state.activities.len() <= i {

@@ -104,7 +104,8 @@ wakes-before events (suc n) i j most lt within wakes = elim (cases_Bool (acts ev
 ]
 
 -- an event is before the later ones of its process
-pub same_process-before : (events : List Event) (i j : ℕ) → i < j → j < length events → has_same_process (event_at events i) (event_at events j) ≡ true → Before events i j
+pub same_process-before : (events : List Event) (i j : ℕ) → i < j → j < length events →
+    has_same_process (event_at events i) (event_at events j) ≡ true → Before events i j
 same_process-before events i j lt within h = direct lt within (cause-by_process events i j h)
 
 -- what leads to a later event is before it
@@ -167,7 +168,8 @@ module _ (events : List Event) (i : ℕ) where
       ]
 
   -- a test that finds a cause of an event before which this one is
-  some_cause-known : (n : ℕ) → ((k : ℕ) → k < n → From k → Contains (reached events i n) k) → Before events i n → some_cause events (reached events i n) n ≡ true
+  some_cause-known : (n : ℕ) → ((k : ℕ) → k < n → From k → Contains (reached events i n) k) → Before events i n →
+      some_cause events (reached events i n) n ≡ true
   some_cause-known n known b =
       let c = Before-cause b in
       list_any-contained (λ m. is_cause events m n) (reached events i n) c.0 (known c.0 c.1 c.3) c.2
@@ -178,7 +180,8 @@ module _ (events : List Event) (i : ℕ) where
     | inl last ↦
         let added : adds n ≡ true = elim f [
           | inl e ↦ or_left (eqb i n) (some_cause events (reached events i n) n) (eq-eqb i n (e ∙ last))
-          | inr b ↦ or_right (eqb i n) (some_cause events (reached events i n) n) (some_cause-known n (reached-complete n) (subst (λ v. Before events i v) last b))
+          | inr b ↦ or_right (eqb i n) (some_cause events (reached events i n) n) (some_cause-known n (reached-complete n)
+              (subst (λ v. Before events i v) last b))
         ] in
         subst (λ v. Contains (reached events i (suc n)) v) (sym last) (with_place-new (reached events i n) n (adds n) added)
     | inr other ↦ with_place-old (reached events i n) n k (adds n) (reached-complete n k (omega (arith, lt, other)) f)

@@ -92,7 +92,8 @@ module _ (events : List Event) (slots : List ℕ) (width : ℕ) where
       let parts : (k : ℕ) → Has slots joint k → Has slots clock k ⊎ Has slots other k =
       λ k h. elim (cases_lt k (get_or clock (get_or slots k 0) 0)) [
         | inl a ↦ inl a
-        | inr b ↦ let h' : k < max (get_or clock (get_or slots k 0) 0) (get_or other (get_or slots k 0) 0) = rw (greater (get_or slots k 0)) at h in inr (omega (arith, b, h'))
+        | inr b ↦ let h' : k < max (get_or clock (get_or slots k 0) 0) (get_or other (get_or slots k 0) 0) =
+            rw (greater (get_or slots k 0)) at h in inr (omega (arith, b, h'))
       ] in
       let left : (k : ℕ) → Has slots clock k → Has slots joint k = joins-kept clock other joint greater in
       let right : (k : ℕ) → Has slots other k → Has slots joint k = λ k h. rw (greater (get_or slots k 0)) (omega (arith, h)) in
@@ -144,12 +145,14 @@ module _ (events : List Event) (slots : List ℕ) (width : ℕ) where
       ]
 
   -- with the last event that has an object, all that have it are counted
-  pub object-counted : (t : Thing) (j i : ℕ) (clock : List ℕ) → j < length events → IsLastWith events t j i → Gathers events slots width j clock → Has slots clock i
+  pub object-counted : (t : Thing) (j i : ℕ) (clock : List ℕ) → j < length events → IsLastWith events t j i →
+      Gathers events slots width j clock → Has slots clock i
       → (k : ℕ) → k < j → has_thing t (event_at events k) ≡ true → Has slots clock k
   object-counted t j i clock within last g here k small h = elim (cases_eq k i) [
     | inl e ↦ subst (λ v. Has slots clock v) (sym e) here
     | inr other ↦ elim (cases_lt k i) [
-      | inl earlier ↦ g.closed k i here (shares-before k i earlier (omega (arith, last.below, within)) (shares-common t (event_at events k) (event_at events i) h last.has))
+      | inl earlier ↦ g.closed k i here (shares-before k i earlier (omega (arith, last.below, within))
+          (shares-common t (event_at events k) (event_at events i) h last.has))
       | inr later ↦ absurd (false≢true (sym (last.behind k (omega (arith, later, other)) small) ∙ h))
     ]
   ]
@@ -160,14 +163,16 @@ module _ (events : List Event) (slots : List ℕ) (width : ℕ) where
 
   -- every object of an event was looked at
   pub objects-counted : (j : ℕ) (clock : List ℕ) (d : Thing)
-      → ((m : ℕ) → m < length (event_at events j).things → (k : ℕ) → k < j → has_thing (get_or (event_at events j).things m d) (event_at events k) ≡ true → Has slots clock k)
+      → ((m : ℕ) → m < length (event_at events j).things → (k : ℕ) → k < j →
+      has_thing (get_or (event_at events j).things m d) (event_at events k) ≡ true → Has slots clock k)
       → HasAll events slots shares_thing j clock
   objects-counted j clock d each k small h =
       let f = shares-found (event_at events k) (event_at events j) d h in
       each f.0 f.1 k small f.2
 
   -- the three kinds of causes together
-  pub all-counted : (j : ℕ) (own objects clock : List ℕ) → HasAll events slots reaches j own → Keeps slots own objects → HasAll events slots shares_thing j objects → Keeps slots objects clock
+  pub all-counted : (j : ℕ) (own objects clock : List ℕ) → HasAll events slots reaches j own → Keeps slots own objects →
+      HasAll events slots shares_thing j objects → Keeps slots objects clock
       → ((event_at events j).joins ≡ true → (k : ℕ) → k < j → Has slots clock k) → HasAll events slots leads j clock
   all-counted j own objects clock first kept second also third k small h = elim (or_cases _ _ h) [
     | inl rest ↦ elim (or_cases _ _ rest) [ inl r ↦ also k (kept k (first k small r)) | inr s ↦ also k (second k small s) ]
@@ -175,7 +180,8 @@ module _ (events : List Event) (slots : List ℕ) (width : ℕ) where
   ]
 
   -- the gathered clock, with the count of the event itself
-  pub is_clock : (j : ℕ) (clock : List ℕ) → AreSlots events slots width → j < length events → Gathers events slots width j clock → HasAll events slots leads j clock
+  pub is_clock : (j : ℕ) (clock : List ℕ) → AreSlots events slots width → j < length events →
+      Gathers events slots width j clock → HasAll events slots leads j clock
       → IsClock events slots width j (set clock (get_or slots j 0) (j + 1))
   is_clock j clock are within g all =
       let mine = get_or slots j 0 in

@@ -23,7 +23,8 @@ same_thing-sym a b = refl
 
 module _ (events : List Event) (thing : Thing) (place : ℕ) where
   -- one event more
-  last-more : (b : Bool) → has_thing thing (event_at events place) ≡ b → (last : Option ℕ) → MatchOption last (NoneWith events thing 0 place) (IsLastWith events thing place)
+  last-more : (b : Bool) → has_thing thing (event_at events place) ≡ b → (last : Option ℕ) →
+      MatchOption last (NoneWith events thing 0 place) (IsLastWith events thing place)
       → MatchOption (cond b (Some place) last) (NoneWith events thing 0 (place + 1)) (IsLastWith events thing (place + 1))
   last-more true has last old = record { below = omega arith; has = has; behind = λ k from lt. absurd (omega (arith, from, lt)) }
   last-more false none None old = λ k from lt. elim (cases_eq k place) [

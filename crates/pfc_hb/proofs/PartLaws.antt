@@ -25,7 +25,8 @@ spot activation variable path = record { activation = activation; variable = var
 
 pub front-all : (s : Spot) → front (length s.path) s ≡ s
 front-all s =
-    let same : spot s.activation s.variable (take (length s.path) s.path) ≡ spot s.activation s.variable s.path = rw (take_all (length s.path) s.path (omega arith)) refl in
+    let same : spot s.activation s.variable (take (length s.path) s.path) ≡ spot s.activation s.variable s.path =
+    rw (take_all (length s.path) s.path (omega arith)) refl in
     same
 
 -- the spot of a part
@@ -127,7 +128,8 @@ lies_in-is_front inner outer h =
     let variable = eqb-true inner.variable outer.variable places.0 in
     let activation = eqb-true inner.activation outer.activation places.1 in
     let same : spot outer.activation outer.variable outer.path ≡ spot inner.activation inner.variable (take (length outer.path) inner.path) =
-    ap (λ v. spot v outer.variable outer.path) (sym activation) ∙ ap (λ v. spot inner.activation v outer.path) (sym variable) ∙ ap (λ v. spot inner.activation inner.variable v) (lies_in-path inner outer h) in
+    ap (λ v. spot v outer.variable outer.path) (sym activation) ∙ ap (λ v. spot inner.activation v outer.path) (sym variable) ∙
+    ap (λ v. spot inner.activation inner.variable v) (lies_in-path inner outer h) in
     same
 
 -- the number of one of so many fronts of a spot

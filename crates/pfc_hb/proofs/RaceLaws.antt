@@ -80,13 +80,15 @@ module _ (events : List Event) where
     | inl e ↦ subst (λ v. Contains (races_with events i (suc n)) (race_at i v)) (sym e)
         (Contains-append_right (races_with events i n) (kept (race_at i n) (passes i n)) (race_at i n)
         (kept-there (race_at i n) (passes i n) (and_from _ _ (lt-ltb i n (omega (arith, lt, e))) (subst (λ v. is_race events i v ≡ true) e h))))
-    | inr other ↦ Contains-append_left (races_with events i n) (kept (race_at i n) (passes i n)) (race_at i j) (races_with-there i n j (omega (arith, small, other)) lt h)
+    | inr other ↦ Contains-append_left (races_with events i n) (kept (race_at i n) (passes i n)) (race_at i j)
+        (races_with-there i n j (omega (arith, small, other)) lt h)
   ]
 
   races_with-sorted : (i n : ℕ) → AllPairs Precedes (races_with events i n)
   races_with-sorted i zero = all_pairs_none Precedes
   races_with-sorted i (suc n) =
-      all_pairs_append Precedes (races_with events i n) (kept (race_at i n) (passes i n)) (races_with-sorted i n) (kept-pairs Precedes (race_at i n) (passes i n))
+      all_pairs_append Precedes (races_with events i n) (kept (race_at i n) (passes i n)) (races_with-sorted i n)
+      (kept-pairs Precedes (race_at i n) (passes i n))
       (λ x y old new.
       let f = races_with-element i n x old in
       let k = kept-cases (race_at i n) y (passes i n) new in
@@ -109,7 +111,8 @@ module _ (events : List Event) where
       rw (races_with-no_accesses i n none, nothing) refl
 
   -- events of one process are in order, so the test of the processes adds nothing to that of the order
-  pub race-unordered : (i j : ℕ) → i < j → j < length events → is_race events i j ≡ (have_clash (event_at events i) (event_at events j) && not (is_before events i j))
+  pub race-unordered : (i j : ℕ) → i < j → j < length events →
+      is_race events i j ≡ (have_clash (event_at events i) (event_at events j) && not (is_before events i j))
   race-unordered i j lt within =
       own_ordered (have_clash (event_at events i) (event_at events j)) (has_same_process (event_at events i) (event_at events j)) (is_before events i j)
       (λ s. (is_before-decides events i j within).1 (same_process-before events i j lt within s))
@@ -133,7 +136,8 @@ module _ (events : List Event) where
   races_below-there : (m i : ℕ) (r : Race) → i < m → Contains (races_with events i (length events)) r → Contains (races_below events m) r
   races_below-there zero i r lt c = absurd (omega (arith, lt))
   races_below-there (suc m) i r lt c = elim (cases_eq i m) [
-    | inl e ↦ Contains-append_right (races_below events m) (races_with events m (length events)) r (subst (λ v. Contains (races_with events v (length events)) r) e c)
+    | inl e ↦ Contains-append_right (races_below events m) (races_with events m (length events)) r
+        (subst (λ v. Contains (races_with events v (length events)) r) e c)
     | inr other ↦ Contains-append_left (races_below events m) (races_with events m (length events)) r (races_below-there m i r (omega (arith, lt, other)) c)
   ]
 

@@ -27,7 +27,8 @@ same_variable-sym : (a b : Spot) → has_same_variable a b ≡ has_same_variable
 same_variable-sym a b =
     let turned : (s t : Spot) → has_same_variable s t ≡ true → has_same_variable t s ≡ true = λ s t h.
     let places = and_parts (eqb s.variable t.variable) (eqb s.activation t.activation) h in
-    and_from _ _ (eq-eqb t.variable s.variable (sym (eqb-true s.variable t.variable places.0))) (eq-eqb t.activation s.activation (sym (eqb-true s.activation t.activation places.1))) in
+    and_from _ _ (eq-eqb t.variable s.variable (sym (eqb-true s.variable t.variable places.0)))
+    (eq-eqb t.activation s.activation (sym (eqb-true s.activation t.activation places.1))) in
     same_answer (has_same_variable a b) (has_same_variable b a) (turned a b) (turned b a)
 
 -- accesses clash where one may clash with the other, and lies in it or holds it
@@ -97,12 +98,14 @@ same-inner s w ys h =
     let g = list_any-found (λ a. (w || a.write) && is_same_spot a.spot s) ys no_access h in
     let a = get_or ys g.0 no_access in
     let both = and_parts (w || a.write) (is_same_spot a.spot s) g.2 in
-    let own : lies_in a.spot a.spot ≡ true = subst (λ v. lies_in a.spot v ≡ true) (front-all a.spot) (lies_in-front a.spot (length a.spot.path) (omega arith)) in
+    let own : lies_in a.spot a.spot ≡ true =
+    subst (λ v. lies_in a.spot v ≡ true) (front-all a.spot) (lies_in-front a.spot (length a.spot.path) (omega arith)) in
     let there : lies_in a.spot s ≡ true = subst (λ v. lies_in a.spot v ≡ true) (same_spot a.spot s both.1) own in
     list_any-at (λ x. (w || x.write) && lies_in x.spot s) ys no_access g.0 g.1 (and_from _ _ both.0 there)
 
 -- what a row has after one access
-pub row-clashes : (events : List Event) (parts : List Part) (at within : List Users) (x : Access) (numbers : List ℕ) (own j : ℕ) (before : Bool) → j < length events
+pub row-clashes : (events : List Event) (parts : List Part) (at within : List Users) (x : Access) (numbers : List ℕ) (own j : ℕ) (before : Bool) →
+    j < length events
     → KnowsAll events parts → TellUsers events parts is_same_spot at → TellUsers events parts lies_in within → AreAround parts x.spot (numbers ++ own ∷ [])
     → number_of parts x.spot ≡ Some own
     → ((before || is_some_user at numbers x.write j) || is_user (users_at within own) x.write j) ≡ (before || clashes_with (event_at events j) x)

@@ -27,7 +27,8 @@ joined false false some passes test = refl
 joined false true some passes test = refl
 
 -- one access more
-pub adds_all-more : (parts : List Part) (test : Spot → Spot → Bool) (place k : ℕ) (accesses : List Access) (d : Access) (start now later : List Users) → k < length accesses
+pub adds_all-more : (parts : List Part) (test : Spot → Spot → Bool) (place k : ℕ) (accesses : List Access) (d : Access) (start now later : List Users) →
+    k < length accesses
     → AddsAll parts test place (take k accesses) start now
     → Adds parts (test (get_or accesses k d).spot) place (get_or accesses k d).write now later
     → AddsAll parts test place (take (k + 1) accesses) start later
@@ -49,7 +50,8 @@ same_sizes-trans a b c first second = record {
 }
 
 -- what is put in by numbers is put in by spots
-pub adds-numbers : (parts : List Part) (numbers : List ℕ) (place : ℕ) (write : Bool) (test : Spot → Bool) (before after : List Users) → length before ≡ length parts
+pub adds-numbers : (parts : List Part) (numbers : List ℕ) (place : ℕ) (write : Bool) (test : Spot →
+    Bool) (before after : List Users) → length before ≡ length parts
     → ((s : Spot) (n : ℕ) → number_of parts s ≡ Some n → test s ≡ has_number numbers n)
     → AddsNumbers numbers place write before after → Adds parts test place write before after
 adds-numbers parts numbers place write test before after long tells new s n w i known =
@@ -83,7 +85,8 @@ no_user events true i = none-marked events i
 no_user events false i = none-marked events i
 
 -- nothing is told before the first event
-pub tell_below-none : (events : List Event) (parts : List Part) (test : Spot → Spot → Bool) → TellBelow events parts test 0 (replicate (length parts) (no_users (length events)))
+pub tell_below-none : (events : List Event) (parts : List Part) (test : Spot → Spot → Bool) →
+    TellBelow events parts test 0 (replicate (length parts) (no_users (length events)))
 tell_below-none events parts test =
     let none = no_users (length events) in
     let users : List Users = replicate (length parts) none in
@@ -109,7 +112,8 @@ this-event true here some none now = absurd (false≢true (sym none))
 this-event false false some none now = absurd (false≢true now)
 
 -- one event more
-pub tell_below-more : (events : List Event) (parts : List Part) (test : Spot → Spot → Bool) (bound : ℕ) (now later : List Users) → TellBelow events parts test bound now
+pub tell_below-more : (events : List Event) (parts : List Part) (test : Spot → Spot →
+    Bool) (bound : ℕ) (now later : List Users) → TellBelow events parts test bound now
     → SameSizes now later → AddsAll parts test bound (event_at events bound).accesses now later → TellBelow events parts test (bound + 1) later
 tell_below-more events parts test bound now later old sizes new =
     let uses : Spot → Bool → ℕ → Bool = λ s w i. some_use test w s (event_at events i).accesses in
@@ -121,7 +125,8 @@ tell_below-more events parts test bound now later old sizes new =
         writers = λ n lt. sizes.writers n ∙ old.sized.writers n lt;
       };
       told = λ s n w i known lt. elim (cases_eq i bound) [
-        | inl e ↦ new s n w i known ∙ this-event _ (eqb i bound) (uses s w bound) (old.ahead s n w i known (omega (arith, e))) (eq-eqb i bound e) ∙ ap (uses s w) (sym e)
+        | inl e ↦ new s n w i known ∙ this-event _ (eqb i bound) (uses s w bound) (old.ahead s n w i known (omega (arith, e))) (eq-eqb i bound e) ∙
+            ap (uses s w) (sym e)
         | inr other ↦ new s n w i known ∙ other-event _ (eqb i bound) (uses s w bound) (apart i other) ∙ old.told s n w i known (omega (arith, lt, other))
       ];
       ahead = λ s n w i known ahead.

@@ -32,7 +32,8 @@ pub record IsLastWith (events : List Event) (thing : Thing) (bound last : ℕ) :
 pub record AreSlots (events : List Event) (slots : List ℕ) (width : ℕ) : Type 0 where
   pub each : length slots ≡ length events
   pub within : (i : ℕ) → i < length events → slice_index slots i < width
-  pub apart : (i j : ℕ) → i < length events → j < length events → slice_index slots i ≡ slice_index slots j → (event_at events i).process ≡ (event_at events j).process
+  pub apart : (i j : ℕ) → i < length events → j < length events → slice_index slots i ≡ slice_index slots j →
+      (event_at events i).process ≡ (event_at events j).process
 
 -- the clock counts past the event at this place
 abbrev pub Has : List ℕ → List ℕ → ℕ → Type 0

@@ -58,7 +58,8 @@ impl Marks {
         requires wide { length self.old ≤ length numbers.now }
         requires from { from ≤ length self.old }
         ensures wide { length self.new ≡ length self.old }
-        ensures kept { (j : ℕ) → from ≤ j → j < length self.old → slice_index_or self.new j false ≡ (slice_index_or self.old j false && not (nat_lt bound (slice_index numbers.now j))) }
+        ensures kept { (j : ℕ) → from ≤ j → j < length self.old →
+            slice_index_or self.new j false ≡ (slice_index_or self.old j false && not (nat_lt bound (slice_index numbers.now j))) }
     {
         keep_all(&mut self.marks, numbers, bound, from);
     }
@@ -80,7 +81,8 @@ fn keep_all(marks: &mut [bool], numbers: &[u32], bound: u32, from: usize)
     requires wide { length marks.old ≤ length numbers.now }
     requires from { from ≤ length marks.old }
     ensures wide { length marks.new ≡ length marks.old }
-    ensures kept { (j : ℕ) → from ≤ j → j < length marks.old → slice_index_or marks.new j false ≡ (slice_index_or marks.old j false && not (nat_lt bound (slice_index numbers.now j))) }
+    ensures kept { (j : ℕ) → from ≤ j → j < length marks.old →
+        slice_index_or marks.new j false ≡ (slice_index_or marks.old j false && not (nat_lt bound (slice_index numbers.now j))) }
 {
     for place in from..marks.len() {
         marks[place] = marks[place] & !(bound < numbers[place]);

@@ -565,7 +565,8 @@ initials A s (b ∷ bs) qs h =
     let rest = initials A s bs qs (All-tail (IsRuledPiece A s) (an_initial b) (map an_initial bs ++ qs) h) in
     (All-cons (IsRuled A s) b bs (All-head (IsRuledPiece A s) (an_initial b) (map an_initial bs ++ qs) h) rest.0, rest.1)
 
-pub inits_ruled : (A : Type 0) (s : State) (n next : ℕ) (qs : PartTrees) → All (IsRuledPiece A s) (pieces s n next qs) → All (IsRuled A s) (parts_inits s n next qs)
+pub inits_ruled : (A : Type 0) (s : State) (n next : ℕ) (qs : PartTrees) → All (IsRuledPiece A s) (pieces s n next qs) →
+    All (IsRuled A s) (parts_inits s n next qs)
 inits_ruled A s n next no_parts h = All-nil (IsRuled A s)
 inits_ruled A s n next (more_parts q qs) h =
     let further = passed_part (scope_at s.blocks.scopes 0) n q in

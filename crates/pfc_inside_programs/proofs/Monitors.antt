@@ -50,7 +50,8 @@ module _ (lo hi : ℕ) where
     -- ## Bodies
 
     -- the monitor itself
-    itself : (n next : ℕ) (q : PartTree) → IsHere next q → IsLawfulPart of_program (forget_part q) → AllByRecursion (IsPlaced lo hi some) (part_blocks s false 0 n [] next q)
+    itself : (n next : ℕ) (q : PartTree) → IsHere next q → IsLawfulPart of_program (forget_part q) →
+        AllByRecursion (IsPlaced lo hi some) (part_blocks s false 0 n [] next q)
     itself n next (monitor (the_module x exports ps b last p)) is lawful =
         let same : lo ≡ next = is.0 in
         let end : hi ≡ next + module_scopes (the_module x exports ps b last p) = is.1 in
@@ -75,7 +76,8 @@ module _ (lo hi : ℕ) where
     ends next (process_part p) is = absurd is
 
     pub bodies :
-        (n next : ℕ) (qs : PartTrees) → IsAt next qs → AreLawfulParts of_program (forget_parts qs) → AllByRecursion (IsPlaced lo hi some) (parts_blocks s false 0 n [] next qs)
+        (n next : ℕ) (qs : PartTrees) → IsAt next qs → AreLawfulParts of_program (forget_parts qs) →
+        AllByRecursion (IsPlaced lo hi some) (parts_blocks s false 0 n [] next qs)
     bodies n next no_parts at lawful = tt
     bodies n next (more_parts q qs) (inl here) lawful =
         let end : hi ≡ next + part_scopes q = ends next q here in

@@ -206,7 +206,8 @@ module _ (lo hi : ℕ) (some : lo < hi) where
           let around_out : AreOut around = more_out (level i (passed (scope_at s.blocks.scopes i) n x)) outer a out in
           let own_out : IsOut next = first_out next size (omega arith) c in
           all_push IsPlaced (parts_blocks s in_process next count around (next + 1) ps) (block_of next i inside behind b layout 0 guard)
-          (parts_out in_process next count around (next + 1) ps own_out around_out (beside_in next size (next + 1) (parts_scopes ps) (omega arith) (omega arith) c))
+          (parts_out in_process next count around (next + 1) ps own_out around_out
+          (beside_in next size (next + 1) (parts_scopes ps) (omega arith) (omega arith) c))
           (placed_out next i inside behind b layout 0 guard (more_out (all_names s.blocks.scopes next) around own_out around_out) own_out
           (guard_is AreOut s view i kind (more_out (level next count) (level i n ∷ outer) own_out (more_out (level i n) outer a out))))
 
@@ -233,4 +234,5 @@ module _ (lo hi : ℕ) (some : lo < hi) where
           let own_out : IsOut next = first_out next size (omega arith) c in
           all_push IsPlaced (parts_blocks s true next count around (next + 1) ps) (block_of next i inside inner b layout (body_scopes b) None)
           (parts_out true next count around (next + 1) ps own_out around_out (beside_in next size (next + 1) (parts_scopes ps) (omega arith) (omega arith) c))
-          (placed_out next i inside inner b layout (body_scopes b) None (more_out (all_names s.blocks.scopes next) around own_out around_out) own_out (no_guard AreOut))
+          (placed_out next i inside inner b layout (body_scopes b) None
+          (more_out (all_names s.blocks.scopes next) around own_out around_out) own_out (no_guard AreOut))

@@ -18,7 +18,12 @@ within bytes i n low high = omega (arith, simp (take_rest, length-drop) at high)
 
 -- all of these bytes
 pub AppendsFront-whole : (a b : Option (List ℕ)) (bytes : List ℕ) → Appends a b bytes → AppendsFront a b bytes
-AppendsFront-whole a b bytes all = record { count = length bytes; bound = omega arith; front = subst (λ (s : List ℕ). Appends a b s) (sym (take-length bytes)) all }
+AppendsFront-whole a b bytes all = record {
+  count = length bytes;
+  bound = omega arith;
+  front =
+      subst (λ (s : List ℕ). Appends a b s) (sym (take-length bytes)) all;
+}
 
 -- the first of them, as a cut write says
 pub AppendsFront-cut : (a b : Option (List ℕ)) (bytes : List ℕ) (n : ℕ) → n ≤ length bytes → Appends a b (take n bytes) → AppendsFront a b bytes

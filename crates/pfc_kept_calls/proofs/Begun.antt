@@ -102,7 +102,8 @@ module _ (facts : Facts) (m : Machine) (c : Config) (p : ℕ) (level : LivingLev
   other_still q less apart =
       let old = acting.others q less apart in
       let e : Descriptor = descriptor_of m.descriptors q in
-      process_still facts q e acting.homes new_homes acting.entries new_entries c.store new_store m.stacks new_stacks c.table table' (holders_in facts c) holders'
+      process_still facts q e acting.homes new_homes acting.entries new_entries c.store new_store m.stacks new_stacks
+      c.table table' (holders_in facts c) holders'
       (record {
         at_home = at_home facts m c p level acting o b;
         untouched = untouched q apart;
@@ -348,7 +349,8 @@ module _ (facts : Facts) (m : Machine) (c : Config) (p : ℕ) (level : LivingLev
             program = old.program;
             words = words_then;
             holds = holds_then;
-            kinds = kinds_still facts acting.homes new_homes acting.entries new_entries c c' old.holds.objects is.hold.objects is.change.counts activity_count lay
+            kinds = kinds_still facts acting.homes new_homes acting.entries new_entries c c' old.holds.objects
+                is.hold.objects is.change.counts activity_count lay
                 old.kinds;
             children = is.change.children;
             main = main_then;

@@ -93,7 +93,8 @@ module _ (facts : Facts) (m : Machine) (c : Config) (p : ℕ) (level : LivingLev
       (program_in facts) c p callee caller given)) (sym can.is)
       (subst (λ (v : Bool). ComeToSame facts m c p line (silent (machine_unless_full (has_place p (length (stack_of m.stacks p).cells) code)
       (machine_activated k code (in_view m.stacks p l) Plain p m)))
-      (if v then Ok (activated (program_in facts) c p callee plain caller given (body_of callee)) else Err Full)) (sym (same_limit facts m c p level acting own b callee k code formals x given below beside known can.takes can.there can.is held counted))
+      (if v then Ok (activated (program_in facts) c p callee plain caller given (body_of callee)) else Err Full))
+      (sym (same_limit facts m c p level acting own b callee k code formals x given below beside known can.takes can.there can.is held counted))
       (by_place (has_place p (length (stack_of m.stacks p).cells) code) refl))
 
 -- ## How the body ends
@@ -230,7 +231,8 @@ procedures_kept facts m c p choice level n may acting arrived chosen = absurd ma
 pub functions_kept : AreKept CallsFunction
 functions_kept facts m c p choice level (calls x (to_function scope u) given) may acting arrived chosen =
     let (b, checked, (formals, below, held, (own, (sub, takes, leaves, there, room, awaited)))) = arrived.arrived in
-    kept_by facts m c p choice level acting x b scope formals InExpressions given below checked own may sub held there arrived.within (of_value x u) RETF (calls x
+    kept_by facts m c p choice level acting x b scope formals InExpressions given below checked own may sub held there arrived.within (of_value x u) RETF
+    (calls x
     (to_function scope u) given)
     (ends_with_result (can facts m c p choice level acting x b scope formals InExpressions given below checked own may sub held there arrived.within).head
     (left_behind facts m c p choice level acting x b scope formals InExpressions given below checked own may sub held there arrived.within 1 leaves))

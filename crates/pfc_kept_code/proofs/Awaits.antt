@@ -46,7 +46,8 @@ module _ (g : Setting) (view : View) (start : Block) (names : Env → Bool) (agr
     agreed = agree start x.env same_block named
 
     left : (k : Remainder) (at : ℕ) (ops : List ℤ) → InRemainder names k → Performs before start x.env at ops [] k → Performs later start x.env at ops [] k
-    left k at ops inside h = performs_kept g view start names agree g.accepts g.meetings k start same_block x.env at ops [] (asked_of (Among names) x.env k named) inside h
+    left k at ops inside h = performs_kept g view start names agree g.accepts g.meetings k start same_block x.env at ops []
+        (asked_of (Among names) x.env k named) inside h
 
     mutual
       pub values_kept : (u : AwaitsValue) (at : ℕ) (ops : List ℤ) (arms : List Arm) (h : Shape) → InValue names u → TakesValue before start x at ops arms h u

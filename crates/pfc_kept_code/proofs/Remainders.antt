@@ -56,8 +56,10 @@ module _ (g : Setting) (view : View) (start : Block) (names : Env → Bool) (agr
         within = h.within;
       }
 
-  pass_kept : (accepts meetings : List ℕ) (s : Site) (f : Count) (at n held : ℕ) → HasPass (before accepts meetings) s f at n held → HasPass (later accepts meetings) s f at n held
-  pass_kept accepts meetings s f at n held h = record { write = h.write; inner = stmt_seen (before accepts meetings) view s (at + 1) n held f.next f.pass h.inner; back = h.back }
+  pass_kept : (accepts meetings : List ℕ) (s : Site) (f : Count) (at n held : ℕ) → HasPass (before accepts meetings) s f at n held →
+      HasPass (later accepts meetings) s f at n held
+  pass_kept accepts meetings s f at n held h =
+      record { write = h.write; inner = stmt_seen (before accepts meetings) view s (at + 1) n held f.next f.pass h.inner; back = h.back }
 
   way_kept : (accepts meetings : List ℕ) (b : Block) → Near b → (way : Way) (at held : ℕ) (P Q : ℕ → Type 0) → InWay names way → ((end : ℕ) → P end → Q end)
       → WayAt (before accepts meetings) b way at held P → WayAt (later accepts meetings) b way at held Q
@@ -72,7 +74,8 @@ module _ (g : Setting) (view : View) (start : Block) (names : Env → Bool) (agr
       (λ in_view known. names_kept (before accepts meetings) view b env (agree b env near in_view) known) named checked
 
   pub performs_kept : (accepts meetings : List ℕ) (k : Remainder) (b : Block) → Near b → (env : Env) (at : ℕ) (ops : List ℤ) (arms : List Arm)
-      → AskedOf (Among names) env k → InRemainder names k → Performs (before accepts meetings) b env at ops arms k → Performs (later accepts meetings) b env at ops arms k
+      → AskedOf (Among names) env k → InRemainder names k → Performs (before accepts meetings) b env at ops arms k →
+      Performs (later accepts meetings) b env at ops arms k
   performs_kept accepts meetings (ends line) b near env at ops arms named inside h = (h.0, jumped_seen (before accepts meetings) view at _ _ (λ to q. q) h.1)
   performs_kept accepts meetings (perform m ts k) b near env at ops arms named inside h = (
     h.0,
@@ -221,7 +224,8 @@ module _ (g : Setting) (view : View) (start : Block) (names : Env → Bool) (agr
       λ e. (asked_kept accepts meetings b near e k (asked e) (h e).0, performs_kept accepts meetings k b near e at ops [] (asked e) inside (h e).1)
 
   -- the turn of a scan, behind which the process is in none
-  pub turn_kept : (scan : Scan) (back : ℕ) (k : Remainder) → Near g.block → (b : Block) (env : Env) (at : ℕ) (ops : List ℤ) (arms : List Arm) → InRemainder names (scan_on scan k)
+  pub turn_kept : (scan : Scan) (back : ℕ) (k : Remainder) → Near g.block →
+      (b : Block) (env : Env) (at : ℕ) (ops : List ℤ) (arms : List Arm) → InRemainder names (scan_on scan k)
       → Performs (record g { trial = of_turn scan back }) b env at ops arms (scan_on scan k)
       → Performs (record g { view = view; trial = of_turn scan back }) b env at ops arms (scan_on scan k)
   turn_kept scan back k near b env at ops arms inside h = (

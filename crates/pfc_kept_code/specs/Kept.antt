@@ -153,7 +153,8 @@ KeepsRemainders g view b names =
 -- before the next turn of a scan, as a process is that leaves a resource: what is left behind the scan is kept
 abbrev pub KeepsTurns : Setting → View → Block → (Env → Bool) → Type 0
 KeepsTurns g view b names =
-    (scan : Scan) (k : Remainder) (env : Env) (at : ℕ) (ops : List ℤ) (arms : List Arm) (back : ℕ) → g.trial ≡ of_turn scan back → InRemainder names (scan_on scan k)
+    (scan : Scan) (k : Remainder) (env : Env) (at : ℕ) (ops : List ℤ) (arms : List Arm) (back : ℕ) →
+    g.trial ≡ of_turn scan back → InRemainder names (scan_on scan k)
     → DoesIn g b at ops arms (going env (scan_on scan k)) → DoesIn (with_view g view) b at ops arms (going env (scan_on scan k))
 
 abbrev pub KeepsValues : Setting → View → Block → (Env → Bool) → Type 0

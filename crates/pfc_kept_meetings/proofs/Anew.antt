@@ -244,7 +244,8 @@ module _ (g : Program) (sound : AreCounted g.state.forms) (homes : Homes) (entri
         let out : from ≤ cell.place → cell.place < to → ⊥ =
         λ low high. both_ways (ranged d)
         (ap (λ n. ranged n) (sym first)
-        ∙ range_has g.state.forms layout from to cell.place (Variable cell.t true) laid (are.sized cell.place (Variable cell.t true) laid refl) low high) is in (
+        ∙ range_has g.state.forms layout from to cell.place (Variable cell.t true) laid
+        (are.sized cell.place (Variable cell.t true) laid refl) low high) is in (
           a,
           refl,
           record {

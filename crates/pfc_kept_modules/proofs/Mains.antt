@@ -93,7 +93,8 @@ module _ (facts : Facts) (m : Machine) (c : Config) (p : ℕ) (level : LivingLev
   pub on_its_stack : OnStack g acting.homes c.store 0 (acting.entries 0) (cells_of m.stacks 0) 0 (first_home 0 0)
   on_its_stack =
       let among = subst (λ i. IsAmong i (acting.entries 0)) main_there.number (is_among main_there.entry (acting.entries 0) main_there.living) in
-      on_stack g acting.alike.program.types.counted acting.homes c.store 0 (acting.entries 0) (cells_of m.stacks 0) 0 (first_home 0 0) acting.alike.holds.main among
+      on_stack g acting.alike.program.types.counted acting.homes c.store 0 (acting.entries 0) (cells_of m.stacks 0) 0
+      (first_home 0 0) acting.alike.holds.main among
       (cells_among g acting.homes c.store 0 (acting.entries 0) (cells_of m.stacks 0) 0 among (acting.alike.holds.memory 0))
 
   abbrev pub block : List ℤ

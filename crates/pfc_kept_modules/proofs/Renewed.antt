@@ -391,7 +391,11 @@ module _ (facts : Facts) (m : Machine) (c : Config) (p : ℕ) (level : LivingLev
   all_hold was zero e less = was zero had.top (omega arith)
   all_hold was (suc j) e less = was (suc j) e less
 
-  pub new_level : IsAtLevel facts homes' entries' store' stacks' table' h p (record a { activations = activation ∷ callers; display = display' }) d1 inside_level
+  pub new_level : IsAtLevel facts homes' entries' store' stacks' table' h p (record a {
+    activations =
+        activation ∷ callers;
+    display = display';
+  }) d1 inside_level
   new_level =
       let was = acting.actor.stands in
       let there = is_stack facts m c p level acting more b callee number k r scan formals x given below guard first is in

@@ -125,6 +125,7 @@ requeue_can_be facts m c p level x scope given acting arrived =
 pub lasting_requeues_kept : (facts : Facts) (m : Machine) (c : Config) (p choice : ℕ) (level : LivingLevel) (n : Action) → RequeuesLasting level n
     → HasFewOperands m p → IsActing facts m c p level → HasArrived facts m c p level n → IsKept facts m c p choice n
 lasting_requeues_kept facts m c p choice level (calls x (to_requeue scope) given) lasting few acting arrived =
-    requeued_kept facts m c p choice level (calls x (to_requeue scope) given) (requeue_can_be facts m c p level x scope given acting arrived, lasting) few acting
+    requeued_kept facts m c p choice level (calls x (to_requeue scope) given)
+    (requeue_can_be facts m c p level x scope given acting arrived, lasting) few acting
     arrived
 lasting_requeues_kept facts m c p choice level n lasting few acting arrived = absurd lasting

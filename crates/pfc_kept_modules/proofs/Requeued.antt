@@ -311,7 +311,8 @@ module _ (facts : Facts) (m : Machine) (c : Config) (p : ℕ) (level : LivingLev
             mains = λ l t i lies object. before.holds.mains l t i (lay l t i lies object) object;
             numbers = numbered;
           };
-          kinds = kinds_still facts acting.homes new_homes acting.entries new_entries c c1 before.holds.objects held.objects refl activity_count lay before.kinds;
+          kinds = kinds_still facts acting.homes new_homes acting.entries new_entries c c1 before.holds.objects
+              held.objects refl activity_count lay before.kinds;
           children = before.children;
           main = before.main;
           between = ticks c.table before.between acting.few;

@@ -103,7 +103,8 @@ module _ (facts : Facts) (m : Machine) (c : Config) (is : Represents facts m c) 
 
     module _ (q : ℕ) (d : Descriptor) where
       in_trial : (trial : Trial) (level : LivingLevel) (xs : List Activation) (r : ℕ)
-          → TrialIs trial facts is.homes is.entries c.store m.stacks c.table q level xs d → tried_in d.scan ≡ Some r → may_be_freed (at c.table.rows r) ≡ true → ⊥
+          → TrialIs trial facts is.homes is.entries c.store m.stacks c.table q level xs d → tried_in d.scan ≡ Some r →
+          may_be_freed (at c.table.rows r) ≡ true → ⊥
       in_trial of_own level xs r tries tried = absurd (let both : None ≡ Some r = ap tried_in (sym tries.1) ∙ tried in cc)
       in_trial (of_turn scan back) level xs r tries tried = absurd (let both : None ≡ Some r = ap tried_in (sym tries.1) ∙ tried in cc)
       in_trial (of_another attempt) level xs r tries tried =

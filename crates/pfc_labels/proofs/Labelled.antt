@@ -22,7 +22,8 @@ use Rattle.pfc_translation.specs.Objects.{name_labelled, names_labelled, with_in
 
 -- ## A type, and its parts
 
-pub labelled_of_form : (forms : Forms) (t : TypeId) (form : TypeForm) → form_of forms t ≡ Some form → labelled_before (all_labelled forms) t ≡ labelled_form (all_labelled (take t.place forms)) form
+pub labelled_of_form : (forms : Forms) (t : TypeId) (form : TypeForm) → form_of forms t ≡ Some form →
+    labelled_before (all_labelled forms) t ≡ labelled_form (all_labelled (take t.place forms)) form
 labelled_of_form forms t form e = built_form Labelled labelled_next forms t form no_process e
 
 pub part_before :
@@ -30,7 +31,8 @@ pub part_before :
     → labelled_before (all_labelled forms) t ≡ labelled_before (all_labelled (take whole.place forms)) t
 part_before forms whole t below within = sym (built_below Labelled labelled_next forms whole.place t.place no_process below within)
 
-pub part_past : (forms : Forms) (whole t : TypeId) → whole.place ≤ t.place → whole.place ≤ length forms → labelled_before (all_labelled (take whole.place forms)) t ≡ no_process
+pub part_past : (forms : Forms) (whole t : TypeId) → whole.place ≤ t.place → whole.place ≤ length forms →
+    labelled_before (all_labelled (take whole.place forms)) t ≡ no_process
 part_past forms whole t past within =
     get_or_past (all_labelled (take whole.place forms)) t.place no_process
     (omega (arith, past, built_length Labelled labelled_next [] (take whole.place forms), length-take-le whole.place forms within))
@@ -108,7 +110,8 @@ module _ (helds : List Held) (labels : List Labelled) (form : Option TypeForm) (
 
 all_alike :
     (forms : Forms) (helds : List Held) (labels : List Labelled) → AreAlike helds labels
-    → AreAlike (fold (λ before form. before ++ held_next before form ∷ []) helds forms) (fold (λ before form. before ++ labelled_next before form ∷ []) labels forms)
+    → AreAlike (fold (λ before form. before ++ held_next before form ∷ []) helds forms)
+    (fold (λ before form. before ++ labelled_next before form ∷ []) labels forms)
 all_alike [] helds labels alike = alike
 all_alike (form ∷ forms) helds labels alike =
     all_alike forms (helds ++ held_next helds form ∷ []) (labels ++ labelled_next labels form ∷ []) (push_alike helds labels form alike)
@@ -124,7 +127,8 @@ nothing_labelled forms t label e = built_none Labelled labelled_next forms t.pla
 
 module _ (f : ℕ × Text → ProcessInfo) where
   -- some more were added, and so many are left
-  more_labelled : (old now : List ProcessInfo) (one rest all : List (ℕ × Text)) → now ≡ old ++ map f one → one ++ rest ≡ all → now ++ map f rest ≡ old ++ map f all
+  more_labelled : (old now : List ProcessInfo) (one rest all : List (ℕ × Text)) → now ≡ old ++ map f one →
+      one ++ rest ≡ all → now ++ map f rest ≡ old ++ map f all
   more_labelled old now one rest all grown split =
       ap (λ (xs : List ProcessInfo). xs ++ map f rest) grown ∙ append_assoc old (map f one) (map f rest)
       ∙ ap (λ (xs : List ProcessInfo). old ++ xs) (sym (map-append f one rest) ∙ ap (map f) split)
@@ -159,8 +163,10 @@ module _ (f : ℕ × Text → ProcessInfo) where
       ∙ ap (λ (fs : FieldList). fields_labelled before fs label) (sym (drop_more fields i d within)))
 
   pub fields_done :
-      (old : List ProcessInfo) (before : List Labelled) (fields : FieldList) (label : Text) → fields ≡ [] → old ≡ old ++ map f (fields_labelled before fields label)
-  fields_done old before fields label none = none_labelled old (fields_labelled before fields label) (ap (λ (fs : FieldList). fields_labelled before fs label) none)
+      (old : List ProcessInfo) (before : List Labelled) (fields : FieldList) (label : Text) → fields ≡ [] →
+      old ≡ old ++ map f (fields_labelled before fields label)
+  fields_done old before fields label none =
+      none_labelled old (fields_labelled before fields label) (ap (λ (fs : FieldList). fields_labelled before fs label) none)
 
   pub names_next :
       (old now : List ProcessInfo) (all : List Labelled) (names : Names) (k : ℕ) → k < length names

@@ -82,7 +82,9 @@ fn add_variable(
     all: &mut Vec<ProcessInfo>,
 ) -> Result<usize, Memory>
     requires { k < length names.now }
-    ensures { OnOk result ((d : List ℕ × Meaning) → all.new.items ≡ all.old.items ++ infos program.now (name_labelled (all_labelled program.now.tables.types.now) (get_or names.now k d).0 (get_or names.now k d).1)) }
+    ensures { OnOk result ((d : List ℕ × Meaning) →
+        all.new.items ≡ all.old.items ++ infos program.now (name_labelled (all_labelled program.now.tables.types.now)
+        (get_or names.now k d).0 (get_or names.now k d).1)) }
 {
     let meaning = names.meaning_at(k);
     if !holds_processes(program, meaning) {
@@ -212,7 +214,8 @@ fn add_part(
     all: &mut Vec<ProcessInfo>,
 ) -> Result<(), Memory>
     requires { whole.place ≤ length program.now.tables.types.now }
-    ensures { OnOk result (all.new.items ≡ all.old.items ++ infos program.now (labelled_before (all_labelled (take whole.place program.now.tables.types.now)) t label.now)) }
+    ensures { OnOk result (all.new.items ≡ all.old.items ++ infos program.now
+        (labelled_before (all_labelled (take whole.place program.now.tables.types.now)) t label.now)) }
 {
     if t.place < whole.place {
         add_type(alloc, program, tokens, t, label, all)
@@ -235,7 +238,8 @@ fn add_elements(
     all: &mut Vec<ProcessInfo>,
 ) -> Result<(), Memory>
     requires { whole.place ≤ length program.now.tables.types.now }
-    ensures { OnOk result (all.new.items ≡ all.old.items ++ infos program.now (elements_labelled count low.now (labelled_before (all_labelled (take whole.place program.now.tables.types.now)) element) label.now)) }
+    ensures { OnOk result (all.new.items ≡ all.old.items ++ infos program.now
+        (elements_labelled count low.now (labelled_before (all_labelled (take whole.place program.now.tables.types.now)) element) label.now)) }
 {
     for k in 0..count {
         let own = element_label(alloc, label, low, k)?;
@@ -274,7 +278,8 @@ fn add_fields(
     all: &mut Vec<ProcessInfo>,
 ) -> Result<(), Memory>
     requires { whole.place ≤ length program.now.tables.types.now }
-    ensures { OnOk result (all.new.items ≡ all.old.items ++ infos program.now (fields_labelled (all_labelled (take whole.place program.now.tables.types.now)) fields.now label.now)) }
+    ensures { OnOk result (all.new.items ≡ all.old.items ++ infos program.now
+        (fields_labelled (all_labelled (take whole.place program.now.tables.types.now)) fields.now label.now)) }
 {
     for i in 0..fields.len() {
         let Some(name) = field_name(fields, i, tokens) else {

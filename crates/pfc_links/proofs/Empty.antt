@@ -35,9 +35,11 @@ all-empty n lists next previous few long each long' each' = record {
     size = length-replicate n None
 
     nexts : (x b t : ℕ) → b < lists → IsFrom (free n) x b t → IsBehind (free n) b t (get_or next x 0)
-    nexts x b t known (IsFrom.the_end e z) = IsBehind.nobody (each x (omega (arith, e, size, known)) ∙ e) (record { most = λ q v h. no-member (v ≤ t) n q b v h })
+    nexts x b t known (IsFrom.the_end e z) = IsBehind.nobody (each x (omega (arith, e, size, known)) ∙
+        e) (record { most = λ q v h. no-member (v ≤ t) n q b v h })
     nexts x b t known (IsFrom.a_member own) = no-member (IsBehind (free n) b t (get_or next x 0)) n x b t own
 
     backs : (x b t : ℕ) → b < lists → IsBackFrom (free n) x b t → IsBefore (free n) b t (get_or previous x 0)
-    backs x b t known (IsBackFrom.the_end e z) = IsBefore.nobody (each' x (omega (arith, e, size, known)) ∙ e) (record { fewest = λ q v h. no-member (t ≤ v) n q b v h })
+    backs x b t known (IsBackFrom.the_end e z) = IsBefore.nobody (each' x (omega (arith, e, size, known)) ∙
+        e) (record { fewest = λ q v h. no-member (t ≤ v) n q b v h })
     backs x b t known (IsBackFrom.a_member own) = no-member (IsBefore (free n) b t (get_or previous x 0)) n x b t own

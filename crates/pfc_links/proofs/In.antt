@@ -20,7 +20,8 @@ pub record Comes (ms : List (Option Member)) (lists p b t : ℕ) : Type 0 where
 own-in : (ms : List (Option Member)) (lists p b t : ℕ) → Comes ms lists p b t → member_at (set ms p (in_list b t)) p ≡ in_list b t
 own-in ms lists p b t c = get_or-set_same ms p (in_list b t) None c.lt
 
-old-in : (ms : List (Option Member)) (lists p b t q c u : ℕ) → Comes ms lists p b t → member_at ms q ≡ in_list c u → member_at (set ms p (in_list b t)) q ≡ in_list c u
+old-in : (ms : List (Option Member)) (lists p b t q c u : ℕ) → Comes ms lists p b t → member_at ms q ≡ in_list c u →
+    member_at (set ms p (in_list b t)) q ≡ in_list c u
 old-in ms lists p b t q c u comes own = get_or-set_other ms p q (in_list b t) None (none-apart ms p q c u comes.free own) ∙ own
 
 -- a place from which one goes on was one before, or is p
@@ -72,7 +73,13 @@ behind-last ms lists p b t r c u comes before from = go before from
     first : c ≡ b → u < t → ((q v : ℕ) → member_at ms q ≡ in_list b v → v ≤ u) → IsBehind (set ms p (in_list b t)) c u p
     first same near all =
         subst (λ n. IsBehind (set ms p (in_list b t)) n u p) (sym same)
-        (IsBehind.somebody (record { ticket = t; own = own-in ms lists p b t comes; above = near; least = λ q v e past. least q v past (whose ms p b t q b v comes.lt e) }))
+        (IsBehind.somebody (record {
+          ticket = t;
+          own = own-in ms lists p b t comes;
+          above = near;
+          least =
+              λ q v e past. least q v past (whose ms p b t q b v comes.lt e);
+        }))
       where
         least : (q v : ℕ) → u < v → Whose ms p b t q b v → t ≤ v
         least q v past (Whose.itself here e f) = omega (arith, f)
@@ -83,7 +90,8 @@ behind-last ms lists p b t r c u comes before from = go before from
         let same : c ≡ b = omega (arith, e, f) in
         let some : 0 < t = comes.from_one in
         let small : t < latest = comes.small in
-        first same (omega (arith, z, some)) (λ q v is. let past : latest ≤ v = none.fewest q v is in let lt : v < t = comes.last q v is in absurd (omega (arith, past, lt, small)))
+        first same (omega (arith, z, some)) (λ q v is. let past : latest ≤ v = none.fewest q v is in let lt : v < t =
+        comes.last q v is in absurd (omega (arith, past, lt, small)))
     go (IsBefore.nobody e none) (IsFrom.a_member is) = let lt : r < length ms = within ms r c u is in absurd (omega (arith, lt, e))
     go (IsBefore.somebody h) (IsFrom.the_end f z) = let lt : r < length ms = within ms r b h.ticket h.own in absurd (omega (arith, lt, f))
     go (IsBefore.somebody h) (IsFrom.a_member is) =
@@ -186,7 +194,10 @@ before-old ms lists p b t x c u y comes from away before = go before
         kind (IsBackFrom.a_member is) = comes.last x u (subst (λ n. member_at ms x ≡ in_list n u) same is)
 
     go : IsBefore ms c u y → IsBefore (set ms p (in_list b t)) c u y
-    go (IsBefore.nobody e none) = IsBefore.nobody (e ∙ ap (λ n. n + c) (sym (length-set ms p (in_list b t)))) (record { fewest = λ q v is. fewest q v (whose ms p b t q c v comes.lt is) })
+    go (IsBefore.nobody e none) = IsBefore.nobody (e ∙ ap (λ n. n + c) (sym (length-set ms p (in_list b t)))) (record {
+      fewest =
+          λ q v is. fewest q v (whose ms p b t q c v comes.lt is);
+    })
       where
         fewest : (q v : ℕ) → Whose ms p b t q c v → u ≤ v
         fewest q v (Whose.itself here same f) = let lt : u < t = lower same in omega (arith, f, lt)
@@ -235,7 +246,8 @@ put-in ms lists next previous p b t e r linked comes at_end read = record {
     end_within = let long : length previous ≡ length ms + lists = linked.backward in omega (arith, long, known, at_end)
 
     before : IsBefore ms b latest r
-    before = subst (λ n. IsBefore ms b latest n) (sym (get_or_read previous e r end_within read 0)) (linked.backs e b latest known (IsBackFrom.the_end at_end refl))
+    before = subst (λ n. IsBefore ms b latest n) (sym (get_or_read previous e r end_within read 0))
+        (linked.backs e b latest known (IsBackFrom.the_end at_end refl))
 
     listed : (q c u : ℕ) → Whose ms p b t q c u → (c < lists) × (0 < u) × (u < latest)
     listed q c u (Whose.itself here f g) =
@@ -260,13 +272,15 @@ put-in ms lists next previous p b t e r linked comes at_end read = record {
 
     nexts : (x c u : ℕ) → c < lists → From ms p b t x c u → IsBehind (set ms p (in_list b t)) c u (get_or (set (set next r p) p e) x 0)
     nexts x c u few (From.new here f g) =
-        subst (λ n. IsBehind (set ms p (in_list b t)) c u n) (sym (ap (λ n. get_or (set (set next r p) p e) n 0) here ∙ get_or-set_same (set next r p) p e 0 wide_next ∙ at_end))
+        subst (λ n. IsBehind (set ms p (in_list b t)) c u n) (sym (ap (λ n. get_or (set (set next r p) p e) n 0) here ∙
+        get_or-set_same (set next r p) p e 0 wide_next ∙ at_end))
         (subst (λ n. IsBehind (set ms p (in_list b t)) n u (length ms + b)) (sym f)
         (subst (λ n. IsBehind (set ms p (in_list b t)) b n (length ms + b)) (sym g) (behind-new ms lists p b t comes)))
     nexts x c u few (From.old away from) = elim (cases_eq x r) [
       | inl here ↦
           subst (λ n. IsBehind (set ms p (in_list b t)) c u n)
-          (sym (get_or-set_other (set next r p) p x e 0 away ∙ ap (λ n. get_or (set next r p) n 0) here ∙ get_or-set_same next r p 0 (last-room ms lists next previous b r e linked known at_end read)))
+          (sym (get_or-set_other (set next r p) p x e 0 away ∙ ap (λ n. get_or (set next r p) n 0) here ∙
+          get_or-set_same next r p 0 (last-room ms lists next previous b r e linked known at_end read)))
           (behind-last ms lists p b t r c u comes before (subst (λ n. IsFrom ms n c u) here from))
       | inr else ↦
           subst (λ n. IsBehind (set ms p (in_list b t)) c u n) (sym (get_or-set_other (set next r p) p x e 0 away ∙ get_or-set_other next r x p 0 else))
@@ -281,7 +295,8 @@ put-in ms lists next previous p b t e r linked comes at_end read = record {
 
     backs : (x c u : ℕ) → c < lists → BackFrom ms p b t x c u → IsBefore (set ms p (in_list b t)) c u (get_or (set (set previous e p) p r) x 0)
     backs x c u few (BackFrom.new here f g) =
-        subst (λ n. IsBefore (set ms p (in_list b t)) c u n) (sym (ap (λ n. get_or (set (set previous e p) p r) n 0) here ∙ get_or-set_same (set previous e p) p r 0 wide_previous))
+        subst (λ n. IsBefore (set ms p (in_list b t)) c u n) (sym (ap (λ n. get_or (set (set previous e p) p r) n 0) here ∙
+        get_or-set_same (set previous e p) p r 0 wide_previous))
         (subst (λ n. IsBefore (set ms p (in_list b t)) n u r) (sym f)
         (subst (λ n. IsBefore (set ms p (in_list b t)) b n r) (sym g) (before-new ms lists p b t r comes before)))
     backs x c u few (BackFrom.old away from) = elim (cases_eq x e) [

@@ -34,7 +34,8 @@ shown ms lists = record { members = ms; lists = lists }
 
 -- who is behind a place, as it is read
 abbrev ReadsBehind : List ℕ → ℕ → ℕ → ℕ → Option ℕ → Lists → Type 0
-ReadsBehind next b x y o w = x < length w.members + w.lists → y ≡ get_or next x y → o ≡ cond (nat_lt y (length w.members)) (Some y) None → (u : ℕ) → b < w.lists → IsFrom w.members x b u
+ReadsBehind next b x y o w = x < length w.members + w.lists → y ≡ get_or next x y → o ≡ cond (nat_lt y (length w.members)) (Some y) None →
+    (u : ℕ) → b < w.lists → IsFrom w.members x b u
     → MatchOption o (IsNobodyAbove w.members b u) (IsNext w.members b u)
 
 pub behind-read : (ms : List (Option Member)) (lists : ℕ) (next previous : List ℕ) (w : Lists) (b x y : ℕ) (o : Option ℕ)
@@ -48,7 +49,8 @@ behind-read ms lists next previous w b x y o linked is = subst (λ v. ReadsBehin
 
 -- who is before a place, as it is read
 abbrev ReadsBefore : List ℕ → ℕ → ℕ → ℕ → Option ℕ → Lists → Type 0
-ReadsBefore previous b x y o w = x < length w.members + w.lists → y ≡ get_or previous x y → o ≡ cond (nat_lt y (length w.members)) (Some y) None → (u : ℕ) → b < w.lists → IsBackFrom w.members x b u
+ReadsBefore previous b x y o w = x < length w.members + w.lists → y ≡ get_or previous x y → o ≡ cond (nat_lt y (length w.members)) (Some y) None → (u : ℕ) →
+    b < w.lists → IsBackFrom w.members x b u
     → MatchOption o (IsNobodyBelow w.members b u) (IsPrevious w.members b u)
 
 pub before-read : (ms : List (Option Member)) (lists : ℕ) (next previous : List ℕ) (w : Lists) (b x y : ℕ) (o : Option ℕ)
@@ -66,7 +68,8 @@ pub known-list : (ms : List (Option Member)) (lists : ℕ) (next previous : List
 known-list ms lists next previous w p b t linked is = subst (λ v. member_at v.members p ≡ in_list b t → b < v.lists) is (λ own. (linked.listed p b t own).0)
 
 -- who is above no ticket is first, and who is below the latest is last
-pub first-of : (ms : List (Option Member)) (lists : ℕ) (next previous : List ℕ) (w : Lists) (b : ℕ) (o : Option ℕ) → AreLinked ms lists next previous → shown ms lists ≡ w
+pub first-of : (ms : List (Option Member)) (lists : ℕ) (next previous : List ℕ) (w : Lists) (b : ℕ) (o : Option ℕ) →
+    AreLinked ms lists next previous → shown ms lists ≡ w
     → MatchOption o (IsNobodyAbove w.members b 0) (IsNext w.members b 0) → MatchOption o (IsEmpty w.members b) (IsFirst w.members b)
 first-of ms lists next previous w b o linked is =
     subst (λ v. MatchOption o (IsNobodyAbove v.members b 0) (IsNext v.members b 0) → MatchOption o (IsEmpty v.members b) (IsFirst v.members b)) is (go o)
@@ -75,11 +78,16 @@ first-of ms lists next previous w b o linked is =
     go None h = record { none = λ q t own. let le : t ≤ 0 = h.most q t own in let lt : 0 < t = (linked.listed q b t own).1 in omega (arith, le, lt) }
     go (Some p) h = record { ticket = h.ticket; own = h.own; least = λ q t own. h.least q t own (linked.listed q b t own).1 }
 
-pub last-of : (ms : List (Option Member)) (lists : ℕ) (next previous : List ℕ) (w : Lists) (b : ℕ) (o : Option ℕ) → AreLinked ms lists next previous → shown ms lists ≡ w
+pub last-of : (ms : List (Option Member)) (lists : ℕ) (next previous : List ℕ) (w : Lists) (b : ℕ) (o : Option ℕ) →
+    AreLinked ms lists next previous → shown ms lists ≡ w
     → MatchOption o (IsNobodyBelow w.members b latest) (IsPrevious w.members b latest) → MatchOption o (IsEmpty w.members b) (IsLast w.members b)
 last-of ms lists next previous w b o linked is =
-    subst (λ v. MatchOption o (IsNobodyBelow v.members b latest) (IsPrevious v.members b latest) → MatchOption o (IsEmpty v.members b) (IsLast v.members b)) is (go o)
+    subst (λ v. MatchOption o (IsNobodyBelow v.members b latest) (IsPrevious v.members b latest) →
+    MatchOption o (IsEmpty v.members b) (IsLast v.members b)) is (go o)
   where
     go : (o : Option ℕ) → MatchOption o (IsNobodyBelow ms b latest) (IsPrevious ms b latest) → MatchOption o (IsEmpty ms b) (IsLast ms b)
-    go None h = record { none = λ q t own. let le : latest ≤ t = h.fewest q t own in let lt : t < latest = (linked.listed q b t own).2 in omega (arith, le, lt) }
+    go None h = record {
+      none = λ q t own. let le : latest ≤ t = h.fewest q t own in let lt : t < latest =
+          (linked.listed q b t own).2 in omega (arith, le, lt);
+    }
     go (Some p) h = record { ticket = h.ticket; own = h.own; greatest = λ q t own. h.greatest q t own (linked.listed q b t own).2 }

@@ -39,7 +39,8 @@ pub record IsOther (ms : List (Option Member)) (p q list t : ℕ) : Type 0 where
 pub other : (ms : List (Option Member)) (p q list t : ℕ) → p < length ms → member_at (set ms p None) q ≡ in_list list t → IsOther ms p q list t
 other ms p q list t lt h =
     elim (cases_eq q p) [
-      | inl here ↦ clash (IsOther ms p q list t) (member_at (set ms p None) q) (record { list = list; ticket = t }) (ap (λ n. member_at (set ms p None) n) here ∙ get_or-set_same ms p None None lt) h
+      | inl here ↦ clash (IsOther ms p q list t) (member_at (set ms p None) q) (record { list = list; ticket = t })
+          (ap (λ n. member_at (set ms p None) n) here ∙ get_or-set_same ms p None None lt) h
       | inr away ↦ record { away = away; was = sym (get_or-set_other ms p q None None away) ∙ h }
     ]
 
@@ -52,7 +53,8 @@ pub whose : (ms : List (Option Member)) (p b t q c u : ℕ) → p < length ms �
 whose ms p b t q c u lt h =
     elim (cases_eq q p) [
       | inl here ↦
-          let own : member_at (set ms p (in_list b t)) q ≡ in_list b t = ap (λ n. member_at (set ms p (in_list b t)) n) here ∙ get_or-set_same ms p (in_list b t) None lt in
+          let own : member_at (set ms p (in_list b t)) q ≡ in_list b t = ap (λ n. member_at (set ms p (in_list b t)) n) here ∙
+          get_or-set_same ms p (in_list b t) None lt in
           itself here (same-list (member_at (set ms p (in_list b t)) q) c u b t h own) (same-ticket (member_at (set ms p (in_list b t)) q) c u b t h own)
       | inr away ↦ another away (sym (get_or-set_other ms p q (in_list b t) None away) ∙ h)
     ]

@@ -37,7 +37,8 @@ before-room ms lists next previous p r linked own e =
     let known : own.list < lists = (linked.listed p own.list own.ticket own.is).0 in
     let room : r < length ms + lists =
     before-within ms lists own.list own.ticket r known
-    (subst (λ n. IsBefore ms own.list own.ticket n) (sym (read previous (length ms + lists) p r linked.backward (omega (arith, lt)) e)) (linked.backs p own.list own.ticket known (IsBackFrom.a_member own.is))) in
+    (subst (λ n. IsBefore ms own.list own.ticket n) (sym (read previous (length ms + lists) p r linked.backward (omega (arith, lt)) e))
+    (linked.backs p own.list own.ticket known (IsBackFrom.a_member own.is))) in
     subst (λ n. r < n) (sym linked.forward) room
 
 pub behind-room : (ms : List (Option Member)) (lists : ℕ) (next previous : List ℕ) (p s : ℕ) → AreLinked ms lists next previous → HasMember (member_at ms p)
@@ -47,7 +48,8 @@ behind-room ms lists next previous p s linked own e =
     let known : own.list < lists = (linked.listed p own.list own.ticket own.is).0 in
     let room : s < length ms + lists =
     behind-within ms lists own.list own.ticket s known
-    (subst (λ n. IsBehind ms own.list own.ticket n) (sym (read next (length ms + lists) p s linked.forward (omega (arith, lt)) e)) (linked.nexts p own.list own.ticket known (IsFrom.a_member own.is))) in
+    (subst (λ n. IsBehind ms own.list own.ticket n) (sym (read next (length ms + lists) p s linked.forward (omega (arith, lt)) e))
+    (linked.nexts p own.list own.ticket known (IsFrom.a_member own.is))) in
     subst (λ n. s < n) (sym linked.backward) room
 
 pub taken-out : (ms : List (Option Member)) (lists : ℕ) (next previous : List ℕ) (p r s : ℕ) → AreLinked ms lists next previous → HasMember (member_at ms p)

@@ -29,15 +29,18 @@ record Joins (ms : List (Option Member)) (b t c u : ℕ) : Type 0 where
   nearer : t < u
   all : (q v : ℕ) → member_at ms q ≡ in_list b v → t < v → u ≤ v
 
-joins : (ms : List (Option Member)) (lists : ℕ) (next previous : List ℕ) (b t r c u : ℕ) → AreLinked ms lists next previous → (b < lists) × (0 < t) × (t < latest)
+joins : (ms : List (Option Member)) (lists : ℕ) (next previous : List ℕ) (b t r c u : ℕ) →
+    AreLinked ms lists next previous → (b < lists) × (0 < t) × (t < latest)
     → IsBehind ms b t r → IsBackFrom ms r c u → Joins ms b t c u
 joins ms lists next previous b t r c u linked some (IsBehind.nobody e none) (IsBackFrom.the_end f z) = record {
   same = omega (arith, e, f);
   nearer = omega (arith, z, some.1, some.2);
   all = λ q v own lt. let le : v ≤ t = none.most q v own in absurd (omega (arith, le, lt));
 }
-joins ms lists next previous b t r c u linked some (IsBehind.nobody e none) (IsBackFrom.a_member own) = let lt : r < length ms = within ms r c u own in absurd (omega (arith, lt, e))
-joins ms lists next previous b t r c u linked some (IsBehind.somebody h) (IsBackFrom.the_end f z) = let lt : r < length ms = within ms r b h.ticket h.own in absurd (omega (arith, lt, f))
+joins ms lists next previous b t r c u linked some (IsBehind.nobody e none) (IsBackFrom.a_member own) = let lt : r < length ms =
+    within ms r c u own in absurd (omega (arith, lt, e))
+joins ms lists next previous b t r c u linked some (IsBehind.somebody h) (IsBackFrom.the_end f z) = let lt : r < length ms =
+    within ms r b h.ticket h.own in absurd (omega (arith, lt, f))
 joins ms lists next previous b t r c u linked some (IsBehind.somebody h) (IsBackFrom.a_member own) =
     let at_it : h.ticket ≡ u = same-ticket (member_at ms r) b h.ticket c u h.own own in
     let near : t < h.ticket = h.above in
@@ -67,7 +70,8 @@ joined ms lists next previous p b t c u s linked own j (IsBefore.somebody h) =
     let lt : p < length ms = within ms p b t own in
     let beyond : h.ticket < t = h.below in
     let near : t < u = j.nearer in
-    let away : s ≢ p = λ here. let same : h.ticket ≡ t = same-ticket (member_at ms s) b h.ticket b t h.own (ap (λ n. member_at ms n) here ∙ own) in omega (arith, same, beyond) in
+    let away : s ≢ p = λ here. let same : h.ticket ≡ t =
+    same-ticket (member_at ms s) b h.ticket b t h.own (ap (λ n. member_at ms n) here ∙ own) in omega (arith, same, beyond) in
     subst (λ n. IsBefore (set ms p None) n u s) (sym j.same)
     (IsBefore.somebody (record {
       ticket = h.ticket;
@@ -121,7 +125,8 @@ only ms lists next previous p b t x c u r linked own h before from = go before f
               absurd (omega (arith, no, less, ticket))
         ]
 
-pub backs-out : (ms : List (Option Member)) (lists : ℕ) (next previous : List ℕ) (p b t r s : ℕ) → AreLinked ms lists next previous → member_at ms p ≡ in_list b t
+pub backs-out : (ms : List (Option Member)) (lists : ℕ) (next previous : List ℕ) (p b t r s : ℕ) →
+    AreLinked ms lists next previous → member_at ms p ≡ in_list b t
     → r ≡ get_or next p 0 → s ≡ get_or previous p 0 → r < length previous
     → (x c u : ℕ) → c < lists → IsBackFrom (set ms p None) x c u → IsBefore (set ms p None) c u (get_or (set previous r s) x 0)
 backs-out ms lists next previous p b t r s linked own before behind room x c u few from' = go (cases_eq x r)
@@ -154,4 +159,5 @@ backs-out ms lists next previous p b t r s linked own before behind room x c u f
         (joined ms lists next previous p b t c u s linked own
         (joins ms lists next previous b t r c u linked (linked.listed p b t own) is_before (subst (λ n. IsBackFrom ms n c u) here from)) is_behind)
     go (inr away) =
-        subst (λ n. IsBefore (set ms p None) c u n) (sym (get_or-set_other previous r x s 0 away)) (kept (get_or previous x 0) away (linked.backs x c u few from))
+        subst (λ n. IsBefore (set ms p None) c u n) (sym (get_or-set_other previous r x s 0 away))
+        (kept (get_or previous x 0) away (linked.backs x c u few from))

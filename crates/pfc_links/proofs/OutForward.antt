@@ -29,15 +29,18 @@ record Joins (ms : List (Option Member)) (b t c u : ℕ) : Type 0 where
   nearer : u < t
   all : (q v : ℕ) → member_at ms q ≡ in_list b v → v < t → v ≤ u
 
-joins : (ms : List (Option Member)) (lists : ℕ) (next previous : List ℕ) (b t r c u : ℕ) → AreLinked ms lists next previous → (b < lists) × (0 < t) × (t < latest)
+joins : (ms : List (Option Member)) (lists : ℕ) (next previous : List ℕ) (b t r c u : ℕ) →
+    AreLinked ms lists next previous → (b < lists) × (0 < t) × (t < latest)
     → IsBefore ms b t r → IsFrom ms r c u → Joins ms b t c u
 joins ms lists next previous b t r c u linked some (IsBefore.nobody e none) (IsFrom.the_end f z) = record {
   same = omega (arith, e, f);
   nearer = omega (arith, z, some.1, some.2);
   all = λ q v own lt. let le : t ≤ v = none.fewest q v own in absurd (omega (arith, le, lt));
 }
-joins ms lists next previous b t r c u linked some (IsBefore.nobody e none) (IsFrom.a_member own) = let lt : r < length ms = within ms r c u own in absurd (omega (arith, lt, e))
-joins ms lists next previous b t r c u linked some (IsBefore.somebody h) (IsFrom.the_end f z) = let lt : r < length ms = within ms r b h.ticket h.own in absurd (omega (arith, lt, f))
+joins ms lists next previous b t r c u linked some (IsBefore.nobody e none) (IsFrom.a_member own) = let lt : r < length ms =
+    within ms r c u own in absurd (omega (arith, lt, e))
+joins ms lists next previous b t r c u linked some (IsBefore.somebody h) (IsFrom.the_end f z) = let lt : r < length ms =
+    within ms r b h.ticket h.own in absurd (omega (arith, lt, f))
 joins ms lists next previous b t r c u linked some (IsBefore.somebody h) (IsFrom.a_member own) =
     let at_it : h.ticket ≡ u = same-ticket (member_at ms r) b h.ticket c u h.own own in
     let near : h.ticket < t = h.below in
@@ -67,7 +70,8 @@ joined ms lists next previous p b t c u s linked own j (IsBehind.somebody h) =
     let lt : p < length ms = within ms p b t own in
     let beyond : t < h.ticket = h.above in
     let near : u < t = j.nearer in
-    let away : s ≢ p = λ here. let same : h.ticket ≡ t = same-ticket (member_at ms s) b h.ticket b t h.own (ap (λ n. member_at ms n) here ∙ own) in omega (arith, same, beyond) in
+    let away : s ≢ p = λ here. let same : h.ticket ≡ t =
+    same-ticket (member_at ms s) b h.ticket b t h.own (ap (λ n. member_at ms n) here ∙ own) in omega (arith, same, beyond) in
     subst (λ n. IsBehind (set ms p None) n u s) (sym j.same)
     (IsBehind.somebody (record {
       ticket = h.ticket;
@@ -121,7 +125,8 @@ only ms lists next previous p b t x c u r linked own h before from = go before f
               absurd (omega (arith, no, less, ticket))
         ]
 
-pub nexts-out : (ms : List (Option Member)) (lists : ℕ) (next previous : List ℕ) (p b t r s : ℕ) → AreLinked ms lists next previous → member_at ms p ≡ in_list b t
+pub nexts-out : (ms : List (Option Member)) (lists : ℕ) (next previous : List ℕ) (p b t r s : ℕ) →
+    AreLinked ms lists next previous → member_at ms p ≡ in_list b t
     → r ≡ get_or previous p 0 → s ≡ get_or next p 0 → r < length next
     → (x c u : ℕ) → c < lists → IsFrom (set ms p None) x c u → IsBehind (set ms p None) c u (get_or (set next r s) x 0)
 nexts-out ms lists next previous p b t r s linked own before behind room x c u few from' = go (cases_eq x r)

@@ -68,7 +68,8 @@ impl Links {
     /// Who is behind a member of a list.
     pub fn next(&self, p: u32) -> Option<u32>
         requires { p < length self.now.members }
-        ensures { (list t : ℕ) → member_at self.now.members p ≡ in_list list t → MatchOption result (IsNobodyAbove self.now.members list t) (IsNext self.now.members list t) }
+        ensures { (list t : ℕ) → member_at self.now.members p ≡ in_list list t →
+            MatchOption result (IsNobodyAbove self.now.members list t) (IsNext self.now.members list t) }
     {
         self.process(self.next[p as usize])
     }
@@ -84,7 +85,8 @@ impl Links {
     /// Who is before a member of a list.
     pub fn previous(&self, p: u32) -> Option<u32>
         requires { p < length self.now.members }
-        ensures { (list t : ℕ) → member_at self.now.members p ≡ in_list list t → MatchOption result (IsNobodyBelow self.now.members list t) (IsPrevious self.now.members list t) }
+        ensures { (list t : ℕ) → member_at self.now.members p ≡ in_list list t →
+            MatchOption result (IsNobodyBelow self.now.members list t) (IsPrevious self.now.members list t) }
     {
         self.process(self.previous[p as usize])
     }

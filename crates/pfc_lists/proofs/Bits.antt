@@ -47,7 +47,8 @@ bits-set zero a b j held lt is others = absurd (omega arith)
 bits-set (suc k) a b zero held lt is others =
     bits-more k a
     ∙ ap (λ v. v ∷ bits k (a / 2)) (ap (λ v. v == 1) (sym (bit_at_lowest a)) ∙ is)
-    ∙ ap (λ v. held ∷ v) (bits-same k (a / 2) (b / 2) (λ i lt. sym (bit_at-suc a i) ∙ others (suc i) (omega arith) (λ e. absurd (omega (arith, e))) ∙ bit_at-suc b i))
+    ∙ ap (λ v. held ∷ v) (bits-same k (a / 2) (b / 2) (λ i lt. sym (bit_at-suc a i) ∙
+    others (suc i) (omega arith) (λ e. absurd (omega (arith, e))) ∙ bit_at-suc b i))
     ∙ ap (λ v. set v 0 held) (sym (bits-more k b))
 bits-set (suc k) a b (suc j) held lt is others =
     bits-more k a
@@ -149,7 +150,8 @@ same-low n k w b lt =
     sym (get_or_append_left (numbers_from n (bits k (w % 2 ^ k))) (numbers_from (n + k) (bits k (w / 2 ^ k))) 0 b (in-low n k w b lt))
     ∙ ap (λ v. get_or v b 0) (sym (halves n k w))
 
-pub in-high : (n k w b : ℕ) → count_ones (w % 2 ^ k) ≤ b → b < length (numbers_from n (bits (k + k) w)) → b - count_ones (w % 2 ^ k) < length (numbers_from (n + k) (bits k (w / 2 ^ k)))
+pub in-high : (n k w b : ℕ) → count_ones (w % 2 ^ k) ≤ b → b < length (numbers_from n (bits (k + k) w)) →
+    b - count_ones (w % 2 ^ k) < length (numbers_from (n + k) (bits k (w / 2 ^ k)))
 in-high n k w b le lt =
     let all : length (numbers_from n (bits (k + k) w)) ≡ count_ones (w % 2 ^ k) + length (numbers_from (n + k) (bits k (w / 2 ^ k))) =
     ap length (halves n k w) ∙ length-append (numbers_from n (bits k (w % 2 ^ k))) (numbers_from (n + k) (bits k (w / 2 ^ k)))
@@ -159,7 +161,8 @@ in-high n k w b le lt =
 pub same-high : (n k w b : ℕ) → count_ones (w % 2 ^ k) ≤ b
     → get_or (numbers_from (n + k) (bits k (w / 2 ^ k))) (b - count_ones (w % 2 ^ k)) 0 ≡ get_or (numbers_from n (bits (k + k) w)) b 0
 same-high n k w b le =
-    sym (get_or-append_right (numbers_from n (bits k (w % 2 ^ k))) (numbers_from (n + k) (bits k (w / 2 ^ k))) (count_ones (w % 2 ^ k)) b 0 (low-count n k w) le)
+    sym (get_or-append_right (numbers_from n (bits k (w % 2 ^ k))) (numbers_from (n + k) (bits k (w / 2 ^ k)))
+    (count_ones (w % 2 ^ k)) b 0 (low-count n k w) le)
     ∙ ap (λ v. get_or v b 0) (sym (halves n k w))
 
 -- among one bit there is one number
@@ -177,7 +180,8 @@ one-number n w b lt = ap (λ v. get_or (numbers_from n v) b 0) one ∙ go (w % 2
 -- the lowest number, by the zeros below the lowest one
 pub lowest-number : (k n w : ℕ) → 0 < length (numbers_from n (bits k w)) → get_or (numbers_from n (bits k w)) 0 0 ≡ n + count_trailing_zeros k w
 unfolding count_trailing_zeros
-lowest-number zero n w lt = absurd (let none : length (numbers_from n (bits 0 w)) ≡ 0 = ap (λ v. length (numbers_from n v)) (bits-none w) in omega (arith, lt, none))
+lowest-number zero n w lt = absurd (let none : length (numbers_from n (bits 0 w)) ≡ 0 =
+    ap (λ v. length (numbers_from n v)) (bits-none w) in omega (arith, lt, none))
 lowest-number (suc k) n w lt =
     let low : w % 2 < 2 = mod_below w 2 (omega arith) in
     ap (λ v. get_or (numbers_from n v) 0 0) (bits-more k w)
@@ -187,7 +191,8 @@ lowest-number (suc k) n w lt =
     rest = bits k (w / 2)
 
     go : (0 < length (numbers_from (n + 1) rest) → get_or (numbers_from (n + 1) rest) 0 0 ≡ n + 1 + count_trailing_zeros k (w / 2))
-        → (r : ℕ) → r < 2 → 0 < length (numbers_from n ((r == 1) ∷ rest)) → get_or (numbers_from n ((r == 1) ∷ rest)) 0 0 ≡ n + under r (count_trailing_zeros k (w / 2))
+        → (r : ℕ) → r < 2 → 0 < length (numbers_from n ((r == 1) ∷ rest)) →
+        get_or (numbers_from n ((r == 1) ∷ rest)) 0 0 ≡ n + under r (count_trailing_zeros k (w / 2))
     go next zero less there = let ih : get_or (numbers_from (n + 1) rest) 0 0 ≡ n + 1 + count_trailing_zeros k (w / 2) = next there in omega (arith, ih)
     go next (suc zero) less there = omega arith
     go next (suc (suc r)) less there = absurd (omega (arith, less))

@@ -104,7 +104,8 @@ flags-take (w ∷ ws) (suc k) j x lt is within =
     let n : 64 * suc k + j ≡ 64 + (64 * k + j) = omega arith in
     ap (λ v. take v (flags (w ∷ ws))) n
     ∙ ap (take (64 + (64 * k + j))) (flags-more w ws)
-    ∙ (let e : 64 + (64 * k + j) ≡ length (bits 64 w) + (64 * k + j) = ap (λ v. v + (64 * k + j)) (sym (bits-length 64 w)) in ap (λ v. take v (bits 64 w ++ flags ws)) e)
+    ∙ (let e : 64 + (64 * k + j) ≡ length (bits 64 w) + (64 * k + j) =
+    ap (λ v. v + (64 * k + j)) (sym (bits-length 64 w)) in ap (λ v. take v (bits 64 w ++ flags ws)) e)
     ∙ take-append-add (bits 64 w) (flags ws) (64 * k + j)
     ∙ ap (λ v. bits 64 w ++ v) (flags-take ws k j x (omega (arith, lt)) is within)
     ∙ sym (append_assoc (bits 64 w) (flags (take k ws)) (bits j x))
@@ -112,13 +113,15 @@ flags-take (w ∷ ws) (suc k) j x lt is within =
 
 -- the numbers below a place: those of the words before, and of the low bits
 pub numbers-below : (ws : List ℕ) (n x : ℕ) → n / 64 < length ws → x ≡ get_or ws (n / 64) x
-    → length (numbers (take n (flags ws))) ≡ length (numbers (flags (take (n / 64) ws))) + length (numbers_from (length (flags (take (n / 64) ws))) (bits (n % 64) x))
+    → length (numbers (take n (flags ws))) ≡ length (numbers (flags (take (n / 64) ws))) + length
+    (numbers_from (length (flags (take (n / 64) ws))) (bits (n % 64) x))
 numbers-below ws n x lt is =
     ap (λ v. length (numbers (take v (flags ws)))) (sym (number-is n))
     ∙ ap (λ v. length (numbers v)) (flags-take ws (n / 64) (n % 64) x lt is (bit-within n))
     ∙ ap length (numbers-append 0 (flags (take (n / 64) ws)) (bits (n % 64) x))
     ∙ length-append (numbers (flags (take (n / 64) ws))) (numbers_from (0 + length (flags (take (n / 64) ws))) (bits (n % 64) x))
-    ∙ ap (λ v. length (numbers (flags (take (n / 64) ws))) + length (numbers_from v (bits (n % 64) x))) (let e : 0 + length (flags (take (n / 64) ws)) ≡ length (flags (take (n / 64) ws)) = omega arith in e)
+    ∙ ap (λ v. length (numbers (flags (take (n / 64) ws))) + length (numbers_from v (bits (n % 64) x))) (let e : 0 + length (flags (take (n / 64) ws)) ≡ length
+    (flags (take (n / 64) ws)) = omega arith in e)
 
 -- the bits from a word on
 pub flags-drop : (ws : List ℕ) (k x : ℕ) → k < length ws → x ≡ get_or ws k x → flags (drop k ws) ≡ bits 64 x ++ flags (drop (k + 1) ws)
@@ -184,7 +187,8 @@ pub put-count : (ws : List ℕ) (n count more less : ℕ) (held has : Bool) → 
     → more ≡ cond held 1 0 → has ≡ get_or (flags ws) n false → less ≡ cond has 1 0
     → (less ≤ count + more) × (count + more - less ≡ length (numbers (set (flags ws) n held)))
 put-count ws n count more less held has lt is m h l =
-    let change : length (numbers (set (flags ws) n held)) + cond (get_or (flags ws) n false) 1 0 ≡ length (numbers (flags ws)) + cond held 1 0 = counts 0 (flags ws) n held lt in
+    let change : length (numbers (set (flags ws) n held)) + cond (get_or (flags ws) n false) 1 0 ≡ length (numbers (flags ws)) + cond held 1 0 =
+    counts 0 (flags ws) n held lt in
     let old : less ≡ cond (get_or (flags ws) n false) 1 0 = l ∙ ap (λ v. cond v 1 0) h in
     (omega (arith, change, old, is, m), omega (arith, change, old, is, m))
 
@@ -223,8 +227,10 @@ here-same ws k left lt within =
 pub behind-within : (ws : List ℕ) (k left held : ℕ) → k < length ws → held ≡ length (numbers_from (64 * k) (bits 64 (get_or ws k 0))) → held ≤ left
     → left < length (numbers_from (64 * k) (flags (drop k ws))) → left - held < length (numbers_from (64 * (k + 1)) (flags (drop (k + 1) ws)))
 behind-within ws k left held lt is le within =
-    let all : length (numbers_from (64 * k) (flags (drop k ws))) ≡ length (numbers_from (64 * k) (bits 64 (get_or ws k 0))) + length (numbers_from (64 * (k + 1)) (flags (drop (k + 1) ws))) =
-    ap length (numbers-drop ws k lt) ∙ length-append (numbers_from (64 * k) (bits 64 (get_or ws k 0))) (numbers_from (64 * (k + 1)) (flags (drop (k + 1) ws))) in
+    let all : length (numbers_from (64 * k) (flags (drop k ws))) ≡ length (numbers_from (64 * k) (bits 64 (get_or ws k 0))) + length
+    (numbers_from (64 * (k + 1)) (flags (drop (k + 1) ws))) =
+    ap length (numbers-drop ws k lt) ∙
+    length-append (numbers_from (64 * k) (bits 64 (get_or ws k 0))) (numbers_from (64 * (k + 1)) (flags (drop (k + 1) ws))) in
     omega (arith, all, is, le, within)
 
 pub behind-same : (ws : List ℕ) (k left held : ℕ) → k < length ws → held ≡ length (numbers_from (64 * k) (bits 64 (get_or ws k 0))) → held ≤ left
@@ -241,7 +247,8 @@ drop-past (w ∷ ws) (suc k) le = drop-past ws k (omega (arith, le))
 
 pub none-behind : (ws : List ℕ) (k left : ℕ) → length ws ≤ k → left < length (numbers_from (64 * k) (flags (drop k ws))) → ⊥
 none-behind ws k left le within =
-    let none : length (numbers_from (64 * k) (flags (drop k ws))) ≡ 0 = ap (λ v. length (numbers_from (64 * k) (flags v))) (drop-past ws k le) ∙ ap (λ v. length (numbers_from (64 * k) v)) flags-none in
+    let none : length (numbers_from (64 * k) (flags (drop k ws))) ≡ 0 = ap (λ v. length (numbers_from (64 * k) (flags v))) (drop-past ws k le) ∙
+    ap (λ v. length (numbers_from (64 * k) v)) flags-none in
     absurd (omega (arith, none, within))
 
 -- one word more
@@ -252,7 +259,8 @@ numbers-more ws k lt =
     ap (λ v. length (numbers v)) (ap flags (take_more ws k 0 lt) ∙ flags-push (take k ws) (get_or ws k 0))
     ∙ ap length (numbers-append 0 (flags (take k ws)) (bits 64 (get_or ws k 0)))
     ∙ length-append (numbers (flags (take k ws))) (numbers_from (0 + length (flags (take k ws))) (bits 64 (get_or ws k 0)))
-    ∙ ap (λ v. length (numbers (flags (take k ws))) + length (numbers_from v (bits 64 (get_or ws k 0)))) (let e : 0 + length (flags (take k ws)) ≡ 64 * k = omega (arith, long) in e)
+    ∙ ap (λ v. length (numbers (flags (take k ws))) + length (numbers_from v (bits 64 (get_or ws k 0))))
+    (let e : 0 + length (flags (take k ws)) ≡ 64 * k = omega (arith, long) in e)
 
 -- the low bits of a word have as many numbers as the word that has no others
 pub low-numbers : (n j w : ℕ) → j < 64 → length (numbers_from n (bits 64 (w % 2 ^ j))) ≡ length (numbers_from n (bits j w))

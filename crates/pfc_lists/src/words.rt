@@ -18,7 +18,8 @@ impl Search {
         requires found { self.before < length (numbers_from self.lowest (bits (half + half) self.word)) }
         requires small { self.lowest + half < 2 ^ 31 }
         ensures found { result.before < length (numbers_from result.lowest (bits half result.word)) }
-        ensures same { get_or (numbers_from result.lowest (bits half result.word)) result.before 0 ≡ get_or (numbers_from self.lowest (bits (half + half) self.word)) self.before 0 }
+        ensures same { get_or (numbers_from result.lowest (bits half result.word)) result.before 0 ≡ get_or
+            (numbers_from self.lowest (bits (half + half) self.word)) self.before 0 }
         ensures near { result.lowest ≤ self.lowest + half }
     {
         let low = low_bits(self.word, half);

@@ -67,7 +67,8 @@ set-reverse_at xs k v h j d lt =
 pub set-reverse : {X : Type 0} (xs : List X) (k : ℕ) (v : X) → k < length xs → set (reverse xs) k v ≡ reverse (set xs (length xs - 1 - k) v)
 set-reverse xs k v h =
     let left : length (set (reverse xs) k v) ≡ length xs = length-set (reverse xs) k v ∙ length-reverse xs in
-    let right : length (reverse (set xs (length xs - 1 - k) v)) ≡ length xs = length-reverse (set xs (length xs - 1 - k) v) ∙ length-set xs (length xs - 1 - k) v in
+    let right : length (reverse (set xs (length xs - 1 - k) v)) ≡ length xs =
+    length-reverse (set xs (length xs - 1 - k) v) ∙ length-set xs (length xs - 1 - k) v in
     same_lists (set (reverse xs) k v) (reverse (set xs (length xs - 1 - k) v)) (left ∙ sym right)
     (λ j d lt. set-reverse_at xs k v h j d (omega arith))
 

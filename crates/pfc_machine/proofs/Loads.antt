@@ -27,7 +27,8 @@ passed_more stacks p ops v inside =
     ap (λ (t : Stack). set (passed stacks p ops) p (record t { operands = v ∷ t.operands })) (stack_passed stacks p ops inside)
     ∙ set-set stacks p (record s { at = s.at + 1; operands = ops }) (record s { at = s.at + 1; operands = v ∷ ops })
 
-pub cell_among : (stacks : Stacks) (r : Ref) (z j : ℕ) → j < z → get_or (cells_of stacks r.process) (r.cell + j) (pos 0) ≡ get_or (cells_at stacks r z) j (pos 0)
+pub cell_among : (stacks : Stacks) (r : Ref) (z j : ℕ) → j < z →
+    get_or (cells_of stacks r.process) (r.cell + j) (pos 0) ≡ get_or (cells_at stacks r z) j (pos 0)
 cell_among stacks r z j lt =
     let cells : List ℤ = cells_of stacks r.process in
     sym (get_or-take z (drop r.cell cells) j (pos 0) lt ∙ get_or-drop r.cell cells j (pos 0))
@@ -38,7 +39,8 @@ length-cells_at stacks r z live =
     let rest : length (drop r.cell cells) ≡ length cells - r.cell = length-drop r.cell cells in
     length-take-le z (drop r.cell cells) (omega arith)
 
-pub pushed_more : (ws below : List ℤ) (j : ℕ) (v : ℤ) → j < length ws → v ≡ get_or ws j (pos 0) → v ∷ (reverse (take j ws) ++ below) ≡ reverse (take (j + 1) ws) ++ below
+pub pushed_more : (ws below : List ℤ) (j : ℕ) (v : ℤ) → j < length ws → v ≡ get_or ws j (pos 0) →
+    v ∷ (reverse (take j ws) ++ below) ≡ reverse (take (j + 1) ws) ++ below
 pushed_more ws below j v lt e =
     ap (λ (w : ℤ). w ∷ (reverse (take j ws) ++ below)) e
     ∙ sym (ap (λ (xs : List ℤ). reverse xs ++ below) (take_more ws j (pos 0) lt)

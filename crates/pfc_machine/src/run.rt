@@ -109,7 +109,8 @@ impl Store {
         requires room { z - 1 ≤ (stack_of self.old p).room - length (stack_of self.old p).operands }
         requires live { AreLive self.old (ref_of (operand (stack_of self.old p).operands 0)) z }
         requires next { (stack_of self.old p).at + 1 < 2 ^ 32 }
-        ensures { self.new ≡ passed self.old p (reverse (cells_at self.old (ref_of (operand (stack_of self.old p).operands 0)) z) ++ drop 1 (stack_of self.old p).operands) }
+        ensures { self.new ≡ passed self.old p
+            (reverse (cells_at self.old (ref_of (operand (stack_of self.old p).operands 0)) z) ++ drop 1 (stack_of self.old p).operands) }
     {
         if z == 1 {
             let v = self.read(Ref::of(self.held(p, 0)));
@@ -126,7 +127,8 @@ impl Store {
         requires room { z - 1 ≤ (stack_of self.old p).room - length (stack_of self.old p).operands }
         requires live { AreLive self.old (ref_of (operand (stack_of self.old p).operands 0)) z }
         requires next { (stack_of self.old p).at + 1 < 2 ^ 32 }
-        ensures { self.new ≡ passed self.old p (reverse (cells_at self.old (ref_of (operand (stack_of self.old p).operands 0)) z) ++ drop 1 (stack_of self.old p).operands) }
+        ensures { self.new ≡ passed self.old p
+            (reverse (cells_at self.old (ref_of (operand (stack_of self.old p).operands 0)) z) ++ drop 1 (stack_of self.old p).operands) }
     {
         let from = Ref::of(self.operand(p, 0));
         self.pass(p, 1);
@@ -142,7 +144,8 @@ impl Store {
         requires held { z + 1 ≤ length (stack_of self.old p).operands }
         requires live { AreLive self.old (ref_of (operand (stack_of self.old p).operands z)) z }
         requires next { (stack_of self.old p).at + 1 < 2 ^ 32 }
-        ensures { self.new ≡ passed (written self.old (ref_of (operand (stack_of self.old p).operands z)) (reverse (take z (stack_of self.old p).operands))) p (drop (z + 1) (stack_of self.old p).operands) }
+        ensures { self.new ≡ passed (written self.old (ref_of (operand (stack_of self.old p).operands z)) (reverse (take z (stack_of self.old p).operands))) p
+            (drop (z + 1) (stack_of self.old p).operands) }
     {
         let to = Ref::of(self.held(p, z as usize));
         if z == 1 {
@@ -159,7 +162,8 @@ impl Store {
         requires held { 3 ≤ length (stack_of self.old p).operands }
         requires live { AreLive self.old (ref_of (operand (stack_of self.old p).operands 2)) 1 }
         requires next { (stack_of self.old p).at + 1 < 2 ^ 32 }
-        ensures { self.new ≡ passed (written self.old (ref_of (operand (stack_of self.old p).operands 2)) (operand (stack_of self.old p).operands 1 ∷ [])) p (stack_of self.old p).operands }
+        ensures { self.new ≡ passed (written self.old (ref_of (operand (stack_of self.old p).operands 2)) (operand (stack_of self.old p).operands 1 ∷
+            [])) p (stack_of self.old p).operands }
     {
         let to = Ref::of(self.held(p, 2));
         self.write(to, self.held(p, 1));

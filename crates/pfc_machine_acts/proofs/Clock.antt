@@ -136,7 +136,8 @@ returned_keeps Plain scans p m = refl
 returned_keeps (Monitor n) scans p m = of_holders m.world (next_holder m.world.rows n) (monitors_held m) n refl
 returned_keeps (Resource g) scans p m = refl
 
-calls_keep : (image : PlainImage) (i : Instr) (choice p : ℕ) (m : Machine) → Keeps m.world (holds_by image i choice p m) → Keeps m.world (calls_by image i choice p m)
+calls_keep : (image : PlainImage) (i : Instr) (choice p : ℕ) (m : Machine) → Keeps m.world (holds_by image i choice p m) →
+    Keeps m.world (calls_by image i choice p m)
 calls_keep image (CALL k l) choice p m h =
     block_keeps (slice_get image.blocks k) m (λ b. calls k b l p m)
     (λ b. unless_full_keeps m.world (has_place_above b p m) (activated k b (in_view m.stacks p l) Plain p m) refl)
@@ -162,7 +163,8 @@ calls_keep image (NEW k) choice p m h =
     (keeps_if m.world (has_place q 0 b) (Ok (at_rest (creation k b p q m))) (Err Full) refl tt))
 calls_keep image i choice p m h = h
 
-lives_keep : (image : PlainImage) (i : Instr) (choice p : ℕ) (m : Machine) → Keeps m.world (calls_by image i choice p m) → Keeps m.world (lives_by image i choice p m)
+lives_keep : (image : PlainImage) (i : Instr) (choice p : ℕ) (m : Machine) → Keeps m.world (calls_by image i choice p m) →
+    Keeps m.world (lives_by image i choice p m)
 lives_keep image COEND choice p m h = joined_keeps m.world p
 lives_keep image END choice p m h = released_keeps (rested (placed m.world p Is_done))
 lives_keep image SLEEP choice p m h = slept_keeps m p (due_behind m.world.moment (operand (operands_of m.stacks p) 0))
@@ -189,7 +191,8 @@ resumed_keeps w (Some q) h p n e = e
 bars_keep : (g p : ℕ) (m : Machine) → clock (bars g p m).world ≡ clock m.world
 bars_keep g p m = of_holders m.world (next_entrant m.world.rows g) (resources_held m) g refl
 
-passes_keep : (requeued : Bool) (blocks : List Block) (s : Scan) (q g p : ℕ) (m : Machine) → clock (passes_where requeued blocks s q g p m).world ≡ clock m.world
+passes_keep : (requeued : Bool) (blocks : List Block) (s : Scan) (q g p : ℕ) (m : Machine) →
+    clock (passes_where requeued blocks s q g p m).world ≡ clock m.world
 passes_keep false blocks s q g p m = refl
 passes_keep true blocks s q g p m = refl
 
@@ -216,11 +219,13 @@ turned_keeps blocks (Some s) g p m = scanned_keeps blocks s (scanned m.world.row
 holds_keep : (image : PlainImage) (i : Instr) (choice p : ℕ) (m : Machine) → Keeps m.world (meets_by i choice p m) → Keeps m.world (holds_by image i choice p m)
 holds_keep image SINI choice p m h =
     let n : ℤ = operand (operands_of m.stacks p) 0 in
-    keeps_if m.world (is_below_zero n) (Err Negative) (Ok (at_rest (record (left_by m p 2) { semaphores = initialised m.semaphores (object_at 1 p m) n }))) tt refl
+    keeps_if m.world (is_below_zero n) (Err Negative)
+    (Ok (at_rest (record (left_by m p 2) { semaphores = initialised m.semaphores (object_at 1 p m) n }))) tt refl
 holds_keep image SWAIT choice p m h =
     let c : Counted = semaphores_counted m in
     let s : ℕ = object_at 0 p m in
-    if_so (λ (x : Counted). x.table) m.world (count_of c s == 0) (record { table = blocked c.table p (Semaphore s) []; counts = c.counts }) (counting c s (count_of c s - 1)) refl refl
+    if_so (λ (x : Counted). x.table) m.world (count_of c s == 0) (record { table = blocked c.table p (Semaphore s) []; counts = c.counts })
+    (counting c s (count_of c s - 1)) refl refl
 holds_keep image SSIG choice p m h =
     let c : Counted = semaphores_counted m in
     let s : ℕ = object_at 0 p m in
@@ -306,7 +311,8 @@ sent_from_keeps : (k : Option KeptAlternative) (own : KeptAlternative) (n p q : 
 sent_from_keeps None own n p q m = refl
 sent_from_keeps (Some k) own n p q m = refl
 
-received_by_keeps : (k : Option KeptAlternative) (to : ℤ) (own : KeptAlternative) (n p q : ℕ) (m : Machine) → clock (received_by k to own n p q m).world ≡ clock m.world
+received_by_keeps : (k : Option KeptAlternative) (to : ℤ) (own : KeptAlternative) (n p q : ℕ) (m : Machine) →
+    clock (received_by k to own n p q m).world ≡ clock m.world
 received_by_keeps None to own n p q m = refl
 received_by_keeps (Some k) to own n p q m = refl
 

@@ -76,7 +76,8 @@ module _ (image : PlainImage) (i : Instr) (p : ℕ) (m mid : Machine) (d : Stepp
       record {
         printed = record { machine = at_rest mid; bytes = [] };
         is = ap (λ (e : QuietEffect). comes_to e (acts_by image i choice p m)) h.0 ∙ h.2 choice;
-        machine = counted ∙ ap (λ (l : ℕ). acted l r.number (at_rest mid)) at_line ∙ ap (λ (q : ℕ). acted (line_of image p m) q (at_rest mid)) (number_of_acted r is);
+        machine = counted ∙ ap (λ (l : ℕ). acted l r.number (at_rest mid)) at_line ∙
+            ap (λ (q : ℕ). acted (line_of image p m) q (at_rest mid)) (number_of_acted r is);
         bytes = sym (append-nil out);
         chosen = ap (after_choosing picking) (sym h.3);
       }
@@ -96,17 +97,21 @@ module _ (image : PlainImage) (i : Instr) (p : ℕ) (m mid : Machine) (d : Stepp
 
   pub stands_is : (picking picking' : Picking) (out out' : List ℕ) (r : Running) (j : Instr) (line : ℕ) (result : Result ActionEnd Memory) (new : Machine)
       → d ≡ Stands r j → line ≡ line_of image p m
-      → IsAnswer (performs image j (choice_among picking (choices_for j r.number mid)) r.number mid) j line r.number (choices_for j r.number mid) mid picking picking' out out' result new
+      → IsAnswer (performs image j (choice_among picking (choices_for j r.number mid)) r.number mid) j line r.number
+      (choices_for j r.number mid) mid picking picking' out out' result new
       → IsActed image p m i picking picking' out out' result new
   stands_is picking picking' out out' r j line result new is at_line answer =
       let h = subst (λ (x : Stepped). IsStepped image i p m x mid) is did in
       let n : ℕ = choices_for i p m in
       let choice : ℕ = choice_among picking n in
-      let by_number = subst (λ (q : ℕ). IsAnswer (performs image j (choice_among picking (choices_for j q mid)) q mid) j line q (choices_for j q mid) mid picking picking' out out' result new)
+      let by_number = subst (λ (q : ℕ). IsAnswer (performs image j (choice_among picking (choices_for j q mid)) q mid) j line q
+      (choices_for j q mid) mid picking picking' out out' result new)
       (number_of_stands r j is) answer in
-      let by_machine = subst (λ (x : Machine). IsAnswer (performs image j (choice_among picking (choices_for j p x)) p x) j line p (choices_for j p x) x picking picking' out out' result new)
+      let by_machine = subst (λ (x : Machine). IsAnswer (performs image j (choice_among picking (choices_for j p x)) p x) j line p
+      (choices_for j p x) x picking picking' out out' result new)
       h.2 by_number in
-      let by_instr = subst (λ (k : Instr). IsAnswer (performs image k (choice_among picking (choices_for k p m)) p m) k line p (choices_for k p m) m picking picking' out out' result new)
+      let by_instr = subst (λ (k : Instr). IsAnswer (performs image k (choice_among picking (choices_for k p m)) p m) k line p
+      (choices_for k p m) m picking picking' out out' result new)
       h.1 by_machine in
       let by_line = subst (λ (l : ℕ). IsAnswer (performs image i choice p m) i l p n m picking picking' out out' result new) at_line by_instr in
       subst (λ (e : PrintedEffect). IsAnswer e i (line_of image p m) p n m picking picking' out out' result new)

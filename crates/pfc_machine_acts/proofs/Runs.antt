@@ -36,7 +36,8 @@ pub step_on : (image : PlainImage) (p : ℕ) (m mid : Machine) (j : Instr) (n : 
 step_on image p m mid j zero m' i is e next =
     let at_end : m' ≡ m = next.run in
     let same : i ≡ j = same_instr i j (sym (subst (λ (x : Machine). next_instr image p x ≡ Some i) at_end next.is) ∙ is) in
-    absurd (subst (λ (x : QuietEffect). IsNoMove x) (ap (λ (x : Machine). quietly image i p x) at_end ∙ ap (λ (x : Instr). quietly image x p m) same ∙ e) next.no_move)
+    absurd (subst (λ (x : QuietEffect). IsNoMove x) (ap (λ (x : Machine). quietly image i p x) at_end ∙
+    ap (λ (x : Instr). quietly image x p m) same ∙ e) next.no_move)
 step_on image p m mid j (suc n) m' i is e next =
     let (there, step, rest) = next.run in
     let same : j ≡ step.instr = same_instr j step.instr (sym is ∙ step.is) in
@@ -70,7 +71,8 @@ counted_still (goes m) count still = absurd still
 counted_still (ends_in f) count still = refl
 counted_still acts count still = refl
 
-pub ahead_is : (image : PlainImage) (p most : ℕ) (m : Machine) (n : ℕ) (m' : Machine) (i : Instr) → n ≤ most → IsNext image p m n m' i → quiet_ahead image p most m ≡ n
+pub ahead_is : (image : PlainImage) (p most : ℕ) (m : Machine) (n : ℕ) (m' : Machine) (i : Instr) → n ≤ most →
+    IsNext image p m n m' i → quiet_ahead image p most m ≡ n
 ahead_is image p zero m zero m' i few next = refl
 ahead_is image p zero m (suc n) m' i few next = absurd (omega (arith, few))
 ahead_is image p (suc most) m zero m' i few next =
@@ -97,7 +99,8 @@ still_so (Stands r i) not = tt
 no_move_by : (e f : QuietEffect) → e ≡ f → IsNoMove f → IsNoMove e
 no_move_by e f same h = subst (λ (x : QuietEffect). IsNoMove x) (sym same) h
 
-pub no_move_so : (image : PlainImage) (i : Instr) (p : ℕ) (m new : Machine) (d : Stepped) → IsStill d → IsStepped image i p m d new → IsNoMove (quietly image i p m)
+pub no_move_so : (image : PlainImage) (i : Instr) (p : ℕ) (m new : Machine) (d : Stepped) → IsStill d →
+    IsStepped image i p m d new → IsNoMove (quietly image i p m)
 no_move_so image i p m new (Passed r) still h = absurd still
 no_move_so image i p m new (Acted r) still h = no_move_by (quietly image i p m) acts h.0 tt
 no_move_so image i p m new (Faulted r f) still h = no_move_by (quietly image i p m) (ends_in f) h.0 tt

@@ -46,7 +46,8 @@ fn try_quiet(machine: &mut Machine, image: &Image, r: Running) -> Stepped
     requires other { (k l : ℕ) → next_instr (plain_image image.now) r.number machine.old ≡ Some (Instr.CALL k l) → ⊥ }
     ensures process { (stepper result).number ≡ r.number }
     ensures tried { (i : Instr) → next_instr (plain_image image.now) r.number machine.old ≡ Some i
-        → IsTried (effect image.now.blocks.items i r.number machine.old.stacks) (quiet_effect image.now.scans.items i r.number machine.old) i machine.old result machine.new }
+        → IsTried (effect image.now.blocks.items i r.number machine.old.stacks)
+        (quiet_effect image.now.scans.items i r.number machine.old) i machine.old result machine.new }
 {
     match machine.stacks.run_instr(image, r) {
         Instructed::Quiet(r) => Stepped::Passed(r),

@@ -102,8 +102,10 @@ pub record CanGo (i : Instr) (p : ℕ) (m : Machine) : Type 0 where
   -- it finds its operands, as the table of instructions has them
   pub held : told (table.operands_of i).reads ≤ length (operands_of m.stacks p)
   -- there is room for the alternative that it makes, and for the words of its message
-  pub places : length (descriptor_of m.descriptors p).communications.alternatives + (room_for (length m.descriptors) i).alternatives ≤ (descriptor_of m.descriptors p).communications.room.alternatives
-  pub words : length (descriptor_of m.descriptors p).communications.words + (room_for (length m.descriptors) i).words ≤ (descriptor_of m.descriptors p).communications.room.words
+  pub places : length (descriptor_of m.descriptors p).communications.alternatives + (room_for (length m.descriptors) i).alternatives ≤
+      (descriptor_of m.descriptors p).communications.room.alternatives
+  pub words : length (descriptor_of m.descriptors p).communications.words + (room_for (length m.descriptors) i).words ≤
+      (descriptor_of m.descriptors p).communications.room.words
   -- addresses have 32 bits
   pub next : (stack_of m.stacks p).at + 1 < 2 ^ 32
 

@@ -83,7 +83,8 @@ impl Machine {
     pub fn make(&mut self, p: u32, offer: Offer, branch: u32, n: u32)
         requires stack { p < length self.old.stacks }
         requires descriptor { p < length self.old.descriptors }
-        requires place { length (descriptor_of self.old.descriptors p).communications.alternatives < (descriptor_of self.old.descriptors p).communications.room.alternatives }
+        requires place { length (descriptor_of self.old.descriptors p).communications.alternatives <
+            (descriptor_of self.old.descriptors p).communications.room.alternatives }
         requires next { (stack_of self.old.stacks p).at + 1 < 2 ^ 32 }
         ensures { self.new ≡ makes self.old p offer branch n [] }
     {

@@ -67,7 +67,8 @@ abbrev select_in : State → Bool
 select_in (Waiting why) = is_select why
 select_in _ = false
 
-met-where : (owner ticket : ℕ) (b : Bool) (place : Option ℕ) → b ≡ is_some place → cond (is_some (cond b (Some ticket) None)) (Some (met owner place)) None ≡ met_by owner (offer_at owner place)
+met-where : (owner ticket : ℕ) (b : Bool) (place : Option ℕ) → b ≡ is_some place →
+    cond (is_some (cond b (Some ticket) None)) (Some (met owner place)) None ≡ met_by owner (offer_at owner place)
 met-where owner ticket true (Some place) e = refl
 met-where owner ticket true None e = no-test _ (sym e)
 met-where owner ticket false (Some place) e = no-test _ e
@@ -75,10 +76,12 @@ met-where owner ticket false None e = refl
 
 select-wait : (owner entry : ℕ) (why : Why) (ticket : ℕ) (arms : List Arm) → is_select why ≡ true
     → acceptance_of owner entry (Waits why ticket arms) ≡ met_by owner (offer_at owner (place_of_arm (Entry entry) arms))
-select-wait owner entry (Select due terminate) ticket arms h = met-where owner ticket (has_arm (Entry entry) arms) (place_of_arm (Entry entry) arms) (has-place (Entry entry) arms)
+select-wait owner entry (Select due terminate) ticket arms h =
+    met-where owner ticket (has_arm (Entry entry) arms) (place_of_arm (Entry entry) arms) (has-place (Entry entry) arms)
 select-wait owner entry _ ticket arms h = no-test _ h
 
-select-stand : (owner entry : ℕ) (s : Stand) → select_in (state_of s) ≡ true → acceptance_of owner entry s ≡ met_by owner (offer_at owner (place_of_arm (Entry entry) (arms_of s)))
+select-stand : (owner entry : ℕ) (s : Stand) → select_in (state_of s) ≡ true →
+    acceptance_of owner entry s ≡ met_by owner (offer_at owner (place_of_arm (Entry entry) (arms_of s)))
 select-stand owner entry (Waits why ticket arms) h = select-wait owner entry why ticket arms h
 select-stand owner entry Is_idle h = no-test _ h
 select-stand owner entry Is_created h = no-test _ h

@@ -16,7 +16,8 @@ use Rattle.pfc_meet.specs.Matches.{partner_met}
 pub exhausted : (rows : List Stand) (p place : ℕ) (arms : List Arm) (left k : ℕ) → length arms ≤ place
     → slice_get (matched_from place rows p (drop place arms)) left ≡ slice_get (matched rows p arms) k → k < length (matched rows p arms) → ⊥
 exhausted rows p place arms left k past h lt =
-    let none : None ≡ slice_get (matched rows p arms) k = sym (ap (λ rest. slice_get (matched_from place rows p rest) left) (drop_of_length-le arms {i = place} past)) ∙ h in
+    let none : None ≡ slice_get (matched rows p arms) k =
+    sym (ap (λ rest. slice_get (matched_from place rows p rest) left) (drop_of_length-le arms {i = place} past)) ∙ h in
     let some : slice_get (matched rows p arms) k ≡ Some (get_or (matched rows p arms) k 0) = slice_get-get_or (matched rows p arms) k 0 lt in
     cc
 
@@ -26,13 +27,15 @@ met-some rows arm None met h = cc
 
 -- the walk stands at the k-th where no matched alternative is left before it
 pub chosen : (rows : List Stand) (p place : ℕ) (arms : List Arm) (d : Arm) (left k : ℕ) (met : Partner) → place < length arms
-    → slice_get (matched_from place rows p (drop place arms)) left ≡ slice_get (matched rows p arms) k → left ≡ 0 → partner_met rows p (get_or arms place d) ≡ Some met
+    → slice_get (matched_from place rows p (drop place arms)) left ≡ slice_get (matched rows p arms) k → left ≡ 0 →
+    partner_met rows p (get_or arms place d) ≡ Some met
     → IsMatch rows p arms k (record { place = place; alternative = get_or arms place d; partner = met })
 chosen rows p place arms d left k met lt h zero_left meets = record {
   kth = sym h
       ∙ ap (λ n. slice_get (matched_from place rows p (drop place arms)) n) zero_left
       ∙ ap (λ rest. slice_get (matched_from place rows p rest) 0) (drop-cons arms place d lt)
-      ∙ ap (λ b. slice_get (cond b (place ∷ matched_from (place + 1) rows p (drop (suc place) arms)) (matched_from (place + 1) rows p (drop (suc place) arms))) 0)
+      ∙ ap (λ b. slice_get (cond b (place ∷ matched_from (place + 1) rows p (drop (suc place) arms))
+      (matched_from (place + 1) rows p (drop (suc place) arms))) 0)
       (met-some rows (opposite (get_or arms place d)) (partner rows p (get_or arms place d)) met meets);
   own = slice_get-get_or arms place d lt;
   meets = meets;

@@ -65,8 +65,10 @@ nobody-more w h =
     let can : children_may_end w.rows ≡ true = last-of (not (some_ready w.rows)) (is_none (earliest w.rows)) (children_may_end w.rows) h in
     let after : Table = record w { rows = over_children terminated_child w.rows } in
     let left : children_may_end (terminated w).rows ≡ false =
-    ap (λ b. b && list_all (λ s. Serves s) (drop 1 (terminated w).rows)) (ap (λ rest. list_any is_unfinished rest) (behind-released (is_released after.rows) after) ∙ behind-main w.rows can) in
-    ap (λ b. not (some_ready (terminated w).rows) && is_none (earliest (terminated w).rows) && b) left ∙ without (not (some_ready (terminated w).rows)) (is_none (earliest (terminated w).rows))
+    ap (λ b. b && list_all (λ s. Serves s) (drop 1 (terminated w).rows)) (ap (λ rest. list_any is_unfinished rest)
+    (behind-released (is_released after.rows) after) ∙ behind-main w.rows can) in
+    ap (λ b. not (some_ready (terminated w).rows) && is_none (earliest (terminated w).rows) && b) left ∙
+    without (not (some_ready (terminated w).rows)) (is_none (earliest (terminated w).rows))
 
 pub once : (w : Table) → finally_settled (finally_settled w) ≡ finally_settled w
 once w = go (may_all_end w.rows) refl

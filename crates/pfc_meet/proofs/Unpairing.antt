@@ -49,10 +49,12 @@ put rows p s fits ok = record {
   channels = λ c j k t u hj hk. elim (put-at rows p s j) [
     | inl ej ↦ elim (put-at rows p s k) [
       | inl ek ↦ ok.channels c j k t u (sym (ap (ticket_open_to (To c)) ej) ∙ hj) (sym (ap (ticket_open_to (From c)) ek) ∙ hk)
-      | inr ek ↦ none-some (j ≡ k) (ticket_open_to (To c) (at rows j)) t (fits.receives c u (sym (ap (ticket_open_to (From c)) ek.1) ∙ hk) j) (sym (ap (ticket_open_to (To c)) ej) ∙ hj)
+      | inr ek ↦ none-some (j ≡ k) (ticket_open_to (To c) (at rows j)) t (fits.receives c u (sym (ap (ticket_open_to (From c)) ek.1) ∙ hk) j)
+          (sym (ap (ticket_open_to (To c)) ej) ∙ hj)
     ]
     | inr ej ↦ elim (put-at rows p s k) [
-      | inl ek ↦ none-some (j ≡ k) (ticket_open_to (From c) (at rows k)) u (fits.sends c t (sym (ap (ticket_open_to (To c)) ej.1) ∙ hj) k) (sym (ap (ticket_open_to (From c)) ek) ∙ hk)
+      | inl ek ↦ none-some (j ≡ k) (ticket_open_to (From c) (at rows k)) u (fits.sends c t (sym (ap (ticket_open_to (To c)) ej.1) ∙ hj) k)
+          (sym (ap (ticket_open_to (From c)) ek) ∙ hk)
       | inr ek ↦ ej.0 ∙ sym ek.0
     ]
   ];
@@ -66,7 +68,8 @@ put rows p s fits ok = record {
     ]
     | inr ek ↦ elim (put-at rows p s owner) [
       | inl eo ↦
-          none-some ⊥ (ticket_open_to (Entry e) (at rows owner)) u (fits.calls owner e t (sym (ap (ticket_at (Call owner e)) ek.1) ∙ hk)) (sym (ap (ticket_open_to (Entry e)) eo) ∙ ho)
+          none-some ⊥ (ticket_open_to (Entry e) (at rows owner)) u (fits.calls owner e t (sym (ap (ticket_at (Call owner e)) ek.1) ∙ hk))
+          (sym (ap (ticket_open_to (Entry e)) eo) ∙ ho)
       | inr eo ↦ fits.plain owner e e t u (sym (ap (ticket_at (Call owner e)) ek.1) ∙ hk) (sym (ap (ticket_open_to (Entry e)) eo.1) ∙ ho)
     ]
   ];
@@ -111,7 +114,8 @@ or-plain false n t h = no-ticket _ t h
 
 send-suits : (rows : List Stand) (p c ticket : ℕ) → receiver rows c ≡ None → Suits rows p (Waits (Send c) ticket [])
 send-suits rows p c ticket none = record {
-  sends = λ d t h. subst (λ x. IsNobody (ticket_open_to (From x)) rows) (eqb-true c d (or-plain (c == d) ticket t h)) (nobody-first (ticket_open_to (From c)) rows refl none);
+  sends = λ d t h. subst (λ x. IsNobody (ticket_open_to (From x)) rows) (eqb-true c d (or-plain (c == d) ticket t h))
+      (nobody-first (ticket_open_to (From c)) rows refl none);
   receives = λ d t h. no-ticket _ t h;
   calls = λ owner e t h. no-ticket _ t h;
   accepts = λ e t h. no-ticket _ t h;
@@ -121,7 +125,8 @@ send-suits rows p c ticket none = record {
 receive-suits : (rows : List Stand) (p c ticket : ℕ) → sender rows c ≡ None → Suits rows p (Waits (Receive c) ticket [])
 receive-suits rows p c ticket none = record {
   sends = λ d t h. no-ticket _ t h;
-  receives = λ d t h. subst (λ x. IsNobody (ticket_open_to (To x)) rows) (eqb-true c d (or-plain (c == d) ticket t h)) (nobody-first (ticket_open_to (To c)) rows refl none);
+  receives = λ d t h. subst (λ x. IsNobody (ticket_open_to (To x)) rows) (eqb-true c d (or-plain (c == d) ticket t h))
+      (nobody-first (ticket_open_to (To c)) rows refl none);
   calls = λ owner e t h. no-ticket _ t h;
   accepts = λ e t h. no-ticket _ t h;
   plain = λ owner e f t u h g. no-ticket _ t h;
@@ -153,7 +158,8 @@ accept-suits rows p e ticket none = record {
   sends = λ d t h. no-ticket _ t h;
   receives = λ d t h. no-ticket _ t h;
   calls = λ owner f t h. no-ticket _ t h;
-  accepts = λ f t h. subst (λ x. IsNobody (ticket_at (Call p x)) rows) (eqb-true e f (or-plain (e == f) ticket t h)) (nobody-first (ticket_at (Call p e)) rows refl none);
+  accepts = λ f t h. subst (λ x. IsNobody (ticket_at (Call p x)) rows) (eqb-true e f (or-plain (e == f) ticket t h))
+      (nobody-first (ticket_at (Call p e)) rows refl none);
   plain = λ owner f g t u h k. no-ticket _ t h;
 }
 
@@ -176,7 +182,8 @@ unmatched : (rows : List Stand) (p i : ℕ) (arms : List Arm) (a : Arm) → matc
 unmatched rows p i [] a h has = no-test _ has
 unmatched rows p i (arm ∷ rest) a h has = go (is_some (partner rows p arm)) (same_arm arm a) refl refl h has (λ e f. unmatched rows p (i + 1) rest a e f)
   where
-    go : (m s : Bool) → is_some (partner rows p arm) ≡ m → same_arm arm a ≡ s → cond m (i ∷ matched_from (i + 1) rows p rest) (matched_from (i + 1) rows p rest) ≡ []
+    go : (m s : Bool) → is_some (partner rows p arm) ≡ m → same_arm arm a ≡ s →
+        cond m (i ∷ matched_from (i + 1) rows p rest) (matched_from (i + 1) rows p rest) ≡ []
         → (s || has_arm a rest) ≡ true → (matched_from (i + 1) rows p rest ≡ [] → has_arm a rest ≡ true → partner rows p a ≡ None) → partner rows p a ≡ None
     go true s e f g k ih = no-first _ i (matched_from (i + 1) rows p rest) g
     go false true e f g k ih = sym (ap (λ x. partner rows p x) (same-is arm a f)) ∙ is-none (partner rows p arm) e
@@ -212,7 +219,8 @@ call w p owner entry ok = go (is_accepting w.rows owner entry) refl
     go : (b : Bool) → is_accepting w.rows owner entry ≡ b
         → AreUnpaired (cond b (blocked (placed w owner Is_ready) p (Meeting owner) []) (blocked w p (Call owner entry) [])).rows
     go true e =
-        elsewhere (set w.rows owner Is_ready) p (Waits (Meeting owner) (w.done + 1) []) (meeting-elsewhere owner (w.done + 1)) (elsewhere w.rows owner Is_ready ready-elsewhere ok)
+        elsewhere (set w.rows owner Is_ready) p (Waits (Meeting owner) (w.done + 1) []) (meeting-elsewhere owner (w.done + 1))
+        (elsewhere w.rows owner Is_ready ready-elsewhere ok)
     go false e = put w.rows p (Waits (Call owner entry) (w.done + 1) []) (call-suits w.rows p owner entry (w.done + 1) e) ok
 
 pub accept : (w : Table) (p entry : ℕ) → AreUnpaired w.rows → AreUnpaired (accepted w p entry).rows
@@ -233,7 +241,8 @@ commit w p arm ok = commit-with w p arm (partner w.rows p arm) ok
 
 pub wait : (w : Table) (p : ℕ) (arms : List Arm) (due : Option ℕ) (terminate : Bool) → matched w.rows p arms ≡ [] → AreUnpaired w.rows
     → AreUnpaired (select_waited w p arms due terminate).rows
-wait w p arms due terminate none ok = put w.rows p (Waits (Select due terminate) (w.done + 1) arms) (select-suits w.rows p arms due terminate (w.done + 1) none) ok
+wait w p arms due terminate none ok =
+    put w.rows p (Waits (Select due terminate) (w.done + 1) arms) (select-suits w.rows p arms due terminate (w.done + 1) none) ok
 
 -- who stands as ready is nobody's partner
 closed-first : (key : Stand → Option ℕ) (rows : List Stand) (p q : ℕ) → key Is_ready ≡ None → at rows p ≡ Is_ready → first key rows ≡ Some q → q ≡ p → ⊥

@@ -24,4 +24,5 @@ met_by_own rows p None = None
 -- that acts goes on.
 abbrev pub IsCommitted : List Stand → ℕ → List Arm → ℕ → Committed → Type 0
 IsCommitted rows p arms k c =
-    (c.r.number ≡ p) × (slice_get (matched rows p arms) k ≡ Some c.alternative) × (met_by_own rows p (slice_get arms c.alternative) ≡ Some (record { process = c.partner; alternative = c.partner_alternative }))
+    (c.r.number ≡ p) × (slice_get (matched rows p arms) k ≡ Some c.alternative) ×
+    (met_by_own rows p (slice_get arms c.alternative) ≡ Some (record { process = c.partner; alternative = c.partner_alternative }))

@@ -14,4 +14,5 @@ partner_met rows p arm = met_at rows (opposite arm) (partner rows p arm)
 
 -- The owner of an entry, where it waits to accept it, and its first alternative for it.
 abbrev pub acceptance_of : ℕ → ℕ → Stand → Option Partner
-acceptance_of owner entry stand = if is_some (ticket_open_to (Entry entry) stand) then Some (record { process = owner; alternative = alternative_met (Entry entry) stand }) else None
+acceptance_of owner entry stand = if is_some (ticket_open_to (Entry entry) stand) then
+    Some (record { process = owner; alternative = alternative_met (Entry entry) stand }) else None

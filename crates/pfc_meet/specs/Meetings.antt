@@ -17,7 +17,8 @@ use Rattle.pfc_meet.specs.declared.rendezvous.Uncalled.{Uncalled}
 abbrev pub IsCall : Table → ℕ → ℕ → ℕ → Result Called Uncalled → Table → Type 0
 IsCall old p owner entry (Err uncalled) new = (is_uncalled old owner ≡ true) × (uncalled.r.number ≡ p) × (new ≡ old)
 IsCall old p owner entry (Ok (Met alternative)) new =
-    (is_uncalled old owner ≡ false) × (is_accepting old.rows owner entry ≡ true) × (alternative ≡ alternative_met (Entry entry) (at old.rows owner)) × (new ≡ called old p owner entry)
+    (is_uncalled old owner ≡ false) × (is_accepting old.rows owner entry ≡ true) ×
+    (alternative ≡ alternative_met (Entry entry) (at old.rows owner)) × (new ≡ called old p owner entry)
 IsCall old p owner entry (Ok Has_to_wait) new = (is_uncalled old owner ≡ false) × (is_accepting old.rows owner entry ≡ false) × (new ≡ called old p owner entry)
 
 -- The process that accepts goes on exactly where somebody calls the entry, with the first caller.

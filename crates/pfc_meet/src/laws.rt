@@ -20,7 +20,8 @@ pub fn nobody_waits_for_one_who_waits_for_it()
     ensures call { (w : Table) (p owner entry : ℕ) → AreUnpaired w.rows → AreUnpaired (called w p owner entry).rows }
     ensures accept { (w : Table) (p entry : ℕ) → AreUnpaired w.rows → AreUnpaired (accepted w p entry).rows }
     ensures commit { (w : Table) (p : ℕ) (arm : Arm) → AreUnpaired w.rows → AreUnpaired (communicated w p arm).rows }
-    ensures wait { (w : Table) (p : ℕ) (arms : List Arm) (due : Option ℕ) (terminate : Bool) → matched w.rows p arms ≡ [] → AreUnpaired w.rows → AreUnpaired (select_waited w p arms due terminate).rows }
+    ensures wait { (w : Table) (p : ℕ) (arms : List Arm) (due : Option ℕ) (terminate : Bool) → matched w.rows p arms ≡ [] → AreUnpaired w.rows →
+        AreUnpaired (select_waited w p arms due terminate).rows }
 {}
 
 /// A process that acts, and so stands as ready, is never its own partner.

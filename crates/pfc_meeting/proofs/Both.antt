@@ -77,7 +77,8 @@ now_in ys p a y there =
 -- where the processes of both sides show the same, and then the process that acted has its line
 pub stands_then :
     (source : Source) (g : Program) (s new : State) (k : Config) (cs : List configurations.Activity) (mid : List Activity) (p : ℕ) (y : Activity) (line : ℕ)
-    → map shown cs ≡ activities_shown source.program.tables mid → Agrees source s k → length mid ≡ length s.activities.items → k.table.acting ≡ None → k.fault ≡ None
+    → map shown cs ≡ activities_shown source.program.tables mid → Agrees source s k →
+    length mid ≡ length s.activities.items → k.table.acting ≡ None → k.fault ≡ None
     → IsIn mid p y → new.activities.items ≡ set mid p (at_line y line) → IsKept s new → new.world ≡ ticked s.world
     → IsNew new.world.rows new.world.done → Stands source new (done_at g (record k { activities = cs }) p line)
 stands_then source g s new k cs mid p y line same agrees many acting sound there items kept world fresh =
@@ -111,7 +112,8 @@ pub both_so :
     → ((y : Activity) → IsIn one_done p y → both_done ≡ set one_done p (at_work y at.Rest))
     → ((y : Activity) → IsIn both_done p y → new.activities.items ≡ set both_done p (at_line y line))
     → IsKept s new → new.world ≡ ticked s.world → IsNew new.world.rows new.world.done → BothGoOn s new p q way Stepped
-both_so s new p q way one_done both_done found z line other is shows of_line first then_so last kept world fresh source g c k choice a b n one is_at there e nexts lines output =
+both_so s new p q way one_done both_done found z line other is shows of_line first then_so last kept world fresh source g c k choice a b
+    n one is_at there e nexts lines output =
     let t : Tables = source.program.tables in
     let ys : List Activity = s.activities.items in
     let before : IsBefore source s k p a n = is_at.before in
@@ -142,7 +144,8 @@ both_so s new p q way one_done both_done found z line other is shows of_line fir
     let many : length both_done ≡ length ys = ap length second ∙ length-set one_done p went ∙ ap length first ∙ length-set ys q z in
     ends_so source g new c d p choice n [] e
     (subst (λ (l : ℕ). Stands source new (done_at g d p l)) (same_line ∙ sym lines)
-    (stands_then source g s new k d.activities both_done p went line same before.agrees many is_at.quiet.acting is_at.quiet.sound in_both (last went in_both) kept world fresh))
+    (stands_then source g s new k d.activities both_done p went line same before.agrees many is_at.quiet.acting is_at.quiet.sound
+    in_both (last went in_both) kept world fresh))
     (output ∙ sym (append-nil c.output))
 
 -- ## More room

@@ -67,7 +67,8 @@ other_world source s mid c p a n store table is_at is store_is table_is many act
       before = record {
         hand = before.hand;
         there = subst (λ (ys : List Activity). IsIn ys p a) (sym same) before.there;
-        activities = before.activities ∙ ap (λ (ys : List Activity). set (activities_shown source.program.tables ys) p (shown_before source a n before.hand)) (sym same);
+        activities = before.activities ∙
+            ap (λ (ys : List Activity). set (activities_shown source.program.tables ys) p (shown_before source a n before.hand)) (sym same);
         agrees = agrees_world source s mid c store table before.agrees is store_is table_is many;
       };
       quiet = record { acting = acting; fresh = fresh; sound = is_at.quiet.sound };
@@ -134,16 +135,19 @@ sent_so s mid new p q channel v into way found d other roomier within is meets p
     ∙ ap (λ (y : Shown). y.display) partner in
     let side : side_of g c q (From channel) ≡ side_held t (store_view mid.store) found (From channel)
     = side_is t g c q (From channel) (store_view mid.store) found partner at_mid.before.agrees.store in
-    let passing : sent_to g c1 q (value_view v) (side_of g c q (From channel)) ≡ doing_next g (delivered_into c1 into (value_view v)) q (doing_onward t found way)
+    let passing : sent_to g c1 q (value_view v) (side_of g c q (From channel)) ≡ doing_next g
+    (delivered_into c1 into (value_view v)) q (doing_onward t found way)
     = ap (sent_to g c1 q (value_view v)) side ∙ meets t g c1 q (value_view v) (sym at_mid.before.agrees.store) in_view in
     passes source g c choice a found n (going x.env k) at_mid there
     (e ∙ ap (λ (y : Config). Ok (with_table y (placed c.table q Is_ready))) passing) refl lines
 
 pub received_so :
-    (s mid new : State) (p q channel : ℕ) (target : Option HeldSpot) (v : HeldValue) (into : Option HeldLocation) (way : Onward) (found own : Activity) (d : Done)
+    (s mid new : State) (p q channel : ℕ) (target : Option HeldSpot) (v : HeldValue) (into : Option HeldLocation)
+    (way : Onward) (found own : Activity) (d : Done)
     → q ≢ p → IsRoomier s mid q → q < length mid.activities.items → found ≡ get_or mid.activities.items q found → own ≡ get_or mid.activities.items p own
     → ((t : Tables) (g : Program) (c : Config) (p q : ℕ) (target : Option Spot)
-    → received_from g c p target q (side_held t (store_view mid.store) found (To channel)) ≡ doing_next g (delivered g c p target (value_view v)) q (doing_onward t found way))
+    → received_from g c p target q (side_held t (store_view mid.store) found (To channel)) ≡ doing_next g
+    (delivered g c p target (value_view v)) q (doing_onward t found way))
     → option_map location_view into ≡ option_map (λ s. located (store_view mid.store) own.display (spot_view s)) target
     → IsPassed mid new p q into v way d → IsReceived s new p q channel target d
 received_so s mid new p q channel target v into way found own d other roomier within is own_is meets place passes source g c choice a n is_at e lines =

@@ -65,7 +65,8 @@ side_in_is t g c q arm b (hand.Offering o) display =
     let x : Context = record { env = names_view t b.doing.names; line = o.line } in
     let k : Remainder = left_of t b o.kept in
     first_open_is g c q arm x (opens_view o.opens.items) k
-    ∙ ap (λ (d : Display). option_map (λ (y : Open). (let s : Side = record { context = x; at = y; left = k } in s)) (first_met c.store d arm (opens_view o.opens.items))) display
+    ∙ ap (λ (d : Display). option_map (λ (y : Open). (let s : Side = record { context = x; at = y; left = k } in s))
+    (first_met c.store d arm (opens_view o.opens.items))) display
 
 -- what a process offers in the definitions
 pub side_is :

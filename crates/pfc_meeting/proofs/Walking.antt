@@ -19,7 +19,8 @@ opens_step os i d h = drop-cons os i d h ∙ ap (λ n. get_or os i d ∷ drop n 
 pub met_step :
     (store : Store) (display : Display) (arm : Arm) (os : List Open) (i : ℕ) (d : Open) → i < length os
     → first_met store display arm (opens_view (drop i os))
-    ≡ (if is_arm arm (arm_in store display (offer_view (get_or os i d).offer)) then Some (open_view (get_or os i d)) else first_met store display arm (opens_view (drop (i + 1) os)))
+    ≡ (if is_arm arm (arm_in store display (offer_view (get_or os i d).offer)) then
+    Some (open_view (get_or os i d)) else first_met store display arm (opens_view (drop (i + 1) os)))
 met_step store display arm os i d h = ap (λ (l : List Open). first_met store display arm (opens_view l)) (opens_step os i d h)
 
 pub met_end :
@@ -40,7 +41,8 @@ arms_end store display os i h = ap (λ (l : List Open). arms_in store display (o
 pub communication_step :
     (os : List Open) (i : ℕ) (d : Open) → i < length os
     → communications (opens_view (drop i os))
-    ≡ (if is_communication (offer_view (get_or os i d).offer) then open_view (get_or os i d) ∷ communications (opens_view (drop (i + 1) os)) else communications (opens_view (drop (i + 1) os)))
+    ≡ (if is_communication (offer_view (get_or os i d).offer) then
+    open_view (get_or os i d) ∷ communications (opens_view (drop (i + 1) os)) else communications (opens_view (drop (i + 1) os)))
 communication_step os i d h = ap (λ (l : List Open). communications (opens_view l)) (opens_step os i d h)
 
 pub communication_end : (os : List Open) (i : ℕ) → length os ≤ i → communications (opens_view (drop i os)) ≡ []

@@ -101,7 +101,8 @@ IsPassed old new p q into v way d =
     (source : Source) (g : Program) (c : Config) (choice : ℕ) (a b : Activity) (n : Action) (one : Doing)
     → IsAt source old c p a n → IsIn old.activities.items q b
     → effect g c p choice n
-    ≡ Ok (with_table (doing_next g (delivered_into (doing_next g c p one) into (value_view v)) q (doing_onward source.program.tables b way)) (placed c.table q Is_ready))
+    ≡ Ok (with_table (doing_next g (delivered_into (doing_next g c p one) into (value_view v)) q
+    (doing_onward source.program.tables b way)) (placed c.table q Is_ready))
     → next one ≡ ahead_of source.program.tables a.doing at.Rest → line_of n ≡ a.doing.line → Ends source g new c p choice n [] d
 
 -- a message is sent on the channel with this number, to process q

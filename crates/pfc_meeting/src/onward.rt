@@ -54,7 +54,8 @@ fn put<'t>(pending: &mut Vec<Pending<'t>>, part: Pending<'t>)
 #[tactic(auto, using(crate::proofs::Behind::behind_none, crate::proofs::Behind::behind_some))]
 fn put_statements<'t>(pending: &mut Vec<Pending<'t>>, next: u32, stmts: Stmts<'t>)
     requires { vec_len pending.old + 1 ≤ vec_capacity pending.old }
-    ensures over { (t : Tables) → remainder_of (waiting t pending.new.items) ≡ behind next (stmts_left stmts.entry) (remainder_of (waiting t pending.old.items)) }
+    ensures over { (t : Tables) → remainder_of (waiting t pending.new.items) ≡ behind next (stmts_left stmts.entry)
+        (remainder_of (waiting t pending.old.items)) }
     ensures count { vec_len pending.new ≤ vec_len pending.old + 1 }
     ensures fewer { vec_len pending.old ≤ vec_len pending.new }
     ensures room { vec_capacity pending.old ≤ vec_capacity pending.new }
@@ -68,7 +69,8 @@ fn put_statements<'t>(pending: &mut Vec<Pending<'t>>, next: u32, stmts: Stmts<'t
 /// The write of a replica is pending, where there is one.
 fn put_replica<'t>(pending: &mut Vec<Pending<'t>>, replica: Option<Replica>)
     requires { vec_len pending.old + 1 ≤ vec_capacity pending.old }
-    ensures over { (t : Tables) → remainder_of (waiting t pending.new.items) ≡ behind_replica (option_map replica_view replica) (remainder_of (waiting t pending.old.items)) }
+    ensures over { (t : Tables) → remainder_of (waiting t pending.new.items) ≡ behind_replica (option_map replica_view replica)
+        (remainder_of (waiting t pending.old.items)) }
     ensures begin { (n : ℕ) → n ≤ vec_len pending.old → take n pending.new.items ≡ take n pending.old.items }
 {
     if let Some(r) = replica {
@@ -81,7 +83,8 @@ pub fn go_onward<'t>(activity: &mut Activity<'t>, way: Onward<'t>)
     requires { HasRoom activity.old 2 }
     ensures shown { (t : Tables) → activity_shown t activity.new ≡ gone_on t activity.old way.entry }
     ensures left { (t : Tables) → remainder_of (waiting t activity.new.doing.pending.items) ≡ onward way.entry (left_of t activity.old way.entry.kept) }
-    ensures begin { way.entry.kept ≤ vec_len activity.old.doing.pending → take way.entry.kept activity.new.doing.pending.items ≡ take way.entry.kept activity.old.doing.pending.items }
+    ensures begin { way.entry.kept ≤ vec_len activity.old.doing.pending →
+        take way.entry.kept activity.new.doing.pending.items ≡ take way.entry.kept activity.old.doing.pending.items }
     ensures at { activity.new.doing.at ≡ at.Rest }
     ensures line { activity.new.doing.line ≡ activity.old.doing.line }
     ensures names { activity.new.doing.names ≡ activity.old.doing.names }

@@ -97,7 +97,9 @@ pub fn met_receiver<'t>(
     activity: &Activity<'t>,
     channel: u32,
 ) -> Result<Receiver<'t>, Memory>
-    ensures { IfOk result (λ r. (t : Tables) (g : Program) (c : Config) (q : ℕ) (v : ValueSeen) → c.store ≡ store_view store.now → (activity_of g c q).display ≡ activity.now.display → sent_to g c q v (side_held t (store_view store.now) activity.now (From channel)) ≡ doing_next g (delivered_into c r.into v) q (doing_onward t activity.now r.way)) }
+    ensures { IfOk result (λ r. (t : Tables) (g : Program) (c : Config) (q : ℕ) (v : ValueSeen) → c.store ≡ store_view store.now →
+        (activity_of g c q).display ≡ activity.now.display → sent_to g c q v (side_held t (store_view store.now) activity.now (From channel)) ≡ doing_next g
+        (delivered_into c r.into v) q (doing_onward t activity.now r.way)) }
 {
     let Some(met) = met_at(store, activity, Arm::Receive(channel))? else {
         return Err(Memory);
@@ -118,7 +120,9 @@ pub fn met_sender<'t>(
     activity: &Activity<'t>,
     channel: u32,
 ) -> Result<Sender<'t>, Memory>
-    ensures { IfOk result (λ r. (t : Tables) (g : Program) (c : Config) (p q : ℕ) (target : Option SpotSeen) → received_from g c p target q (side_held t (store_view store.now) activity.now (To channel)) ≡ doing_next g (delivered g c p target (value_view r.value)) q (doing_onward t activity.now r.way)) }
+    ensures { IfOk result (λ r. (t : Tables) (g : Program) (c : Config) (p q : ℕ) (target : Option SpotSeen) →
+        received_from g c p target q (side_held t (store_view store.now) activity.now (To channel)) ≡ doing_next g
+        (delivered g c p target (value_view r.value)) q (doing_onward t activity.now r.way)) }
 {
     let Some(met) = met_at(store, activity, Arm::Send(channel))? else {
         return Err(Memory);

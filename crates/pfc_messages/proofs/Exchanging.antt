@@ -85,11 +85,13 @@ pub shows_so :
     → found ≡ get_or s.activities.items p found → ((t : Tables) → activity_shown t z ≡ waits_with t found opens)
     → opens_view opens ≡ plain_open (offer_view offer) ∷ []
     → ((y : Activity) → IsIn s.activities.items p y → line ≡ y.doing.line)
-    → r ≡ p → mid ≡ record s { store = mid.store; world = mid.world } → store_view mid.store ≡ store_view s.store → mid.world ≡ blocked (begun s.world p) r why []
+    → r ≡ p → mid ≡ record s { store = mid.store; world = mid.world } → store_view mid.store ≡ store_view s.store →
+    mid.world ≡ blocked (begun s.world p) r why []
     → items ≡ set s.activities.items p z
     → ((y : Activity) → IsIn items p y → new.activities.items ≡ set items p (at_line y line))
     → IsKept mid new → new.world ≡ ticked mid.world → IsNew new.world.rows new.world.done → IsShowing s new p why offer Stepped
-shows_so s mid new p why offer opens items found z line r is shows offers of_line same_process mid_is store world first last kept ticks fresh source g c choice a n is_at e lines =
+shows_so s mid new p why offer opens items found z line r is shows offers of_line same_process mid_is store world first last kept ticks
+    fresh source g c choice a n is_at e lines =
     let t : Tables = source.program.tables in
     let before : IsBefore source s c p a n = is_at.before in
     let table : Table = blocked c.table p why [] in
@@ -99,7 +101,11 @@ shows_so s mid new p why offer opens items found z line r is shows offers of_lin
     = world ∙ ap (λ (i : ℕ). blocked (begun s.world p) i why []) same_process ∙ ap (λ (b : Table). blocked b p why []) before.agrees.table in
     let same : activity_shown t z ≡ record (activity_shown t a) { next = ahead_of t a.doing at.Rest; hand = hand }
     = shows t ∙ ap (λ (b : Activity). waits_with t b opens) (is ∙ before.there.is found)
-    ∙ ap (λ (l : List remainders.Open). (let y : Shown = record (activity_shown t a) { next = ahead_of t a.doing at.Rest; hand = offering (context_of t a.doing) l (remainder_of (pending_of t a.doing)) } in y)) offers in
+    ∙ ap (λ (l : List remainders.Open). (let y : Shown = record (activity_shown t a) {
+      next = ahead_of t a.doing at.Rest;
+      hand =
+          offering (context_of t a.doing) l (remainder_of (pending_of t a.doing));
+    } in y)) offers in
     shown_so source g s mid new c p choice a z n table hand items line is_at same e (lines ∙ sym (of_line a before.there)) mid_is store in_table refl
     (length-set c.table.rows p (Waits why (c.table.done + 1) [])) first
     (last z (subst (λ (l : List Activity). IsIn l p z) (sym first) (now_in s.activities.items p a z before.there))) kept ticks fresh
@@ -125,7 +131,8 @@ sends_met s new p q number spot v own m d own_is held found is_q sent source g c
     let e : effect g c p choice act
     ≡ Ok (with_table (sent_to g (goes_on g c p x k) q (value_view v) (side_of g c q (From number))) (placed c.table q Is_ready))
     = ap (λ (f : Option ℕ). (let r : Effect = Ok (with_table (meets_or_waits g c p x o k f) (passed_with f c.table p (Send many))) in r)) met
-    ∙ ap (λ (i : ℕ). (let r : Effect = Ok (with_table (sent_to g (goes_on g c p x k) q (value_view v) (side_of g c q (From i))) (placed c.table q Is_ready)) in r)) is in
+    ∙ ap (λ (i : ℕ). (let r : Effect =
+    Ok (with_table (sent_to g (goes_on g c p x k) q (value_view v) (side_of g c q (From i))) (placed c.table q Is_ready)) in r)) is in
     sent source g c choice a act is_at e refl
 
 pub sends_alone :
@@ -171,7 +178,8 @@ receives_met s new p q number spot target own m d own_is held found is_q receive
     let e : effect g c p choice act
     ≡ Ok (with_table (received_from g (goes_on g c p x k) p into q (side_of g c q (To number))) (placed c.table q Is_ready))
     = ap (λ (f : Option ℕ). (let r : Effect = Ok (with_table (meets_or_waits g c p x o k f) (passed_with f c.table p (Receive many))) in r)) met
-    ∙ ap (λ (i : ℕ). (let r : Effect = Ok (with_table (received_from g (goes_on g c p x k) p into q (side_of g c q (To i))) (placed c.table q Is_ready)) in r)) is in
+    ∙ ap (λ (i : ℕ). (let r : Effect =
+    Ok (with_table (received_from g (goes_on g c p x k) p into q (side_of g c q (To i))) (placed c.table q Is_ready)) in r)) is in
     received source g c choice a act is_at e refl
 
 pub receives_alone :

@@ -32,7 +32,8 @@ first-is sorted moments m h lt own = record {
         let theirs : moment_at moments (process_at sorted found.0) ≡ Some n = ap (λ v. moment_at moments v) found.1.is ∙ is in
         elim (cases_eq 0 found.0) [
           | inl same ↦
-              let e : m ≡ n = same-key (moment_at moments (process_at sorted found.0)) m n (ap (λ i. moment_at moments (process_at sorted i)) (sym same) ∙ own) theirs in
+              let e : m ≡ n = same-key (moment_at moments (process_at sorted found.0)) m n (ap (λ i. moment_at moments (process_at sorted i)) (sym same) ∙
+              own) theirs in
               omega (arith, e)
           | inr apart ↦
               sooner-early (due m (process_at sorted 0)) (due n (process_at sorted found.0))

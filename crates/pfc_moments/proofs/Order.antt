@@ -17,7 +17,8 @@ sooner-is a b h = go (nat_lt a.moment b.moment) (a.moment == b.moment) (nat_lt a
     go false false z e f g h = cc
 
 pub sooner-made : (a b : Due) → (a.moment < b.moment) ⊎ ((a.moment ≡ b.moment) × (a.process < b.process)) → is_sooner a b ≡ true
-sooner-made a b (inl lt) = let e : nat_lt a.moment b.moment ≡ true = grind (arith, nat_tests, lt) in ap (λ v. v || ((a.moment == b.moment) && nat_lt a.process b.process)) e
+sooner-made a b (inl lt) = let e : nat_lt a.moment b.moment ≡ true =
+    grind (arith, nat_tests, lt) in ap (λ v. v || ((a.moment == b.moment) && nat_lt a.process b.process)) e
 sooner-made a b (inr both) =
     let e : nat_lt a.moment b.moment ≡ false = grind (arith, nat_tests, both.0) in
     let f : (a.moment == b.moment) ≡ true = grind (arith, nat_tests, both.0) in

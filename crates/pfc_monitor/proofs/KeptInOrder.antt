@@ -22,7 +22,8 @@ other-holder : (hs : List (Option ℕ)) (m n : ℕ) (x : Option ℕ) → (n ≡ 
 other-holder hs m n x other = get_or-set_other hs m n x None other
 
 -- a standing that is no wait for the monitor
-unwanted-set : (rows : List Stand) (n p : ℕ) (s : Stand) → ticket_at (Resumer n) s ≡ None → ticket_at (Enter n) s ≡ None → IsUnwanted rows n → IsUnwanted (set rows p s) n
+unwanted-set : (rows : List Stand) (n p : ℕ) (s : Stand) → ticket_at (Resumer n) s ≡ None → ticket_at (Enter n) s ≡ None →
+    IsUnwanted rows n → IsUnwanted (set rows p s) n
 unwanted-set rows n p s resumes enters u = record {
   resumers = nobody-set (ticket_at (Resumer n)) rows p s resumes u.resumers;
   entrants = nobody-set (ticket_at (Enter n)) rows p s enters u.entrants;
@@ -45,7 +46,8 @@ enter h p m lt ok = go (holder_in h.holders m) refl
   where
     go : (o : Option ℕ) → holder_in h.holders m ≡ o → AreOrderly (entered_where o h p m)
     go None e =
-        both h (holding h m (Some p)) m ok (λ free. is-held _ p (sym (same-holder h.holders m (Some p) lt) ∙ free)) (λ n other. other-holder h.holders m n (Some p) other) (λ n other u. u)
+        both h (holding h m (Some p)) m ok (λ free. is-held _ p (sym (same-holder h.holders m (Some p) lt) ∙ free))
+        (λ n other. other-holder h.holders m n (Some p) other) (λ n other u. u)
     go (Some q) e =
         both h (standing h (blocked h.table p (Enter m) [])) m ok (λ free. is-held _ q (sym e ∙ free)) (λ n other. refl)
         (λ n other u. unwanted-set h.table.rows n p (Waits (Enter m) _ []) refl (another m n _ other) u)
@@ -59,13 +61,18 @@ hand_over h m lt ok = go (next_holder h.table.rows m) refl
   where
     go : (o : Option ℕ) → next_holder h.table.rows m ≡ o → AreOrderly (given_to o h m)
     go (Some q) e =
-        both h (given_to (Some q) h m) m ok (λ free. is-held _ q (sym (same-holder h.holders m (Some q) lt) ∙ free)) (λ n other. other-holder h.holders m n (Some q) other)
+        both h (given_to (Some q) h m) m ok (λ free. is-held _ q (sym (same-holder h.holders m (Some q) lt) ∙ free))
+        (λ n other. other-holder h.holders m n (Some q) other)
         (λ n other u. unwanted-set h.table.rows n q Is_ready refl refl u)
     go None e =
         let none : (last (ticket_at (Resumer m)) h.table.rows ≡ None) × (first (ticket_at (Enter m)) h.table.rows ≡ None) =
         or-none (last (ticket_at (Resumer m)) h.table.rows) (first (ticket_at (Enter m)) h.table.rows) e in
         both h (holding h m None) m ok
-        (λ free. record { resumers = nobody-last (ticket_at (Resumer m)) h.table.rows refl none.0; entrants = nobody-first (ticket_at (Enter m)) h.table.rows refl none.1 })
+        (λ free. record {
+          resumers = nobody-last (ticket_at (Resumer m)) h.table.rows refl none.0;
+          entrants =
+              nobody-first (ticket_at (Enter m)) h.table.rows refl none.1;
+        })
         (λ n other. other-holder h.holders m n None other) (λ n other u. u)
 
 pub delay : (h : Held) (p m c : ℕ) (rank : ℤ) → m < length h.holders → AreOrderly h → AreOrderly (delayed h p m c rank)
@@ -79,4 +86,5 @@ resume h p m c lt ok = go (condition_waiter h.table.rows c)
     go (Some q) =
         both h (holding (standing h (blocked (placed h.table q Is_ready) p (Resumer m) [])) m (Some q)) m ok
         (λ free. is-held _ q (sym (same-holder h.holders m (Some q) lt) ∙ free)) (λ n other. other-holder h.holders m n (Some q) other)
-        (λ n other u. unwanted-set (set h.table.rows q Is_ready) n p (Waits (Resumer m) _ []) (another m n _ other) refl (unwanted-set h.table.rows n q Is_ready refl refl u))
+        (λ n other u. unwanted-set (set h.table.rows q Is_ready) n p (Waits (Resumer m) _ []) (another m n _ other) refl
+        (unwanted-set h.table.rows n q Is_ready refl refl u))

@@ -22,6 +22,8 @@ pub fn a_free_monitor_is_wanted_by_nobody()
 /// and else to nobody.
 pub fn the_latest_resumer_comes_before_any_entrant()
     ensures resumer { (rows : List Stand) (m q : ℕ) → AreApart rows → IsLast (ticket_at (Why.Resumer m)) rows q → next_holder rows m ≡ Some q }
-    ensures entrant { (rows : List Stand) (m q : ℕ) → AreApart rows → IsNobody (ticket_at (Why.Resumer m)) rows → IsFirst (ticket_at (Why.Enter m)) rows q → next_holder rows m ≡ Some q }
-    ensures nobody { (rows : List Stand) (m : ℕ) → IsNobody (ticket_at (Why.Resumer m)) rows → IsNobody (ticket_at (Why.Enter m)) rows → next_holder rows m ≡ None }
+    ensures entrant { (rows : List Stand) (m q : ℕ) → AreApart rows → IsNobody (ticket_at (Why.Resumer m)) rows →
+        IsFirst (ticket_at (Why.Enter m)) rows q → next_holder rows m ≡ Some q }
+    ensures nobody { (rows : List Stand) (m : ℕ) → IsNobody (ticket_at (Why.Resumer m)) rows →
+        IsNobody (ticket_at (Why.Enter m)) rows → next_holder rows m ≡ None }
 {}

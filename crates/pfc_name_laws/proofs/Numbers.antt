@@ -285,7 +285,15 @@ unfolding AreNamed
 sub_numbered s head h below =
     let t = add_sub s head in
     let g : Grows s.blocks t.blocks =
-    record { subs = grown_by s.blocks.subs head; modules = omega arith; processes = omega arith; scopes = λ n b. refl; entries = λ n b. omega arith; clean = λ e. e } in
+    record {
+      subs = grown_by s.blocks.subs head;
+      modules = omega arith;
+      processes = omega arith;
+      scopes = λ n b. refl;
+      entries =
+          λ n b. omega arith;
+      clean = λ e. e;
+    } in
     record {
       names = names_then s.blocks t.blocks s.blocks.scopes g h.names;
       types = forms_then s.blocks t.blocks s.forms g h.types;
@@ -302,7 +310,15 @@ unfolding AreNamed
 module_numbered s head h below =
     let t = add_module s head in
     let g : Grows s.blocks t.blocks =
-    record { subs = omega arith; modules = grown_by s.blocks.modules head; processes = omega arith; scopes = λ n b. refl; entries = λ n b. omega arith; clean = λ e. e } in
+    record {
+      subs = omega arith;
+      modules = grown_by s.blocks.modules head;
+      processes = omega arith;
+      scopes = λ n b. refl;
+      entries =
+          λ n b. omega arith;
+      clean = λ e. e;
+    } in
     record {
       names = names_then s.blocks t.blocks s.blocks.scopes g h.names;
       types = forms_then s.blocks t.blocks s.forms g h.types;

@@ -40,7 +40,37 @@ or_fits None g first second = second
 or_fits (Some f) g first second = first
 
 predeclared_fit : FitsScope predeclared_names
-predeclared_fit = (tt, (tt, (tt, (tt, (tt, (tt, (refl, (refl, (refl, (tt, (tt, (tt, (tt, (tt, (tt, (tt, (tt, (tt, (tt, (tt, (tt, (tt, (tt, (tt, (tt, (tt, (tt, (tt, (tt, (tt, (tt, (tt, tt))))))))))))))))))))))))))))))))
+predeclared_fit = (
+  tt,
+  (
+    tt,
+    (
+      tt,
+      (
+        tt,
+        (
+          tt,
+          (
+            tt,
+            (
+              refl,
+              (
+                refl,
+                (
+                  refl,
+                  (
+                    tt,
+                    (tt, (tt, (tt, (tt, (tt, (tt, (tt, (tt, (tt, (tt, (tt, (tt, (tt, (tt, (tt, (tt, (tt, (tt, (tt, (tt, (tt, (tt, tt)))))))))))))))))))))),
+                  ),
+                ),
+              ),
+            ),
+          ),
+        ),
+      ),
+    ),
+  ),
+)
 
 outside : (x : Text) (m : Option Meaning) → FitsMeaning m
     → FitsMeaning (meaning_of (option_map (λ (m : Meaning). record { scope = None; place = 0; meaning = m }) m))

@@ -46,7 +46,8 @@ firsts_fit forms = by forms [] tt
     by : (forms : Forms) (before : List Value) → FitList before
         → FitList (fold (λ (before : List Value) (form : Option TypeForm). before ++ first_next before form ∷ []) before forms)
     by [] before all = all
-    by (form ∷ forms) before all = by forms (before ++ first_next before form ∷ []) (all_push FitsValue before (first_next before form) all (next_fits before all form))
+    by (form ∷ forms) before all =
+        by forms (before ++ first_next before form ∷ []) (all_push FitsValue before (first_next before form) all (next_fits before all form))
 
 -- ## With objects
 
@@ -103,7 +104,8 @@ copies_fitting (suc n) f monitor fits o few =
     let first = fits monitor o later.1 in ((first.0, later.0), first.1)
 
 fields_fitting :
-    (before : List Numbering) → AllByRecursion IsFitting before → (fields : FieldList) (monitor : ℕ) → FitsWith FitValues (numbered_fields before fields monitor)
+    (before : List Numbering) → AllByRecursion IsFitting before → (fields : FieldList) (monitor : ℕ) →
+    FitsWith FitValues (numbered_fields before fields monitor)
 fields_fitting before all [] monitor o few = (tt, few)
 fields_fitting before all (f ∷ fields) monitor o few =
     let later = fields_fitting before all fields monitor (numbering_of before f.1 monitor o).objects few in

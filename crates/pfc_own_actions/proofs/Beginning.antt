@@ -45,7 +45,8 @@ still_between e more held b = record {
 
 -- the process begins anew in that room
 pub begun_anew : (ds : List Descriptor) (q : ℕ) (room : Room) → q < length ds
-    → (let more = set ds q (roomier (descriptor_of ds q) room) in set more q (begun_in (descriptor_of more q))) ≡ set ds q (begun_in (roomier (descriptor_of ds q) room))
+    → (let more = set ds q (roomier (descriptor_of ds q) room) in set more q (begun_in (descriptor_of more q))) ≡ set ds q
+    (begun_in (roomier (descriptor_of ds q) room))
 begun_anew ds q room h = again ds q (roomier (descriptor_of ds q) room) begun_in (descriptor_by 0) h
 
 -- a refusal of the stack leaves all as it was
@@ -76,7 +77,8 @@ module _ (k : ℕ) (b : Block) (p : ℕ) (m : Machine) where
 
 -- ## Step by step
 
-created_in : (old new : Table) (q : ℕ) (r : Result (Unit {0}) RunFault) → IsCreation old q r new → is_unfinished (at old.rows q) ≡ false → new ≡ placed old q Is_created
+created_in : (old new : Table) (q : ℕ) (r : Result (Unit {0}) RunFault) → IsCreation old q r new →
+    is_unfinished (at old.rows q) ≡ false → new ≡ placed old q Is_created
 created_in old new q (Ok done) h free = h.1
 created_in old new q (Err f) h free = absurd (false≢true (sym free ∙ h.0))
 

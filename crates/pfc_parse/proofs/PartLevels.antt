@@ -32,6 +32,7 @@ pub body_ends : (b : Body) → body_end (body_view b) ≡ b.last
 body_ends b = search (rules, the_lemmas)
 
 -- a sub whose head is read
-pub sub_goes : (n : ℕ) (head : Reader SubHead) (ts rest : List Token) (h : SubHead) (out : Outcome SubTree) → head ts ≡ Ok (h, rest) → sub_after n h rest ≡ out → sub_behind (parts_at n) (stmt_at n) head ts ≡ out
+pub sub_goes : (n : ℕ) (head : Reader SubHead) (ts rest : List Token) (h : SubHead) (out : Outcome SubTree) → head ts ≡ Ok (h, rest) →
+    sub_after n h rest ≡ out → sub_behind (parts_at n) (stmt_at n) head ts ≡ out
 unfolding sub_behind sub_after
 sub_goes n head ts rest h out a b = bind_given head _ ts rest h out a b

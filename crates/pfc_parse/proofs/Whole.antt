@@ -51,11 +51,13 @@ err_is : (h : Halt) (p : ProgramShape × List Symbol) → Err h ≡ Ok p → ⊥
 err_is h p e = cc
 
 -- a tree that is read is the only one
-pub read_alone : (out : Outcome ProgramTree) (tree : Tree) (shape : ProgramShape) → out ≡ Ok (tree_view tree, []) → bare_outcome out ≡ Ok (shape, []) → tree_shape tree ≡ shape
+pub read_alone : (out : Outcome ProgramTree) (tree : Tree) (shape : ProgramShape) → out ≡ Ok (tree_view tree, []) →
+    bare_outcome out ≡ Ok (shape, []) → tree_shape tree ≡ shape
 read_alone out tree shape e b = ap (λ p. p.0) (ok_is (tree_shape tree, []) (shape, []) (sym (ap bare_outcome e) ∙ b))
 
 -- where a reading halts, there is no tree
-pub halts_alone : (count : ℕ) (h : fault.Halt) (out : Outcome ProgramTree) (shape : ProgramShape) → Halts h out → bare_outcome out ≡ Ok (shape, []) → IsUnlessMemory (Err (fault_at count h)) shape
+pub halts_alone : (count : ℕ) (h : fault.Halt) (out : Outcome ProgramTree) (shape : ProgramShape) → Halts h out → bare_outcome out ≡ Ok (shape, []) →
+    IsUnlessMemory (Err (fault_at count h)) shape
 halts_alone count (Unexpected n) out shape e b = err_is (bad n) (shape, []) (sym (ap bare_outcome e) ∙ b)
 halts_alone count (Deep n) out shape e b = err_is (deep n) (shape, []) (sym (ap bare_outcome e) ∙ b)
 halts_alone count Memory out shape e b = tt

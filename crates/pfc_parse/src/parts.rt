@@ -73,7 +73,8 @@ fn part(levels: u8, home: Home, tokens: &[Token], alloc: Global) -> Result<(Part
 #[cycle(parts)]
 #[tactic(auto, using(pfc_token_parser::proofs::Branches::branch_taken, pfc_token_parser::proofs::Branches::branch_not_taken), unfolding(crate::specs::Homes::sub_after, pfc_grammar::specs::placed::Parts::block_with, pfc_grammar::specs::placed::Parts::sub_behind, pfc_grammar::specs::placed::Reading::bind, pfc_grammar::specs::placed::Reading::pure, pfc_grammar::specs::placed::Reading::stop))]
 fn block(levels: u8, home: Home, tokens: &[Token], alloc: Global) -> Result<(Part, &[Token]), Halt>
-    ensures gives { Gives (λ r. (part_view r.0, r.1.now)) result (reader.block_with (reader.parts_at levels) (expr_at levels) (stmt_at levels) (home_view home) tokens.now) }
+    ensures gives { Gives (λ r. (part_view r.0, r.1.now)) result (reader.block_with (reader.parts_at levels) (expr_at levels)
+        (stmt_at levels) (home_view home) tokens.now) }
     ensures kept { IfOk result (λ r. length r.1.now < length tokens.now) }
 {
     if let Some((_, rest)) = word(tokens, word::PROCEDURE) {
@@ -115,7 +116,8 @@ fn sub_after(
     tokens: &[Token],
     alloc: Global,
 ) -> Result<(Sub, &[Token]), Halt>
-    ensures gives { Gives (λ r. (sub_view r.0, r.1.now)) result (sub_after levels (head.name, map group_view head.formals.items, kind_view head.kind) tokens.now) }
+    ensures gives { Gives (λ r. (sub_view r.0, r.1.now)) result
+        (sub_after levels (head.name, map group_view head.formals.items, kind_view head.kind) tokens.now) }
     ensures kept { IfOk result (λ r. length r.1.now ≤ length tokens.now) }
 {
     let (parts, rest) = parts(levels, Home::Other, tokens, alloc)?;

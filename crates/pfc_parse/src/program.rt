@@ -35,7 +35,8 @@ pub fn parse(alloc: Global, tokens: &[Token]) -> Result<Tree, SyntaxFault>
     ensures tree { IfOk result (λ tree. IsTreeOf tokens.now (tree_view tree)) }
     ensures level { IfOk result (λ tree. All (λ d. d ≤ most_depth) (depths_of (tree_shape tree))) }
     // Whatever lawful tree of so little depth writes the tokens is the answer, unless memory is wanting.
-    ensures only { (shape : ProgramShape) → IsLawful shape → All (λ d. d ≤ most_depth) (depths_of shape) → symbols tokens.now ≡ tokens_of shape → IsUnlessMemory result shape }
+    ensures only { (shape : ProgramShape) → IsLawful shape → All (λ d. d ≤ most_depth) (depths_of shape) →
+        symbols tokens.now ≡ tokens_of shape → IsUnlessMemory result shape }
     // A fault is the syntax fault of the tokens, at its place.
     ensures fault { IfErr result (IsFaultOf (symbols tokens.now)) }
 {

@@ -119,7 +119,8 @@ goal_over w (goal.SendTo e) = send_to (expr_given e) (remainder_of w)
 goal_over w (goal.ReceiveFrom d) = receive_from (desig_given d) (remainder_of w)
 goal_over w (goal.ReceiveInto channel) = receive_into (spot_view channel) (remainder_of w)
 goal_over w (goal.OfferTo e c) = offer_to (expr_given e) (alternative_view c.value.current) (rest_view c.value) (select_view c.value.select) (remainder_of w)
-goal_over w (goal.OfferFrom d c) = offer_from (desig_given d) (alternative_view c.value.current) (rest_view c.value) (select_view c.value.select) (remainder_of w)
+goal_over w (goal.OfferFrom d c) = offer_from (desig_given d) (alternative_view c.value.current) (rest_view c.value)
+    (select_view c.value.select) (remainder_of w)
 goal_over w (goal.OfferInto channel c) =
     offer_into (spot_view channel) (alternative_view c.value.current) (rest_view c.value) (select_view c.value.select) (remainder_of w)
 

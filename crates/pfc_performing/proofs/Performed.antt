@@ -52,7 +52,8 @@ not_choosing x h = refl
 -- so the picker is not asked
 pub plainly_done :
     (source : Source) (old new : State) (p : ℕ) (x : Deed) (picking picking' : Picking) (out out' bytes : List ℕ) (d : Done)
-    → is_choosing x ≡ false → Performs source old new p x bytes d → picking' ≡ picking → out' ≡ out ++ bytes → IsDone source old new p x picking picking' out out' d
+    → is_choosing x ≡ false → Performs source old new p x bytes d → picking' ≡ picking → out' ≡ out ++ bytes →
+    IsDone source old new p x picking picking' out out' d
 plainly_done source old new p x picking picking' out out' bytes d plain performs same written = λ g c a program is_at.
     let n : Action = deed_of source.program.tables a.doing x in
     let none : choices g c p n ≡ 0 = no_choice source.program.tables a.doing g c p x plain in

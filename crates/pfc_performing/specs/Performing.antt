@@ -33,7 +33,8 @@ pub record IsTried (source : Source) (old new : State) (p : ℕ) (d : Deed) (r :
 
 -- Action n of process p was done, with the choice that the picker makes where there is something to choose among, and its bytes stand behind the
 -- others.
-pub record IsAction (source : Source) (g : Program) (new : State) (c : Config) (p : ℕ) (n : Action) (picking picking' : Picking) (out out' : List ℕ) (d : Done) : Type 0 where
+pub record IsAction (source : Source) (g : Program) (new : State) (c : Config) (p : ℕ) (n : Action) (picking picking' : Picking)
+    (out out' : List ℕ) (d : Done) : Type 0 where
   pub bytes : List ℕ
   pub written : out' ≡ out ++ bytes
   pub ends : Ends source g new c p (choice_among picking (choices g c p n)) n bytes d

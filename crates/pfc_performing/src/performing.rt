@@ -72,7 +72,8 @@ fn print<'t>(
     out: &mut Output,
 ) -> Result<Done, Deed<'t>>
     requires { MayAct state.old p }
-    ensures ok { (source : HeldSource) (picking : Picking) → IfOk result (λ d. IsDone source state.old state.new p (deed.Prints bytes.entry width) picking picking out.old out.new d) }
+    ensures ok { (source : HeldSource) (picking : Picking) →
+        IfOk result (λ d. IsDone source state.old state.new p (deed.Prints bytes.entry width) picking picking out.old out.new d) }
     ensures err { OnErr result (StaysAt state.old state.new p) }
     ensures given { IfErr result (λ given. given ≡ deed.Prints bytes.entry width) }
     ensures kept { OnErr result (out.new ≡ out.old) }

@@ -131,7 +131,8 @@ fn sign_fault(sign: Option<(Sign, Place)>, t: TypeId) -> Option<Refusal>
 /// The broken rule of a constant's name: 301 and 310 at the name, and 322 at the sign. Only a constant's name can break the
 /// last one.
 fn named_fault(sign: Option<(Sign, Place)>, m: Option<Meaning>, place: Place) -> Option<Refusal>
-    ensures first { (from : ℕ) (best : Option Refusal) → least_from from best (refused result) ≡ least_from from best (kinds.name_rules kinds.a_constant m place ⨾ constants.sign_rule sign m) }
+    ensures first { (from : ℕ) (best : Option Refusal) →
+        least_from from best (refused result) ≡ least_from from best (kinds.name_rules kinds.a_constant m place ⨾ constants.sign_rule sign m) }
     ensures noted { (s : State) → note s (refused result) ≡ note s (kinds.name_rules kinds.a_constant m place ⨾ constants.sign_rule sign m) }
 {
     match m {
@@ -143,7 +144,8 @@ fn named_fault(sign: Option<(Sign, Place)>, m: Option<Meaning>, place: Place) ->
 /// The rule that is broken in a constant: 301 and 310 at its name, 322 at the sign before a name that is no integer, and
 /// 325 at a literal whose length is not 1. No two of them are broken in one constant.
 pub fn constant_fault(c: &Constant, scopes: &Scopes, view: &View) -> Option<Refusal>
-    ensures first { (from : ℕ) (best : Option Refusal) → least_from from best (refused result) ≡ least_from from best (constants.broken_constant scopes.now.scopes (levels view.now) c.now) }
+    ensures first { (from : ℕ) (best : Option Refusal) →
+        least_from from best (refused result) ≡ least_from from best (constants.broken_constant scopes.now.scopes (levels view.now) c.now) }
     ensures noted { (s : State) → note s (refused result) ≡ note s (constants.broken_constant scopes.now.scopes (levels view.now) c.now) }
 {
     match c {

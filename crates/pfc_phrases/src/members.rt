@@ -132,7 +132,8 @@ fn field_of(s: &Selector) -> Option<(&Name, Place)>
 /// The last selector, where it is a name behind `.`, with the selectors before it.
 #[tactic(auto, using(crate::proofs::Fields::fields))]
 pub fn split_field(ss: &[Selector]) -> Option<(&[Selector], (&Name, Place))>
-    ensures { MatchOption result (calls.last_field (selectors_view ss.now) ≡ None) (λ r. (calls.last_field (selectors_view ss.now) ≡ Some (r.1.0.now, r.1.1)) × (calls.before_last (selectors_view ss.now) ≡ selectors_view r.0.now)) }
+    ensures { MatchOption result (calls.last_field (selectors_view ss.now) ≡ None) (λ r. (calls.last_field (selectors_view ss.now) ≡ Some (r.1.0.now, r.1.1)) ×
+        (calls.before_last (selectors_view ss.now) ≡ selectors_view r.0.now)) }
 {
     let (last, before) = ss.split_last()?;
     let field = field_of(last)?;
@@ -148,7 +149,8 @@ pub(crate) fn call_selected(
     env: Env,
     best: &mut Best,
 )
-    ensures { best.new ≡ noted best.old (calls.call_selected (env_view env.entry) t (selectors_view ss.now) (calls.last_field (selectors_view ss.now)) place (actuals_view args.now)) }
+    ensures { best.new ≡ noted best.old (calls.call_selected (env_view env.entry) t (selectors_view ss.now)
+        (calls.last_field (selectors_view ss.now)) place (actuals_view args.now)) }
 {
     let Some((before, field)) = split_field(ss) else {
         let part = selectors(ss, Some(t), env, best);

@@ -74,7 +74,8 @@ pub(crate) fn related(
     best: &mut Best,
 ) -> Option<TypeId>
     ensures t { result ≡ expressions.related_type a.0 b.0 }
-    ensures best { best.new ≡ noted best.old (expressions.relation_rule a.0 b.0 place ⨾ kinds.value_rule types.now a.0 a.1 ⨾ kinds.value_rule types.now b.0 b.1) }
+    ensures best { best.new ≡ noted best.old
+        (expressions.relation_rule a.0 b.0 place ⨾ kinds.value_rule types.now a.0 a.1 ⨾ kinds.value_rule types.now b.0 b.1) }
 {
     let comparable = may_be_simple(a.0) && may_be_simple(b.0) && may_agree(a.0, b.0);
     best.unless(comparable, place, 311);

@@ -12,7 +12,14 @@ use std::test::Fail;
 
 /// Main waits at `coend`, the processes 1 and 2 are ready, and 3 is idle.
 fn two_ready(alloc: Global) -> Result<World, Memory>
-    ensures { IfOk result (λ w. w ≡ record { rows = Waits Why.Coend 1 [] ∷ Is_ready ∷ Is_ready ∷ Is_idle ∷ []; acting = None; done = 0; moment = 0; room = 0 }) }
+    ensures { IfOk result (λ w. w ≡ record {
+      rows = Waits Why.Coend 1 [] ∷ Is_ready ∷ Is_ready ∷ Is_idle ∷ [];
+      acting =
+          None;
+      done = 0;
+      moment = 0;
+      room = 0;
+    }) }
 {
     let mut world = World::with_processes(alloc, 4, 0, 16)?;
     let _ = world.create(1);

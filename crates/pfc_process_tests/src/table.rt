@@ -24,7 +24,14 @@ fn states(world: &World) -> [State; 4]
 
 /// After one action main waits at `coend`, the processes 1 and 2 are ready, and 3 is idle.
 fn two_children(alloc: Global) -> Result<World, Memory>
-    ensures world { IfOk result (λ w. w ≡ record { rows = Waits Why.Coend 1 [] ∷ Is_ready ∷ Is_ready ∷ Is_idle ∷ []; acting = None; done = 1; moment = 1; room = 2 }) }
+    ensures world { IfOk result (λ w. w ≡ record {
+      rows = Waits Why.Coend 1 [] ∷ Is_ready ∷ Is_ready ∷ Is_idle ∷ [];
+      acting =
+          None;
+      done = 1;
+      moment = 1;
+      room = 2;
+    }) }
     ensures fresh { IfOk result (λ w. IsNew w.rows w.done) }
 {
     let mut world = World::with_processes(alloc, 4, 2, 16)?;

@@ -19,7 +19,8 @@ laid_front x names = by (is_laid x.1)
 
 -- the name at a place, and those behind it
 pub laid_more :
-    (names : Names) (k : ℕ) (d : Text × Meaning) → k < length names → laid_names (drop k names) ≡ one_laid (get_or names k d).1 ++ laid_names (drop (k + 1) names)
+    (names : Names) (k : ℕ) (d : Text × Meaning) → k < length names →
+    laid_names (drop k names) ≡ one_laid (get_or names k d).1 ++ laid_names (drop (k + 1) names)
 laid_more names k d within = ap laid_names (drop_more names k d within) ∙ laid_front (get_or names k d) (drop (k + 1) names)
 
 -- one name more, behind the others
@@ -33,33 +34,39 @@ laid_push (y ∷ names) x =
 
 -- the name behind the first k
 pub laid_taken :
-    (names : Names) (k : ℕ) (d : Text × Meaning) → k < length names → laid_names (take (k + 1) names) ≡ laid_names (take k names) ++ one_laid (get_or names k d).1
+    (names : Names) (k : ℕ) (d : Text × Meaning) → k < length names →
+    laid_names (take (k + 1) names) ≡ laid_names (take k names) ++ one_laid (get_or names k d).1
 laid_taken names k d within = ap laid_names (take_more names k d within) ∙ laid_push (take k names) (get_or names k d)
 
 pub main_more :
-    (b : Blocks) (names : Names) (k : ℕ) (d : Text × Meaning) → k < length names → main_layout b (drop k names) ≡ laid_as b (get_or names k d).1 ++ main_layout b (drop (k + 1) names)
+    (b : Blocks) (names : Names) (k : ℕ) (d : Text × Meaning) → k < length names →
+    main_layout b (drop k names) ≡ laid_as b (get_or names k d).1 ++ main_layout b (drop (k + 1) names)
 main_more b names k d within = ap (main_layout b) (drop_more names k d within)
 
 -- the same where the meaning of the name is given
 pub laid_at :
-    (names : Names) (k : ℕ) (m : Meaning) → ((d : Text × Meaning) → m ≡ (get_or names k d).1) → k < length names → laid_names (drop k names) ≡ one_laid m ++ laid_names (drop (k + 1) names)
+    (names : Names) (k : ℕ) (m : Meaning) → ((d : Text × Meaning) → m ≡ (get_or names k d).1) → k < length names →
+    laid_names (drop k names) ≡ one_laid m ++ laid_names (drop (k + 1) names)
 laid_at names k m is within =
     let none : Text × Meaning = ([], Faulty) in
     laid_more names k none within ∙ ap (λ n. one_laid n ++ laid_names (drop (k + 1) names)) (sym (is none))
 
 pub laid_taken_at :
-    (names : Names) (k : ℕ) (m : Meaning) → ((d : Text × Meaning) → m ≡ (get_or names k d).1) → k < length names → laid_names (take (k + 1) names) ≡ laid_names (take k names) ++ one_laid m
+    (names : Names) (k : ℕ) (m : Meaning) → ((d : Text × Meaning) → m ≡ (get_or names k d).1) → k < length names →
+    laid_names (take (k + 1) names) ≡ laid_names (take k names) ++ one_laid m
 laid_taken_at names k m is within =
     let none : Text × Meaning = ([], Faulty) in laid_taken names k none within ∙ ap (λ n. laid_names (take k names) ++ one_laid n) (sym (is none))
 
 pub main_at :
-    (b : Blocks) (names : Names) (k : ℕ) (m : Meaning) → ((d : Text × Meaning) → m ≡ (get_or names k d).1) → k < length names → main_layout b (drop k names) ≡ laid_as b m ++ main_layout b (drop (k + 1) names)
+    (b : Blocks) (names : Names) (k : ℕ) (m : Meaning) → ((d : Text × Meaning) → m ≡ (get_or names k d).1) → k < length names →
+    main_layout b (drop k names) ≡ laid_as b m ++ main_layout b (drop (k + 1) names)
 main_at b names k m is within =
     let none : Text × Meaning = ([], Faulty) in
     main_more b names k none within ∙ ap (λ n. laid_as b n ++ main_layout b (drop (k + 1) names)) (sym (is none))
 
 -- the names of the next accept
-pub accepts_next : (scopes : List Names) (i n : ℕ) → accepts_laid (take (suc n) (drop i scopes)) ≡ laid_names (scope_at scopes i) ++ accepts_laid (take n (drop (i + 1) scopes))
+pub accepts_next : (scopes : List Names) (i n : ℕ) →
+    accepts_laid (take (suc n) (drop i scopes)) ≡ laid_names (scope_at scopes i) ++ accepts_laid (take n (drop (i + 1) scopes))
 accepts_next [] i n =
     let none : List Names = [] in
     ap (λ l. accepts_laid (take (suc n) l)) (drop_all i none (omega arith))

@@ -27,7 +27,8 @@ main_places-at b n (x ∷ names) (suc k) within =
     let both = length-append (laid_as b x.1) (main_layout b (take k names)) in omega arith
 
 pub block_places-at :
-    (sub : Option SubHead) (n j : ℕ) (names : Names) (k : ℕ) → k < length names → get_or (block_places sub n j names) k 0 ≡ n + (length (laid_names (take k names)) + behind_result sub (j + k))
+    (sub : Option SubHead) (n j : ℕ) (names : Names) (k : ℕ) → k < length names →
+    get_or (block_places sub n j names) k 0 ≡ n + (length (laid_names (take k names)) + behind_result sub (j + k))
 block_places-at sub n j [] k within = absurd (omega arith)
 block_places-at sub n j (x ∷ names) zero within =
     let same : behind_result sub (j + 0) ≡ behind_result sub j = ap (behind_result sub) (omega arith) in omega arith
@@ -47,13 +48,15 @@ position_here test n xs d within is =
 -- ## The rows
 
 pub main_places_next :
-    (b : Blocks) (n : ℕ) (names : Names) (k : ℕ) (m : Meaning) → ((d : Text × Meaning) → m ≡ (get_or names k d).1) → k < length names → main_places b n (drop k names) ≡ n ∷ main_places b (n + length (laid_as b m)) (drop (k + 1) names)
+    (b : Blocks) (n : ℕ) (names : Names) (k : ℕ) (m : Meaning) → ((d : Text × Meaning) → m ≡ (get_or names k d).1) → k < length names →
+    main_places b n (drop k names) ≡ n ∷ main_places b (n + length (laid_as b m)) (drop (k + 1) names)
 main_places_next b n names k m is within =
     let none : Text × Meaning = ([], Faulty) in
     ap (main_places b n) (drop_more names k none within) ∙ ap (λ x. n ∷ main_places b (n + length (laid_as b x)) (drop (k + 1) names)) (sym (is none))
 
 pub block_places_next :
-    (sub : Option SubHead) (n j : ℕ) (names : Names) (k : ℕ) (m : Meaning) → ((d : Text × Meaning) → m ≡ (get_or names k d).1) → k < length names → block_places sub n j (drop k names) ≡ (n + behind_result sub j) ∷ block_places sub (n + length (one_laid m)) (j + 1) (drop (k + 1) names)
+    (sub : Option SubHead) (n j : ℕ) (names : Names) (k : ℕ) (m : Meaning) → ((d : Text × Meaning) → m ≡ (get_or names k d).1) → k < length names →
+    block_places sub n j (drop k names) ≡ (n + behind_result sub j) ∷ block_places sub (n + length (one_laid m)) (j + 1) (drop (k + 1) names)
 block_places_next sub n j names k m is within =
     let none : Text × Meaning = ([], Faulty) in
     ap (block_places sub n j) (drop_more names k none within)
@@ -61,7 +64,8 @@ block_places_next sub n j names k m is within =
 
 -- the row of the program's scope
 pub main_row_holds :
-    (b : Blocks) (i : ℕ) (row : List ℕ) → i ≡ 0 → row ≡ main_places b 0 (scope_at b.scopes 0) → (k : ℕ) → k < length (scope_at b.scopes i) → get_or row k 0 ≡ variable_place b i k
+    (b : Blocks) (i : ℕ) (row : List ℕ) → i ≡ 0 → row ≡ main_places b 0 (scope_at b.scopes 0) → (k : ℕ) →
+    k < length (scope_at b.scopes i) → get_or row k 0 ≡ variable_place b i k
 main_row_holds b i row first made k within =
     let held : k < length (scope_at b.scopes 0) = subst (λ j. k < length (scope_at b.scopes j)) first within in
     ap (λ r. get_or r k 0) made
@@ -71,7 +75,8 @@ main_row_holds b i row first made k within =
 
 -- that of another
 pub block_row_holds :
-    (b : Blocks) (i : ℕ) (row : List ℕ) → (i == 0) ≡ false → row ≡ block_places (sub_with b.subs i) (before_scope b (position (λ m. m.scope == i) b.modules)) 0 (scope_at b.scopes i) → (k : ℕ) → k < length (scope_at b.scopes i) → get_or row k 0 ≡ variable_place b i k
+    (b : Blocks) (i : ℕ) (row : List ℕ) → (i == 0) ≡ false → row ≡ block_places (sub_with b.subs i) (before_scope b (position (λ m. m.scope == i) b.modules)) 0
+    (scope_at b.scopes i) → (k : ℕ) → k < length (scope_at b.scopes i) → get_or row k 0 ≡ variable_place b i k
 block_row_holds b i row other made k within =
     let sub = sub_with b.subs i in
     let n = before_scope b (position (λ m. m.scope == i) b.modules) in
@@ -106,7 +111,8 @@ rows_pushed b rows made row i is len before here =
 -- ## Before a module
 
 pub before_here :
-    (b : Blocks) (n : ℕ) (names : Names) (k : ℕ) (m : Meaning) → ((d : Text × Meaning) → m ≡ (get_or names k d).1) → k < length names → is_module n m ≡ true → before_module b n (drop k names) ≡ 0
+    (b : Blocks) (n : ℕ) (names : Names) (k : ℕ) (m : Meaning) → ((d : Text × Meaning) → m ≡ (get_or names k d).1) → k < length names →
+    is_module n m ≡ true → before_module b n (drop k names) ≡ 0
 before_here b n names k m is within found =
     let none : Text × Meaning = ([], Faulty) in
     ap (before_module b n) (drop_more names k none within)
@@ -114,7 +120,8 @@ before_here b n names k m is within found =
     ∙ ap (λ t. cond t 0 (length (laid_as b m) + before_module b n (drop (k + 1) names))) found
 
 pub before_more :
-    (b : Blocks) (n : ℕ) (names : Names) (k : ℕ) (m : Meaning) → ((d : Text × Meaning) → m ≡ (get_or names k d).1) → k < length names → is_module n m ≡ false → before_module b n (drop k names) ≡ length (laid_as b m) + before_module b n (drop (k + 1) names)
+    (b : Blocks) (n : ℕ) (names : Names) (k : ℕ) (m : Meaning) → ((d : Text × Meaning) → m ≡ (get_or names k d).1) → k < length names → is_module n m ≡ false →
+    before_module b n (drop k names) ≡ length (laid_as b m) + before_module b n (drop (k + 1) names)
 before_more b n names k m is within other =
     let none : Text × Meaning = ([], Faulty) in
     ap (before_module b n) (drop_more names k none within)

@@ -63,7 +63,8 @@ pub(crate) fn block_of<'a>(
     guard: Option<Guard<'a>>,
     tables: Tables,
 ) -> Result<Block<'a>, Memory>
-    ensures { IfOk result (λ block. block_view tables.entry block ≡ programs.block_of numbers.scope numbers.outer (names_view tables.entry names) numbers.next (body_view b.now) layout.items numbers.accepts (guard_view tables.entry guard.entry)) }
+    ensures { IfOk result (λ block. block_view tables.entry block ≡ programs.block_of numbers.scope numbers.outer (names_view tables.entry names) numbers.next
+        (body_view b.now) layout.items numbers.accepts (guard_view tables.entry guard.entry)) }
 {
     let cells = layout_cells(tables.types, &layout)?;
     Ok(Block {

@@ -22,7 +22,8 @@ use std::alloc::Global;
 pub(crate) fn main_block<'a>(b: &'a Body, next: u32, home: Home) -> Result<Block<'a>, Memory>
     requires scope { home.scope ≡ 0 }
     requires outer { home.outer.now ≡ [] }
-    ensures { IfOk result (λ block. block_view home.entry.tables block ≡ programs.block_of 0 0 (programs.env_of_main (tables_view home.entry.tables)) next (body_view b.now) (layouts.main_layout home.entry.tables.scopes.now (scope_at home.entry.tables.scopes.now.scopes 0)) 0 None) }
+    ensures { IfOk result (λ block. block_view home.entry.tables block ≡ programs.block_of 0 0 (programs.env_of_main (tables_view home.entry.tables)) next
+        (body_view b.now) (layouts.main_layout home.entry.tables.scopes.now (scope_at home.entry.tables.scopes.now.scopes 0)) 0 None) }
 {
     let names = names_here(home, MAIN)?;
     let layout = main_layout(home.alloc, home.tables.scopes)?;
@@ -44,7 +45,8 @@ fn init<'a>(
     tables: Tables,
     modules: &mut Vec<Block<'a>>,
 ) -> Result<(), Memory>
-    ensures { OnOk result (blocks_view tables.entry modules.new.items ≡ blocks_view tables.entry modules.old.items ++ programs.module_inits (tables_view tables.entry) count scope (module_view m.now)) }
+    ensures { OnOk result (blocks_view tables.entry modules.new.items ≡ blocks_view tables.entry modules.old.items ++ programs.module_inits
+        (tables_view tables.entry) count scope (module_view m.now)) }
 {
     let Some(b) = &m.body else { return Ok(()) };
     let next = behind_parts(&m.parts, following(scope)?)?;
@@ -62,7 +64,8 @@ fn init<'a>(
 
 /// The block of an initialising body: its variables are main's.
 fn init_block<'a>(b: &'a Body, next: u32, home: Home) -> Result<Block<'a>, Memory>
-    ensures { IfOk result (λ block. block_view home.entry.tables block ∷ [] ≡ programs.init_block (tables_view home.entry.tables) home.entry.scope (here home.entry.tables.scopes.now.scopes home.entry.scope home.entry.outer.now) next (Some (body_view b.now))) }
+    ensures { IfOk result (λ block. block_view home.entry.tables block ∷ [] ≡ programs.init_block (tables_view home.entry.tables) home.entry.scope
+        (here home.entry.tables.scopes.now.scopes home.entry.scope home.entry.outer.now) next (Some (body_view b.now))) }
 {
     let names = names_here(home, NOWHERE)?;
     let numbers = Numbers {
@@ -83,7 +86,8 @@ fn part_init<'a>(
     tables: Tables,
     modules: &mut Vec<Block<'a>>,
 ) -> Result<(), Memory>
-    ensures { OnOk result (blocks_view tables.entry modules.new.items ≡ blocks_view tables.entry modules.old.items ++ programs.part_inits (tables_view tables.entry) count next (part_view p.now)) }
+    ensures { OnOk result (blocks_view tables.entry modules.new.items ≡ blocks_view tables.entry modules.old.items ++ programs.part_inits
+        (tables_view tables.entry) count next (part_view p.now)) }
 {
     match p {
         Part::Monitor(m) => init(alloc, m, count, next, tables, modules),

@@ -92,7 +92,8 @@ fn rows(alloc: Global, lookups: &Lookups) -> Result<Vec<Row>, Memory>
 
 /// The row of the scope i.
 fn scope_row(alloc: Global, lookups: &Lookups, i: u32) -> Result<Row, Memory>
-    ensures { IfOk result (λ row. (k : ℕ) → k < length (scope_at lookups.now.scopes.now.scopes i) → get_or row k 0 ≡ layouts.variable_place lookups.now.scopes.now i k) }
+    ensures { IfOk result (λ row. (k : ℕ) → k < length (scope_at lookups.now.scopes.now.scopes i) →
+        get_or row k 0 ≡ layouts.variable_place lookups.now.scopes.now i k) }
 {
     if i == 0 {
         let places = main_row(alloc, lookups.scopes)?;
@@ -192,7 +193,8 @@ fn behind_result(scopes: &Scopes, sub: Option<u32>, k: u32) -> u32
 /// The places of the names of the scope i, which is not the program's.
 fn block_row(alloc: Global, lookups: &Lookups, i: u32) -> Result<Vec<u32>, Memory>
     ensures { IfOk result (λ row. row.items ≡ block_places (layouts.sub_with lookups.now.scopes.now.subs i)
-        (layouts.before_scope lookups.now.scopes.now (position (λ m. m.scope == i) lookups.now.scopes.now.modules)) 0 (scope_at lookups.now.scopes.now.scopes i)) }
+        (layouts.before_scope lookups.now.scopes.now (position (λ m. m.scope == i) lookups.now.scopes.now.modules)) 0
+        (scope_at lookups.now.scopes.now.scopes i)) }
 {
     let scopes = lookups.scopes;
     let mut row = Vec::new(alloc);

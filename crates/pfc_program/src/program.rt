@@ -74,7 +74,8 @@ impl<'a> Program<'a> {
 
     /// The block whose scope has this number, and main's where there is none.
     pub fn block_at(&self, scope: u32) -> &Block<'a>
-        ensures { block_view self.now.tables result.now ≡ programs.found_block (blocks_view self.now.tables self.now.blocks.items) scope (block_view self.now.tables self.now.main) }
+        ensures { block_view self.now.tables result.now ≡ programs.found_block (blocks_view self.now.tables self.now.blocks.items) scope
+            (block_view self.now.tables self.now.main) }
     {
         for b in &self.blocks {
             if b.scope == scope {

@@ -58,7 +58,8 @@ fn around_block(home: Home, count: u32) -> Result<Vec<Level>, Memory>
 
 /// What is known in the body of a block, in which all its names are in view.
 pub(crate) fn names_here(home: Home, around: Around) -> Result<Names, Memory>
-    ensures { IfOk result (λ names. names_view home.entry.tables names ≡ rules.env_at (tables_view home.entry.tables) (scopes.here home.entry.tables.scopes.now.scopes home.entry.scope home.entry.outer.now) around) }
+    ensures { IfOk result (λ names. names_view home.entry.tables names ≡ rules.env_at (tables_view home.entry.tables)
+        (scopes.here home.entry.tables.scopes.now.scopes home.entry.scope home.entry.outer.now) around) }
 {
     let level = Level::new(home.scope, names_in(home.tables.scopes, home.scope));
     Names::new(home.alloc, level, home.outer, around)
@@ -73,7 +74,8 @@ fn guard_of<'a>(
     count: u32,
     home: Home,
 ) -> Result<Option<Guard<'a>>, Memory>
-    ensures { IfOk result (λ guard. guard_view home.entry.tables guard ≡ programs.guard_of (rules.env_at (tables_view home.entry.tables) (rules.level scope own ∷ rules.level home.entry.scope count ∷ home.entry.outer.now) (rules.around_guard home.entry.scope)) (kind_view kind.now)) }
+    ensures { IfOk result (λ guard. guard_view home.entry.tables guard ≡ programs.guard_of (rules.env_at (tables_view home.entry.tables)
+        (rules.level scope own ∷ rules.level home.entry.scope count ∷ home.entry.outer.now) (rules.around_guard home.entry.scope)) (kind_view kind.now)) }
 {
     match kind {
         SubKind::Procedure | SubKind::Function(_, _) => Ok(None),
@@ -116,7 +118,8 @@ fn part<'a>(
     home: Home,
     blocks: &mut Vec<Block<'a>>,
 ) -> Result<(), Memory>
-    ensures { OnOk result (blocks_view home.entry.tables blocks.new.items ≡ blocks_view home.entry.tables blocks.old.items ++ programs.part_blocks (tables_view home.entry.tables) home.entry.process home.entry.scope count home.entry.outer.now next (part_view p.now)) }
+    ensures { OnOk result (blocks_view home.entry.tables blocks.new.items ≡ blocks_view home.entry.tables blocks.old.items ++ programs.part_blocks
+        (tables_view home.entry.tables) home.entry.process home.entry.scope count home.entry.outer.now next (part_view p.now)) }
 {
     match p {
         Part::Consts(_) | Part::Types(_) | Part::Vars(_) => Ok(()),
@@ -136,7 +139,8 @@ pub(crate) fn parts<'a>(
     home: Home,
     blocks: &mut Vec<Block<'a>>,
 ) -> Result<(), Memory>
-    ensures { OnOk result (blocks_view home.entry.tables blocks.new.items ≡ blocks_view home.entry.tables blocks.old.items ++ programs.parts_blocks (tables_view home.entry.tables) home.entry.process home.entry.scope count home.entry.outer.now next (parts_view ps.now)) }
+    ensures { OnOk result (blocks_view home.entry.tables blocks.new.items ≡ blocks_view home.entry.tables blocks.old.items ++ programs.parts_blocks
+        (tables_view home.entry.tables) home.entry.process home.entry.scope count home.entry.outer.now next (parts_view ps.now)) }
 {
     let mut before = count;
     let mut after = next;
@@ -157,7 +161,8 @@ fn sub<'a>(
     home: Home,
     blocks: &mut Vec<Block<'a>>,
 ) -> Result<(), Memory>
-    ensures { OnOk result (blocks_view home.entry.tables blocks.new.items ≡ blocks_view home.entry.tables blocks.old.items ++ programs.sub_blocks (tables_view home.entry.tables) home.entry.process home.entry.scope count home.entry.outer.now next (sub_view b.now)) }
+    ensures { OnOk result (blocks_view home.entry.tables blocks.new.items ≡ blocks_view home.entry.tables blocks.old.items ++ programs.sub_blocks
+        (tables_view home.entry.tables) home.entry.process home.entry.scope count home.entry.outer.now next (sub_view b.now)) }
 {
     let own = passed_groups(&b.formals, home.tables.scopes, next, 0);
     let outer = around_block(home, passed(&b.name, home.tables.scopes, home.scope, count))?;
@@ -177,7 +182,9 @@ fn sub_block<'a>(
     guard: Option<Guard<'a>>,
     home: Home,
 ) -> Result<Block<'a>, Memory>
-    ensures { IfOk result (λ block. block_view home.entry.tables block ≡ programs.block_of home.entry.scope outer (rules.env_at (tables_view home.entry.tables) (scopes.here home.entry.tables.scopes.now.scopes home.entry.scope home.entry.outer.now) (rules.around_sub home.entry.process (kind_view b.now.kind))) next (body_view b.now.body) (layouts.sub_layout_at home.entry.tables.scopes.now home.entry.scope) 0 (guard_view home.entry.tables guard.entry)) }
+    ensures { IfOk result (λ block. block_view home.entry.tables block ≡ programs.block_of home.entry.scope outer (rules.env_at (tables_view home.entry.tables)
+        (scopes.here home.entry.tables.scopes.now.scopes home.entry.scope home.entry.outer.now) (rules.around_sub home.entry.process (kind_view b.now.kind)))
+        next (body_view b.now.body) (layouts.sub_layout_at home.entry.tables.scopes.now home.entry.scope) 0 (guard_view home.entry.tables guard.entry)) }
 {
     let names = names_here(home, around_sub(home.process, &b.kind))?;
     let layout = sub_layout(home.alloc, home.tables.scopes, home.scope)?;
@@ -199,7 +206,8 @@ fn module<'a>(
     home: Home,
     blocks: &mut Vec<Block<'a>>,
 ) -> Result<(), Memory>
-    ensures { OnOk result (blocks_view home.entry.tables blocks.new.items ≡ blocks_view home.entry.tables blocks.old.items ++ programs.module_blocks (tables_view home.entry.tables) home.entry.scope count home.entry.outer.now next (module_view m.now)) }
+    ensures { OnOk result (blocks_view home.entry.tables blocks.new.items ≡ blocks_view home.entry.tables blocks.old.items ++ programs.module_blocks
+        (tables_view home.entry.tables) home.entry.scope count home.entry.outer.now next (module_view m.now)) }
 {
     let outer = around_block(home, count)?;
     let block = inner(home, false, next, &outer);
@@ -215,7 +223,8 @@ fn process<'a>(
     home: Home,
     blocks: &mut Vec<Block<'a>>,
 ) -> Result<(), Memory>
-    ensures { OnOk result (blocks_view home.entry.tables blocks.new.items ≡ blocks_view home.entry.tables blocks.old.items ++ programs.process_blocks (tables_view home.entry.tables) home.entry.scope count home.entry.outer.now next (process_view q.now)) }
+    ensures { OnOk result (blocks_view home.entry.tables blocks.new.items ≡ blocks_view home.entry.tables blocks.old.items ++ programs.process_blocks
+        (tables_view home.entry.tables) home.entry.scope count home.entry.outer.now next (process_view q.now)) }
 {
     let own = passed_groups(&q.formals, home.tables.scopes, next, 0);
     let own = passed_entries(&q.entries, home.tables.scopes, next, own);
@@ -229,7 +238,10 @@ fn process<'a>(
 
 /// The block of a process, which is declared in the scope `outer`; `next` is the number of the next scope of the text in its body.
 fn process_block<'a>(q: &'a Process, outer: u32, next: u32, home: Home) -> Result<Block<'a>, Memory>
-    ensures { IfOk result (λ block. block_view home.entry.tables block ≡ programs.block_of home.entry.scope outer (rules.env_at (tables_view home.entry.tables) (scopes.here home.entry.tables.scopes.now.scopes home.entry.scope home.entry.outer.now) rules.around_process) next (body_view q.now.body) (layouts.process_layout (scopes.scope_at home.entry.tables.scopes.now.scopes home.entry.scope) (take (body_scopes (body_view q.now.body)) (drop next home.entry.tables.scopes.now.scopes))) (body_scopes (body_view q.now.body)) None) }
+    ensures { IfOk result (λ block. block_view home.entry.tables block ≡ programs.block_of home.entry.scope outer (rules.env_at (tables_view home.entry.tables)
+        (scopes.here home.entry.tables.scopes.now.scopes home.entry.scope home.entry.outer.now) rules.around_process) next (body_view q.now.body)
+        (layouts.process_layout (scopes.scope_at home.entry.tables.scopes.now.scopes home.entry.scope) (take (body_scopes (body_view q.now.body))
+        (drop next home.entry.tables.scopes.now.scopes))) (body_scopes (body_view q.now.body)) None) }
 {
     let names = names_here(home, PROCESS)?;
     let end = behind_body(&q.body, next)?;

@@ -4,7 +4,8 @@ use Rattle.pfc_sched.specs.Picks.{by_list}
 use Rattle.pfc_race_samples.specs.Shows.{races_in}
 
 lost_update :
-    races_in (codes "program a; var x: integer; process p; begin x := x + 1 end; process q; begin x := x + 1 end; begin cobegin p; q coend; writeln(x) end.") [] 1 (by_list (0 ∷ 0 ∷ 0 ∷ 1 ∷ 2 ∷ 1 ∷ 2 ∷ 1 ∷ 2 ∷ 0 ∷ 0 ∷ 0 ∷ 0 ∷ []) 0) 100
+    races_in (codes "program a; var x: integer; process p; begin x := x + 1 end; process q; begin x := x + 1 end; begin cobegin p; q coend; writeln(x) end.")
+    [] 1 (by_list (0 ∷ 0 ∷ 0 ∷ 1 ∷ 2 ∷ 1 ∷ 2 ∷ 1 ∷ 2 ∷ 0 ∷ 0 ∷ 0 ∷ 0 ∷ []) 0) 100
     ≡ Some (codes "-- race: action 4 process 1 reads at line 1, action 7 process 2 writes at line 1\n-- race: action 5 process 2 reads at line 1, action 6 process 1 writes at line 1\n-- race: action 6 process 1 writes at line 1, action 7 process 2 writes at line 1\n")
 unfolding races_in
 lost_update = refl
@@ -18,21 +19,24 @@ semaphore_orders = refl
 
 -- without the semaphore
 nothing_orders :
-    races_in (codes "program a; var x: integer; process p; begin x := 1 end; process q; begin write(x) end; begin cobegin p; q coend end.") [] 1 (by_list (0 ∷ 0 ∷ 0 ∷ 1 ∷ 1 ∷ 2 ∷ 2 ∷ 2 ∷ 0 ∷ []) 0) 100
+    races_in (codes "program a; var x: integer; process p; begin x := 1 end; process q; begin write(x) end; begin cobegin p; q coend end.") [] 1
+    (by_list (0 ∷ 0 ∷ 0 ∷ 1 ∷ 1 ∷ 2 ∷ 2 ∷ 2 ∷ 0 ∷ []) 0) 100
     ≡ Some (codes "-- race: action 4 process 1 writes at line 1, action 6 process 2 reads at line 1\n")
 unfolding races_in
 nothing_orders = refl
 
 -- a whole array against one element
 array_and_element :
-    races_in (codes "program a; var t, u: array[1..2] of integer; process p; begin t[1] := 5 end; process q; begin u := t end; begin cobegin p; q coend end.") [] 1 (by_list (0 ∷ 0 ∷ 0 ∷ 1 ∷ 1 ∷ 2 ∷ 2 ∷ 2 ∷ 0 ∷ []) 0) 100
+    races_in (codes "program a; var t, u: array[1..2] of integer; process p; begin t[1] := 5 end; process q; begin u := t end; begin cobegin p; q coend end.")
+    [] 1 (by_list (0 ∷ 0 ∷ 0 ∷ 1 ∷ 1 ∷ 2 ∷ 2 ∷ 2 ∷ 0 ∷ []) 0) 100
     ≡ Some (codes "-- race: action 4 process 1 writes at line 1, action 6 process 2 reads at line 1\n")
 unfolding races_in
 array_and_element = refl
 
 -- the second process begins behind the first coend
 phases_are_joined :
-    races_in (codes "program a; var x: integer; process p; begin x := 5 end; process q; begin x := 7 end; begin cobegin p coend; cobegin q coend end.") [] 1 (by_list (0 ∷ 0 ∷ 1 ∷ 1 ∷ 0 ∷ 0 ∷ 2 ∷ 2 ∷ 0 ∷ []) 0) 100
+    races_in (codes "program a; var x: integer; process p; begin x := 5 end; process q; begin x := 7 end; begin cobegin p coend; cobegin q coend end.") [] 1
+    (by_list (0 ∷ 0 ∷ 1 ∷ 1 ∷ 0 ∷ 0 ∷ 2 ∷ 2 ∷ 0 ∷ []) 0) 100
     ≡ Some (codes "-- no races\n")
 unfolding races_in
 phases_are_joined = refl

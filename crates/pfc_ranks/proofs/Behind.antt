@@ -31,7 +31,8 @@ behind-at sorted delays delay place h parts lt here = record {
   found = mine;
   own = own;
   there = same-object mine.object delay.object (passes-at (λ p other. other.object == delay.object) sorted delays place mine true own here);
-  behind = turned-false (is_before delay mine) (passes-at (λ p other. not (is_before delay other)) sorted delays place mine false own (parts.behind place 0 (omega arith) lt));
+  behind = turned-false (is_before delay mine) (passes-at (λ p other. not (is_before delay other)) sorted delays place mine false own
+      (parts.behind place 0 (omega arith) lt));
   least = λ q other is at_it after. no_earlier q other is after;
 }
   where
@@ -44,7 +45,8 @@ behind-at sorted delays delay place h parts lt here = record {
     no_earlier : (q : ℕ) (other : Delay) → delay_at delays q ≡ Some other → is_before delay other ≡ true → is_before other mine ≡ false
     no_earlier q other is after =
         not-true (is_before other mine)
-        (λ earlier. go earlier (stands-behind comes_first (λ p d. not (is_before delay d)) sorted delays place h parts q other is (turned (is_before delay other) after)))
+        (λ earlier. go earlier (stands-behind comes_first (λ p d. not (is_before delay d)) sorted delays place h parts q other is
+        (turned (is_before delay other) after)))
       where
         go : is_before other mine ≡ true → (i : ℕ) × ((place ≤ i) × IsPlace sorted q i) → ⊥
         go earlier found =
@@ -52,10 +54,13 @@ behind-at sorted delays delay place h parts lt here = record {
             let theirs : delay_at delays (process_at sorted found.0) ≡ Some other = ap (λ n. delay_at delays n) found.1.1.is ∙ is in
             elim (cases_eq place found.0) [
               | inl same ↦
-                  let e : mine ≡ other = same-key (delay_at delays (process_at sorted found.0)) mine other (ap (λ n. delay_at delays (process_at sorted n)) (sym same) ∙ own) theirs in
+                  let e : mine ≡ other =
+                  same-key (delay_at delays (process_at sorted found.0)) mine other (ap (λ n. delay_at delays (process_at sorted n)) (sym same) ∙
+                  own) theirs in
                   not-itself ⊥ other mine (sym e) earlier
               | inr apart ↦
-                  not-itself ⊥ mine mine refl (before-trans mine other mine (h.rising place found.0 mine other (omega (arith, ge, apart)) found.1.1.within own theirs) earlier)
+                  not-itself ⊥ mine mine refl
+                  (before-trans mine other mine (h.rising place found.0 mine other (omega (arith, ge, apart)) found.1.1.within own theirs) earlier)
             ]
 
 -- where those behind the delay would begin, nobody stands, or somebody at another object
@@ -74,12 +79,14 @@ nobody-behind sorted delays delay place h parts none p other own at_it =
         let mine : delay_at delays (process_at sorted place) ≡ Some (h.each place lt).0 = (h.each place lt).1 in
         let theirs : delay_at delays (process_at sorted found.0) ≡ Some other = ap (λ n. delay_at delays n) found.1.1.is ∙ own in
         let away : (h.each place lt).0.object ≢ delay.object =
-        other-object (h.each place lt).0.object delay.object (passes-at (λ q d. d.object == delay.object) sorted delays place (h.each place lt).0 false mine (none lt)) in
+        other-object (h.each place lt).0.object delay.object (passes-at (λ q d. d.object == delay.object) sorted delays place
+        (h.each place lt).0 false mine (none lt)) in
         elim (cases_eq place found.0) [
           | inl here ↦
               away
               (ap (λ d. d.object)
-              (same-key (delay_at delays (process_at sorted found.0)) (h.each place lt).0 other (ap (λ n. delay_at delays (process_at sorted n)) (sym here) ∙ mine) theirs)
+              (same-key (delay_at delays (process_at sorted found.0)) (h.each place lt).0 other (ap (λ n. delay_at delays (process_at sorted n)) (sym here) ∙
+              mine) theirs)
               ∙ at_it)
           | inr apart ↦
               let from : delay.object ≤ (h.each place lt).0.object =

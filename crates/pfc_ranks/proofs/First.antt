@@ -51,7 +51,8 @@ first-at sorted delays object place h parts lt here = record {
         → (mine.rank ≤ℤ other.rank) × (other.rank ≡ mine.rank → mine.ticket ≤ other.ticket)
     no_later other i ge room is at_it = elim (cases_eq place i) [
       | inl same ↦
-          let e : mine ≡ other = same-key (delay_at delays (process_at sorted i)) mine other (ap (λ n. delay_at delays (process_at sorted n)) (sym same) ∙ own) is in
+          let e : mine ≡ other =
+          same-key (delay_at delays (process_at sorted i)) mine other (ap (λ n. delay_at delays (process_at sorted n)) (sym same) ∙ own) is in
           (level_rank mine.rank other.rank (ap (λ v. v.rank) e), λ k. let t : mine.ticket ≡ other.ticket = ap (λ v. v.ticket) e in omega (arith, t))
       | inr apart ↦
           let rises : is_before mine other ≡ true = h.rising place i mine other (omega (arith, ge, apart)) room own is in
@@ -86,11 +87,13 @@ nobody-at sorted delays object place h parts none p delay own at_it =
           | inl here ↦
               away
               (ap (λ d. d.object)
-              (same-key (delay_at delays (process_at sorted found.0)) (h.each place lt).0 delay (ap (λ n. delay_at delays (process_at sorted n)) (sym here) ∙ mine) theirs)
+              (same-key (delay_at delays (process_at sorted found.0)) (h.each place lt).0 delay (ap (λ n. delay_at delays (process_at sorted n)) (sym here) ∙
+              mine) theirs)
               ∙ at_it)
           | inr apart ↦
               let above : object ≤ (h.each place lt).0.object =
-              above-is (h.each place lt).0.object object (passes-at (λ q d. nat_lt d.object object) sorted delays place (h.each place lt).0 false mine (parts.behind place 0 (omega arith) lt)) in
+              above-is (h.each place lt).0.object object (passes-at (λ q d. nat_lt d.object object) sorted delays place (h.each place lt).0 false mine
+              (parts.behind place 0 (omega arith) lt)) in
               let low : (h.each place lt).0.object ≤ delay.object =
               before-low (h.each place lt).0 delay (h.rising place found.0 (h.each place lt).0 delay (omega (arith, ge, apart)) room mine theirs) in
               omega (arith, away, above, low, at_it)

@@ -18,7 +18,8 @@ pub before-is : (a b : Delay) → is_before a b ≡ true → Before a b
 before-is a b h =
     go (nat_lt a.object b.object) (a.object == b.object) (int_lt a.rank b.rank) (int_eq a.rank b.rank) (nat_lt a.ticket b.ticket) refl refl refl refl refl h
   where
-    go : (x y z u v : Bool) → nat_lt a.object b.object ≡ x → (a.object == b.object) ≡ y → int_lt a.rank b.rank ≡ z → int_eq a.rank b.rank ≡ u → nat_lt a.ticket b.ticket ≡ v
+    go : (x y z u v : Bool) → nat_lt a.object b.object ≡ x → (a.object == b.object) ≡ y → int_lt a.rank b.rank ≡ z →
+        int_eq a.rank b.rank ≡ u → nat_lt a.ticket b.ticket ≡ v
         → (x || (y && (z || (u && v)))) ≡ true → Before a b
     go true y z u v e f g k l h = lower (grind (arith, nat_tests, e))
     go false true true u v e f g k l h = lesser (grind (arith, nat_tests, f)) g
@@ -47,7 +48,8 @@ third-made false false z u v e f g = cc
 
 pub before-made : (a b : Delay) → Before a b → is_before a b ≡ true
 before-made a b (lower lt) = first-made (nat_lt a.object b.object) _ (grind (arith, nat_tests, lt))
-before-made a b (lesser same less) = second-made (nat_lt a.object b.object) (a.object == b.object) (int_lt a.rank b.rank) _ (grind (arith, nat_tests, same)) less
+before-made a b (lesser same less) =
+    second-made (nat_lt a.object b.object) (a.object == b.object) (int_lt a.rank b.rank) _ (grind (arith, nat_tests, same)) less
 before-made a b (sooner same level lt) =
     third-made (nat_lt a.object b.object) (a.object == b.object) (int_lt a.rank b.rank) (int_eq a.rank b.rank) (nat_lt a.ticket b.ticket)
     (grind (arith, nat_tests, same)) (grind (arith, ints, level)) (grind (arith, nat_tests, lt))

@@ -33,4 +33,5 @@ pub record IsFirstBehind (delays : List (Option Delay)) (delay : Delay) (p : ℕ
   pub own : delay_at delays p ≡ Some found
   pub there : found.object ≡ delay.object
   pub behind : is_before delay found ≡ true
-  pub least : (q : ℕ) (other : Delay) → delay_at delays q ≡ Some other → other.object ≡ delay.object → is_before delay other ≡ true → is_before other found ≡ false
+  pub least : (q : ℕ) (other : Delay) → delay_at delays q ≡ Some other → other.object ≡ delay.object →
+      is_before delay other ≡ true → is_before other found ≡ false

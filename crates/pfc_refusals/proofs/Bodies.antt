@@ -34,7 +34,8 @@ mutual
   part_worded s in_process i n outer next (resource m) = module_worded s i n outer next m
   part_worded s in_process i n outer next (process_part q) = process_worded s i n outer next q
 
-  parts_worded : (s : State) (in_process : Bool) (i n : ℕ) (outer : List Level) (next : ℕ) (qs : PartTrees) → Worded (broken_parts s in_process i n outer next qs)
+  parts_worded : (s : State) (in_process : Bool) (i n : ℕ) (outer : List Level) (next : ℕ) (qs : PartTrees) →
+      Worded (broken_parts s in_process i n outer next qs)
   parts_worded s in_process i n outer next no_parts = no_rule
   parts_worded s in_process i n outer next (more_parts q qs) =
       part_worded s in_process i n outer next q

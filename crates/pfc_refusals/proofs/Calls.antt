@@ -120,7 +120,9 @@ field_worded env (Some n) t x p args = entry_worded env n x args
 field_worded env None None x p args = broken_rule _ _ refl & unasked_worded env args
 field_worded env None (Some t) x p args = by (process_form (form_of env.state.forms t))
   where
-    by : (n : Option ℕ) → Worded ((elim n as (λ o. Place → ActualTrees → Faults) [ None ↦ λ q rest. unless false q 422 ⨾ unasked env rest | Some k ↦ λ q rest. activate env k q rest ]) p args)
+    by : (n : Option ℕ) →
+        Worded ((elim n as (λ o. Place → ActualTrees →
+        Faults) [ None ↦ λ q rest. unless false q 422 ⨾ unasked env rest | Some k ↦ λ q rest. activate env k q rest ]) p args)
     by None = broken_rule _ _ refl & unasked_worded env args
     by (Some n) = activate_worded env n p args
 
@@ -131,7 +133,8 @@ part_worded env (Some t) x p args =
 
 -- ## The whole
 
-selected_worded : (env : Env) (t : TypeId) (ss : SelectorTrees) (x : Option (Text × Place)) (p : Place) (args : ActualTrees) → Worded (call_selected env t ss x p args)
+selected_worded : (env : Env) (t : TypeId) (ss : SelectorTrees) (x : Option (Text × Place)) (p : Place) (args : ActualTrees) →
+    Worded (call_selected env t ss x p args)
 selected_worded env t ss None p args = selectors_worded env (Some t) ss & variable_worded env (selected env (Some t) ss) p args
 selected_worded env t ss (Some x) p args =
     selectors_worded env (Some t) (before_last ss) & part_worded env (selected env (Some t) (before_last ss)) x p args
@@ -139,11 +142,13 @@ selected_worded env t ss (Some x) p args =
 unselected_worded : (env : Env) (ss : SelectorTrees) (p : Place) (args : ActualTrees) → Worded (unselected env ss p args)
 unselected_worded env ss p args = broken_rule _ _ refl & selectors_worded env None ss & unasked_worded env args
 
-in_module_worded : (env : Env) (n : ℕ) (x : Option (Text × Place)) (ss : SelectorTrees) (p : Place) (args : ActualTrees) → Worded (call_in_module env n x ss p args)
+in_module_worded : (env : Env) (n : ℕ) (x : Option (Text × Place)) (ss : SelectorTrees) (p : Place) (args : ActualTrees) →
+    Worded (call_in_module env n x ss p args)
 in_module_worded env n None ss p args = unselected_worded env ss p args
 in_module_worded env n (Some x) ss p args = module_worded env n x args
 
-in_process_worded : (env : Env) (n : ℕ) (x : Option (Text × Place)) (ss : SelectorTrees) (p : Place) (args : ActualTrees) → Worded (call_in_process env n x ss p args)
+in_process_worded : (env : Env) (n : ℕ) (x : Option (Text × Place)) (ss : SelectorTrees) (p : Place) (args : ActualTrees) →
+    Worded (call_in_process env n x ss p args)
 in_process_worded env n None ss p args = unselected_worded env ss p args
 in_process_worded env n (Some x) ss p args = entry_worded env n x args
 
@@ -168,7 +173,8 @@ call_worded env (desig x (more_selectors s ss) p) args = part_of_worded env (mea
 requeue_asked_worded : (env : Env) (ending : ℕ) (formals : List Formal) (p : Place) (args : ActualTrees) → Worded (requeue_asked env ending formals p args)
 requeue_asked_worded env ending formals p args = rule _ _ _ refl & actuals_worded env (Some ending) true (wants_for formals) args
 
-requeue_sub_worded : (env : Env) (ending : ℕ) (sort : SubSort) (formals : List Formal) (p : Place) (args : ActualTrees) → Worded (requeue_sub env ending sort formals p args)
+requeue_sub_worded : (env : Env) (ending : ℕ) (sort : SubSort) (formals : List Formal) (p : Place) (args : ActualTrees) →
+    Worded (requeue_sub env ending sort formals p args)
 requeue_sub_worded env ending Procedure formals p args = broken_rule _ _ refl & requeue_asked_worded env ending formals p args
 requeue_sub_worded env ending Guarded formals p args = requeue_asked_worded env ending formals p args
 requeue_sub_worded env ending (Function t) formals p args = broken_rule _ _ refl & unasked_worded env args

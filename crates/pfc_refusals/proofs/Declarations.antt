@@ -67,7 +67,8 @@ populated_noted s i more x m h =
 
 var_name_noted : (s : State) (i : ℕ) (t : Option TypeId) (x : Text × Place) → Noted s → Noted (var_name_state s i t x)
 var_name_noted s i t x h =
-    one_of (λ t. t) (is_some (meaning_in (scope_at s.blocks.scopes i) x.0)) (declare s i x Faulty) (populated s i (brought s.forms t) x (variable_meaning false t))
+    one_of (λ t. t) (is_some (meaning_in (scope_at s.blocks.scopes i) x.0)) (declare s i x Faulty)
+    (populated s i (brought s.forms t) x (variable_meaning false t))
     (declared i x Faulty h) (populated_noted s i (brought s.forms t) x (variable_meaning false t) h)
 
 var_names_noted : (s : State) (i : ℕ) (t : Option TypeId) (xs : List (Text × Place)) → Noted s → Noted (var_names_state s i t xs)
@@ -95,7 +96,8 @@ group_worded s view g =
     type_name_worded false (look s.blocks.scopes view g.form.0) g.form.1
     & parameter_worded g.reference s.forms (named_type false (look s.blocks.scopes view g.form.0)) g.form.1
 
-formals_noted : (i : ℕ) (reference : Bool) (t : Option TypeId) (h : Heading) (xs : List (Text × Place)) → Noted h.state → Noted (formals_heading i reference t h xs).state
+formals_noted : (i : ℕ) (reference : Bool) (t : Option TypeId) (h : Heading) (xs : List (Text × Place)) → Noted h.state →
+    Noted (formals_heading i reference t h xs).state
 formals_noted i reference t h [] k = k
 formals_noted i reference t h (x ∷ xs) k =
     formals_noted i reference t (formal_heading i reference t h x) xs (declared i x (variable_meaning reference t) k)
@@ -116,7 +118,8 @@ heading_noted s i outer gs h = groups_noted i outer (record { state = s; formals
 
 -- ## Entries
 
-entry_formals_noted : (reference : Bool) (t : Option TypeId) (h : EntryHeading) (xs : List (Text × Place)) → Noted h.state → Noted (entry_formals reference t h xs).state
+entry_formals_noted : (reference : Bool) (t : Option TypeId) (h : EntryHeading) (xs : List (Text × Place)) → Noted h.state →
+    Noted (entry_formals reference t h xs).state
 entry_formals_noted reference t h [] k = k
 entry_formals_noted reference t h (x ∷ xs) k = entry_formals_noted reference t (entry_formal reference t h x) xs (noted (rule _ _ _ refl) k)
 
@@ -155,7 +158,8 @@ opened_noted s h = record { all = h.all }
 with_sub_noted : (s : State) (head : SubHead) → Noted s → Noted (add_sub s head)
 with_sub_noted s head h = record { all = h.all }
 
-pub sub_headed_noted : (s : State) (i : ℕ) (outer : List Level) (x : Text × Place) (gs : List GroupTree) (kind : KindTree) → Noted s → Noted (sub_headed s i outer x gs kind)
+pub sub_headed_noted : (s : State) (i : ℕ) (outer : List Level) (x : Text × Place) (gs : List GroupTree) (kind : KindTree) →
+    Noted s → Noted (sub_headed s i outer x gs kind)
 sub_headed_noted s i outer x gs kind k =
     let own = length s.blocks.scopes in
     let around = here s.blocks.scopes i outer in
@@ -170,7 +174,10 @@ sub_headed_noted s i outer x gs kind k =
 -- ## Exports
 
 export_noted : (s : State) (m : Option Meaning) (p : Place) → Noted s → Noted (export_state s m p)
-export_noted s (Some (Sub n)) p h = one_of (λ t. t) (may_export (sub_at s.blocks n)) (export_sub s n) (note s (unless false p 409)) (record { all = h.all }) (noted (broken_rule _ _ refl) h)
+export_noted s (Some (Sub n)) p h = one_of (λ t. t) (may_export (sub_at s.blocks n)) (export_sub s n) (note s (unless false p 409)) (record {
+  all =
+      h.all;
+}) (noted (broken_rule _ _ refl) h)
 export_noted s (Some Faulty) p h = h
 export_noted s m p h = noted (broken_rule _ _ refl) h
 
@@ -199,7 +206,8 @@ process_named_noted s i false true x n h =
 with_process_noted : (s : State) (head : ProcessHead) → Noted s → Noted (add_process s head)
 with_process_noted s head h = record { all = h.all }
 
-pub process_headed_noted : (s : State) (i : ℕ) (outer : List Level) (many : Bool) (x : Text × Place) (gs : List GroupTree) → Noted s → Noted (process_headed s i outer many x gs)
+pub process_headed_noted : (s : State) (i : ℕ) (outer : List Level) (many : Bool) (x : Text × Place) (gs : List GroupTree) → Noted s →
+    Noted (process_headed s i outer many x gs)
 process_headed_noted s i outer many x gs k =
     let own = length s.blocks.scopes in
     let around = here s.blocks.scopes i outer in

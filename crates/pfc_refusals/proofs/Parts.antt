@@ -121,7 +121,8 @@ mutual
 with_module_noted : (s : State) (head : ModuleHead) → Noted s → Noted (add_module s head)
 with_module_noted s head h = record { all = h.all }
 
-module_closed_noted : (is_resource : Bool) (s : State) (i own : ℕ) (x : Text × Place) (exports : List (List (Text × Place))) → Noted s → Noted (module_closed is_resource s i own x exports)
+module_closed_noted : (is_resource : Bool) (s : State) (i own : ℕ) (x : Text × Place) (exports : List (List (Text × Place))) → Noted s →
+    Noted (module_closed is_resource s i own x exports)
 module_closed_noted is_resource s i own x exports h =
     declared i x (Module (length s.blocks.modules))
     (with_module_noted (exports_state s own exports) (record { scope = own; resource = is_resource }) (exports_noted s own exports h))

@@ -27,7 +27,8 @@ pub labels_length : (c : Context) (a : ℕ) (ls : List Constant) → length (lab
 labels_length c a [] = refl
 labels_length c a (l ∷ ls) = ap suc (labels_length c a ls)
 
-tests_step : (c : Context) (at n : ℕ) (a : ArmTree) (arms : ArmTrees) → ((to k : ℕ) → length (tests_code c to k arms) ≡ label_count arms) → length (tests_code c at n (more_arms a arms)) ≡ label_count (more_arms a arms)
+tests_step : (c : Context) (at n : ℕ) (a : ArmTree) (arms : ArmTrees) → ((to k : ℕ) → length (tests_code c to k arms) ≡ label_count arms) →
+    length (tests_code c at n (more_arms a arms)) ≡ label_count (more_arms a arms)
 tests_step c at n (arm ls s) arms on =
     let rest = tests_code c (at + length (stmt_code c.env at n s) + 1) (n + length (strings_in c.env s)) arms in
     let others : length rest ≡ label_count arms = on _ _ in
@@ -38,7 +39,8 @@ pub tests_length : (c : Context) (at n : ℕ) (arms : ArmTrees) → length (test
 tests_length c at n no_arms = refl
 tests_length c at n (more_arms a arms) = tests_step c at n a arms (λ to k. tests_length c to k arms)
 
-arms_step : (c : Context) (at n y : ℕ) (a : ArmTree) (arms : ArmTrees) → ((to k : ℕ) → length (arms_code c to k y arms) ≡ arms_size c to k arms) → length (arms_code c at n y (more_arms a arms)) ≡ arms_size c at n (more_arms a arms)
+arms_step : (c : Context) (at n y : ℕ) (a : ArmTree) (arms : ArmTrees) → ((to k : ℕ) → length (arms_code c to k y arms) ≡ arms_size c to k arms) →
+    length (arms_code c at n y (more_arms a arms)) ≡ arms_size c at n (more_arms a arms)
 arms_step c at n y (arm ls s) arms on =
     let inner = stmt_code c.env at n s in
     let k = n + length (strings_in c.env s) in
@@ -64,7 +66,8 @@ module _ (g : Program) (line : ℕ) where
   -- one label
   label_follows :
       (l : Constant) (ls : List Constant) (v : ℤ) (o : Ordinal) (a at : ℕ) (ops : List ℤ) (so otherwise : Next)
-      → constant_value g.env.state.blocks.scopes g.env.view l ≡ Some o → suc (length ops) ≤ g.room → IsAt g at (CEQ (label_of (constant_value g.env.state.blocks.scopes g.env.view l)) a) line → at < a
+      → constant_value g.env.state.blocks.scopes g.env.view l ≡ Some o → suc (length ops) ≤ g.room →
+      IsAt g at (CEQ (label_of (constant_value g.env.state.blocks.scopes g.env.view l)) a) line → at < a
       → Follows g so a ops → Follows g (if are_labels g.env v ls then so else otherwise) (at + 1) (v ∷ ops)
       → Follows g (if are_labels g.env v (l ∷ ls) then so else otherwise) at (v ∷ ops)
   label_follows l ls v o a at ops so otherwise value room is up on rest = by (is_label g.env v l) refl
@@ -76,10 +79,12 @@ module _ (g : Program) (line : ℕ) where
       by true e =
           let n = label_of (constant_value g.env.state.blocks.scopes g.env.view l) in
           let below : length ops ≤ g.room = omega arith in
-          move g at (v ∷ ops) (CEQ n a) line a ops is (fits (CEQ n a) (v ∷ ops) (omega arith) tt) (ap (λ (b : Bool). if b then quiet a ops else quiet (at + 1) (v ∷ ops)) (sym same ∙ e)) up below on
+          move g at (v ∷ ops) (CEQ n a) line a ops is (fits (CEQ n a) (v ∷ ops) (omega arith) tt) (ap (λ (b : Bool). if b then
+          quiet a ops else quiet (at + 1) (v ∷ ops)) (sym same ∙ e)) up below on
       by false e =
           let n = label_of (constant_value g.env.state.blocks.scopes g.env.view l) in
-          next_move g at (v ∷ ops) (CEQ n a) line (v ∷ ops) is (fits (CEQ n a) (v ∷ ops) (omega arith) tt) (ap (λ (b : Bool). if b then quiet a ops else quiet (at + 1) (v ∷ ops)) (sym same ∙ e)) room rest
+          next_move g at (v ∷ ops) (CEQ n a) line (v ∷ ops) is (fits (CEQ n a) (v ∷ ops) (omega arith) tt) (ap (λ (b : Bool). if b then
+          quiet a ops else quiet (at + 1) (v ∷ ops)) (sym same ∙ e)) room rest
 
   pub labels_follow :
       (ls : List Constant) (v : ℤ) (a at held : ℕ) (ops : List ℤ) (so otherwise : Next)
@@ -93,4 +98,5 @@ module _ (g : Program) (line : ℕ) where
       let from : at + 1 + length ls ≤ a = omega arith in
       let to : at + length (labels_code c a (l ∷ ls)) ≡ at + 1 + length (labels_code c a ls) = omega arith in
       label_follows l ls v values.0.0 a at ops so otherwise values.0.1 room (head g (CEQ label a) line (labels_code c a ls) st) (omega arith) on
-      (labels_follow ls v a (at + 1) held ops so otherwise values.1 room behind from on (follows_moved g (at + length (labels_code c a (l ∷ ls))) (at + 1 + length (labels_code c a ls)) to off))
+      (labels_follow ls v a (at + 1) held ops so otherwise values.1 room behind from on (follows_moved g (at + length (labels_code c a (l ∷ ls)))
+      (at + 1 + length (labels_code c a ls)) to off))

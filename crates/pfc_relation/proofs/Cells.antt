@@ -28,7 +28,8 @@ record Variables (forms : Forms) (names : Names) (values : List Value) (cells : 
   becomes : (new : Value) → IsOf forms t new → AreCells forms names (set values k new) (before ++ (words_of new ++ after))
 
 -- the cells before a name are those of the first name and those between
-cells_next : (forms : Forms) (x : Text × Meaning) (names : Names) (k : ℕ) → cells_before forms (x ∷ names) (suc k) ≡ name_cells forms x.1 + cells_before forms names k
+cells_next : (forms : Forms) (x : Text × Meaning) (names : Names) (k : ℕ) →
+    cells_before forms (x ∷ names) (suc k) ≡ name_cells forms x.1 + cells_before forms names k
 cells_next forms x names k = sum_by-cons (λ (y : Text × Meaning). name_cells forms y.1) x (take k names)
 
 module _ (forms : Forms) (sound : IsSound forms) where
@@ -76,8 +77,16 @@ module _ (forms : Forms) (sound : IsSound forms) where
         after = in_rest.after;
         place = length-append h.0 in_rest.before ∙ ap₂ (λ a b. a + b) (named_length x.1 v h.0 h.3) in_rest.place ∙ sym (cells_next forms x names k);
         is = in_rest.is;
-        reads = h.2 ∙ ap (λ ws. h.0 ++ ws) in_rest.reads ∙ sym (append_assoc h.0 in_rest.before (words_of (get_or values k (ordinal (pos 0))) ++ in_rest.after));
-        becomes = λ new n. (h.0, in_rest.before ++ (words_of new ++ in_rest.after), append_assoc h.0 in_rest.before (words_of new ++ in_rest.after), h.3, in_rest.becomes new n);
+        reads = h.2 ∙ ap (λ ws. h.0 ++ ws) in_rest.reads ∙
+            sym (append_assoc h.0 in_rest.before (words_of (get_or values k (ordinal (pos 0))) ++ in_rest.after));
+        becomes = λ new n. (
+          h.0,
+          in_rest.before ++ (words_of new ++ in_rest.after),
+          append_assoc h.0 in_rest.before
+              (words_of new ++ in_rest.after),
+          h.3,
+          in_rest.becomes new n,
+        );
       }
 
 -- ## One location
@@ -102,7 +111,8 @@ module _ (forms : Forms) (sound : IsSound forms) where
         after = w.after ++ h.after;
         place = length-append h.before w.before ∙ ap₂ (λ a b. a + b) h.place w.place;
         is = w.is;
-        reads = h.reads ∙ ap (λ ws. h.before ++ (ws ++ h.after)) w.reads ∙ nested h.before w.before (words_of (part path (get_or values k (ordinal (pos 0))))) w.after h.after;
+        reads = h.reads ∙ ap (λ ws. h.before ++ (ws ++ h.after)) w.reads ∙
+            nested h.before w.before (words_of (part path (get_or values k (ordinal (pos 0))))) w.after h.after;
         becomes = λ new n.
             subst (λ ws. AreCells forms names (set values k (with_part path (get_or values k (ordinal (pos 0))) new)) ws)
             (ap (λ ws. h.before ++ (ws ++ h.after)) (w.writes new) ∙ nested h.before w.before (words_of new) w.after h.after)
@@ -116,22 +126,29 @@ module _ (forms : Forms) (sound : IsSound forms) where
   located names values rest cells l u cell h lies =
       let v = variable_among forms sound names values cells l.variable lies.name lies.t h lies.declared in
       subst (λ n. Located forms names values rest cells l u n) (sym lies.cell_is)
-      (subst (λ a. Located forms names values rest cells (record { activation = a; variable = l.variable; path = l.path }) u (cells_before forms names l.variable + lies.behind)) (sym lies.main)
-      (located_first names values rest cells l.variable l.path lies.t u lies.behind v (around forms sound lies.path (get_or values l.variable (ordinal (pos 0))) v.is)))
+      (subst (λ a. Located forms names values rest cells (record { activation = a; variable = l.variable; path = l.path }) u
+      (cells_before forms names l.variable + lies.behind)) (sym lies.main)
+      (located_first names values rest cells l.variable l.path lies.t u lies.behind v
+      (around forms sound lies.path (get_or values l.variable (ordinal (pos 0))) v.is)))
 
 -- ## Reading and writing
 
 -- a write to one of main's variables changes main's values alone
-pub stored_first : (values : List Value) (rest : Store) (l : Location) (new : Value) → l.activation ≡ 0 → stored (values ∷ rest) l new ≡ variables (stored (values ∷ rest) l new) 0 ∷ rest
-stored_first values rest l new main = subst (λ a. (let m : Location = record { activation = a; variable = l.variable; path = l.path } in stored (values ∷ rest) m new ≡ variables (stored (values ∷ rest) m new) 0 ∷ rest)) (sym main) refl
+pub stored_first : (values : List Value) (rest : Store) (l : Location) (new : Value) → l.activation ≡ 0 →
+    stored (values ∷ rest) l new ≡ variables (stored (values ∷ rest) l new) 0 ∷ rest
+stored_first values rest l new main =
+    subst (λ a. (let m : Location = record { activation = a; variable = l.variable; path = l.path } in stored (values ∷ rest) m new ≡ variables
+    (stored (values ∷ rest) m new) 0 ∷ rest)) (sym main) refl
 
-module _ (forms : Forms) (sound : IsSound forms) (names : Names) (values : List Value) (rest : Store) (cells : List ℤ) (held : AreCells forms names values cells) where
+module _ (forms : Forms) (sound : IsSound forms) (names : Names) (values : List Value) (rest : Store) (cells : List ℤ)
+    (held : AreCells forms names values cells) where
   -- the value at a location is of its type
   pub read_is : (l : Location) (u : TypeId) (cell : ℕ) → LiesAt forms names l u cell → IsOf forms u (value_at (values ∷ rest) l)
   read_is l u cell lies = (located forms sound names values rest cells l u cell held lies).is
 
   -- its words are in the cells from its place on
-  pub read_words : (l : Location) (u : TypeId) (cell : ℕ) → LiesAt forms names l u cell → take (cells_in forms u) (drop cell cells) ≡ words_of (value_at (values ∷ rest) l)
+  pub read_words : (l : Location) (u : TypeId) (cell : ℕ) → LiesAt forms names l u cell →
+      take (cells_in forms u) (drop cell cells) ≡ words_of (value_at (values ∷ rest) l)
   read_words l u cell lies =
       let h = located forms sound names values rest cells l u cell held lies in
       middle_read h.before (words_of (value_at (values ∷ rest) l)) h.after cells cell (cells_in forms u) h.place (words_length forms sound h.is) h.reads
@@ -149,5 +166,6 @@ module _ (forms : Forms) (sound : IsSound forms) (names : Names) (values : List 
   write_cells l u cell new lies n =
       let h = located forms sound names values rest cells l u cell held lies in
       subst (λ ws. AreCells forms names (variables (stored (values ∷ rest) l new) 0) ws)
-      (over_written h.before (words_of (value_at (values ∷ rest) l)) h.after (words_of new) cells cell h.place (words_length forms sound n ∙ sym (words_length forms sound h.is)) h.reads)
+      (over_written h.before (words_of (value_at (values ∷ rest) l)) h.after (words_of new) cells cell h.place (words_length forms sound n ∙
+      sym (words_length forms sound h.is)) h.reads)
       (h.becomes new n)

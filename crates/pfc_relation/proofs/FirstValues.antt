@@ -29,7 +29,8 @@ use Rattle.pfc_relation.proofs.Words.{words_length}
 pub initial_number : (forms : Forms) (t : TypeId) → form_of forms t ≡ None → initial forms t ≡ ordinal (pos 0)
 initial_number forms t e = built_none Value first_next forms t.place (ordinal (pos 0)) (λ (v : Value). v ≡ ordinal (pos 0)) e (λ before. refl) refl
 
-part_first : (forms : Forms) (t : TypeId) (form : TypeForm) (u : TypeId) → form_of forms t ≡ Some form → u.place < t.place → first_of (all_first (take t.place forms)) u ≡ initial forms u
+part_first : (forms : Forms) (t : TypeId) (form : TypeForm) (u : TypeId) → form_of forms t ≡ Some form → u.place < t.place →
+    first_of (all_first (take t.place forms)) u ≡ initial forms u
 part_first forms t form u e below = built_part Value first_next forms t form u (ordinal (pos 0)) e below
 
 -- of an array: that of its elements, as often as there are some
@@ -40,14 +41,18 @@ initial_array forms t over element low high e below =
     built_form Value first_next forms t (Array over low high element) (ordinal (pos 0)) e
     ∙ ap (λ (v : Value). compound (copies (extent low high) v)) (part_first forms t (Array over low high element) element e below)
 
-fields_first : (forms : Forms) (t : TypeId) (form : TypeForm) (fields : FieldList) → form_of forms t ≡ Some form → AreBefore t.place fields → first_fields (all_first (take t.place forms)) fields ≡ first_fields (all_first forms) fields
+fields_first : (forms : Forms) (t : TypeId) (form : TypeForm) (fields : FieldList) → form_of forms t ≡ Some form → AreBefore t.place fields →
+    first_fields (all_first (take t.place forms)) fields ≡ first_fields (all_first forms) fields
 fields_first forms t form [] e below = refl
-fields_first forms t form (f ∷ fields) e below = ap₂ (λ v vs. more_values v vs) (part_first forms t form f.1 e below.0) (fields_first forms t form fields e below.1)
+fields_first forms t form (f ∷ fields) e below = ap₂ (λ v vs. more_values v vs) (part_first forms t form f.1 e below.0)
+    (fields_first forms t form fields e below.1)
 
 -- of a record: those of its fields
-pub initial_record : (forms : Forms) (t : TypeId) (fields : FieldList) → form_of forms t ≡ Some (Record fields) → AreBefore t.place fields → initial forms t ≡ compound (first_fields (all_first forms) fields)
+pub initial_record : (forms : Forms) (t : TypeId) (fields : FieldList) → form_of forms t ≡ Some (Record fields) → AreBefore t.place fields →
+    initial forms t ≡ compound (first_fields (all_first forms) fields)
 initial_record forms t fields e below =
-    built_form Value first_next forms t (Record fields) (ordinal (pos 0)) e ∙ ap (λ (vs : Values). compound vs) (fields_first forms t (Record fields) fields e below)
+    built_form Value first_next forms t (Record fields) (ordinal (pos 0)) e ∙
+    ap (λ (vs : Values). compound vs) (fields_first forms t (Record fields) fields e below)
 
 -- ## Zero words
 
@@ -89,7 +94,8 @@ module _ (forms : Forms) (built : IsBuiltUp forms) where
         let h = initial_first plain in
         subst (λ v. IsFirst forms t v) (sym (initial_array forms t over element low high e (built.behind t (Array over low high element) e)))
         (record {
-          is = is_array t over element low high (copies (extent low high) (initial forms element)) e (are_copies forms (extent low high) element (initial forms element) h.is);
+          is = is_array t over element low high (copies (extent low high) (initial forms element)) e
+              (are_copies forms (extent low high) element (initial forms element) h.is);
           zero = zero_copies (extent low high) (initial forms element) h.zero;
         })
     initial_first (plain_record t fields e plain) =
@@ -124,7 +130,8 @@ module _ (forms : Forms) (built : IsBuiltUp forms) where
   start_cells (x ∷ names) h = (
     replicate (name_cells forms x.1) (pos 0),
     replicate (scope_cells forms names) (pos 0),
-    ap (λ n. replicate n (pos 0)) (sum_by-cons (λ (y : Text × Meaning). name_cells forms y.1) x names) ∙ sym (replicate-append-replicate (name_cells forms x.1) (scope_cells forms names) (pos 0)),
+    ap (λ n. replicate n (pos 0)) (sum_by-cons (λ (y : Text × Meaning). name_cells forms y.1) x names) ∙
+        sym (replicate-append-replicate (name_cells forms x.1) (scope_cells forms names) (pos 0)),
     named_first x.1 h.0,
     start_cells names h.1,
   )

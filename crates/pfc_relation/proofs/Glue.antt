@@ -70,7 +70,8 @@ module _ (g : Program) where
       record { has = has_back at xs ys h.has; room = subst (λ n. most_operands n (instructions ys) ≤ g.room) e most }
 
   -- behind one instruction
-  pub tail : {at held : ℕ} (i : Instr) (line : ℕ) (code : Code) (after : ℕ) → held_behind held i ≡ after → Stands g at held ((i, line) ∷ code) → Stands g (at + 1) after code
+  pub tail : {at held : ℕ} (i : Instr) (line : ℕ) (code : Code) (after : ℕ) → held_behind held i ≡ after →
+      Stands g at held ((i, line) ∷ code) → Stands g (at + 1) after code
   tail {at} {held} i line code after e h =
       let most : most_operands (held_behind held i) (instructions code) ≤ g.room = (let room = h.room in omega arith) in
       record { has = h.has.1; room = subst (λ n. most_operands n (instructions code) ≤ g.room) e most }

@@ -71,7 +71,8 @@ index_held forms (Some (Record fields)) held = omega arith
 index_held forms (Some (AProcess n)) held = omega arith
 
 -- what a function leaves behind its argument
-pub function_held : (c : Context) (f : Function) (t : Option TypeId) (argument : Code) (held : ℕ) → held_after held argument ≡ suc held → held_after held (call_code c f t argument) ≡ suc held
+pub function_held : (c : Context) (f : Function) (t : Option TypeId) (argument : Code) (held : ℕ) → held_after held argument ≡ suc held →
+    held_after held (call_code c f t argument) ≡ suc held
 function_held c eof t argument held h = omega arith
 function_held c eoln t argument held h = omega arith
 function_held c abs t argument held h = held_both held (suc held) argument _ h ∙ omega arith
@@ -93,7 +94,8 @@ one_cell forms None sound h = refl
 one_cell forms (Some t) sound h = sound.simple_cells t h
 
 name_held :
-    (c : Context) → IsSound c.env.state.forms → (d : ℕ) (m : Option Meaning) (first : Option TypeId) (ss : SelectorTrees) (selectors argument : Code) (S A : Type 0) (held : ℕ)
+    (c : Context) → IsSound c.env.state.forms → (d : ℕ) (m : Option Meaning) (first : Option TypeId) (ss : SelectorTrees)
+    (selectors argument : Code) (S A : Type 0) (held : ℕ)
     → IsNumericUse c.env.state.forms m ss S A → (S → held_after (suc held) selectors ≡ suc held) → (A → held_after held argument ≡ suc held)
     → held_after held (name_code c d m first ss selectors argument) ≡ suc held
 name_held c sound d None first ss selectors argument S A held n s a = omega arith
@@ -165,7 +167,8 @@ module _ (c : Context) (sound : IsSound c.env.state.forms) where
     held_argument (more_actuals (actual e) rest) held n = held_expr e held n
     held_argument (more_actuals (actual_width e width) rest) held n = held_expr e held n
 
-    pub held_selectors : (ss : SelectorTrees) (t : Option TypeId) (held : ℕ) → AreSelectors c.env t ss → held_after (suc held) (selectors_code c t ss) ≡ suc held
+    pub held_selectors : (ss : SelectorTrees) (t : Option TypeId) (held : ℕ) → AreSelectors c.env t ss →
+        held_after (suc held) (selectors_code c t ss) ≡ suc held
     held_selectors no_selectors t held n = refl
     held_selectors (more_selectors (index es p) ss) t held n =
         held_both (suc held) (suc held) (indices_code c t es) (selectors_code c (type_behind c.env.state.forms t es) ss) (held_indices es t held n.0)
@@ -178,6 +181,7 @@ module _ (c : Context) (sound : IsSound c.env.state.forms) where
     pub held_indices : (es : ExprTrees) (t : Option TypeId) (held : ℕ) → AreIndices c.env t es → held_after (suc held) (indices_code c t es) ≡ suc held
     held_indices no_exprs t held n = refl
     held_indices (more_exprs e es) t held n =
-        held_both (suc held) (suc (suc held)) (expr_code c e) (one c (index_instr c.env.state.forms (form_in c.env.state.forms t)) ++ indices_code c (element_type c.env.state.forms t) es) (held_expr e (suc held) n.1)
+        held_both (suc held) (suc (suc held)) (expr_code c e) (one c (index_instr c.env.state.forms (form_in c.env.state.forms t)) ++ indices_code c
+        (element_type c.env.state.forms t) es) (held_expr e (suc held) n.1)
         ∙ ap (λ k. held_after k (indices_code c (element_type c.env.state.forms t) es)) (index_held c.env.state.forms (form_in c.env.state.forms t) held)
         ∙ held_indices es (element_type c.env.state.forms t) held n.2

@@ -80,27 +80,41 @@ assigned env d e (of_whole t source target value variable from) = by (is_simple 
     by true h = inl (record { t = t; target = target; value = value; simple = h })
     by false h = inr (record { t = t; source = source; target = target; value = value; whole = h; variable = variable; from = from })
 
-pub number_code : (c : Context) (d : DesigTree) (e : ExprTree) → IsSound c.env.state.forms → AssignsNumber c.env d e → assign_code c d e ≡ desig_code c d ++ (expr_code c e ++ one c (STORE 1))
+pub number_code : (c : Context) (d : DesigTree) (e : ExprTree) → IsSound c.env.state.forms → AssignsNumber c.env d e →
+    assign_code c d e ≡ desig_code c d ++ (expr_code c e ++ one c (STORE 1))
 number_code c d e sound a =
-    ap (λ (t : Option TypeId). if has_simple_type t then desig_code c d ++ (expr_code c e ++ one c (STORE (type_cells c.env.state.forms t))) else whole_code c (variable_in e) d (type_cells c.env.state.forms t)) a.value
-    ∙ ap (λ (b : Bool). if b then desig_code c d ++ (expr_code c e ++ one c (STORE (cells_in c.env.state.forms a.t))) else whole_code c (variable_in e) d (cells_in c.env.state.forms a.t)) a.simple
+    ap (λ (t : Option TypeId). if has_simple_type t then desig_code c d ++ (expr_code c e ++ one c (STORE (type_cells c.env.state.forms t))) else whole_code c
+    (variable_in e) d (type_cells c.env.state.forms t)) a.value
+    ∙ ap (λ (b : Bool). if b then desig_code c d ++ (expr_code c e ++ one c (STORE (cells_in c.env.state.forms a.t))) else whole_code c (variable_in e) d
+    (cells_in c.env.state.forms a.t)) a.simple
     ∙ ap (λ (z : ℕ). desig_code c d ++ (expr_code c e ++ one c (STORE z))) (sound.simple_cells a.t a.simple)
 
-pub copy_code : (c : Context) (d : DesigTree) (e : ExprTree) (a : AssignsWhole c.env d e) → assign_code c d e ≡ desig_code c d ++ (desig_code c a.source ++ (one c (LOAD (cells_in c.env.state.forms a.t)) ++ one c (STORE (cells_in c.env.state.forms a.t))))
+pub copy_code : (c : Context) (d : DesigTree) (e : ExprTree) (a : AssignsWhole c.env d e) →
+    assign_code c d e ≡ desig_code c d ++ (desig_code c a.source ++ (one c (LOAD (cells_in c.env.state.forms a.t)) ++ one c
+    (STORE (cells_in c.env.state.forms a.t))))
 copy_code c d e a =
-    ap (λ (t : Option TypeId). if has_simple_type t then desig_code c d ++ (expr_code c e ++ one c (STORE (type_cells c.env.state.forms t))) else whole_code c (variable_in e) d (type_cells c.env.state.forms t)) a.value
-    ∙ ap (λ (b : Bool). if b then desig_code c d ++ (expr_code c e ++ one c (STORE (cells_in c.env.state.forms a.t))) else whole_code c (variable_in e) d (cells_in c.env.state.forms a.t)) a.whole
+    ap (λ (t : Option TypeId). if has_simple_type t then desig_code c d ++ (expr_code c e ++ one c (STORE (type_cells c.env.state.forms t))) else whole_code c
+    (variable_in e) d (type_cells c.env.state.forms t)) a.value
+    ∙ ap (λ (b : Bool). if b then desig_code c d ++ (expr_code c e ++ one c (STORE (cells_in c.env.state.forms a.t))) else whole_code c (variable_in e) d
+    (cells_in c.env.state.forms a.t)) a.whole
     ∙ ap (λ (x : Option DesigTree). whole_code c x d (cells_in c.env.state.forms a.t)) a.variable
 
-pub from_number : (c : Context) (d : DesigTree) (e : ExprTree) (k : Rest) (go : Next) → AssignsNumber c.env d e → from_assign c d e k go ≡ from_desig c d (assign_to e k) (λ l. from_expr c e (store_at l k) (λ n. writes c.line l (ordinal n) k))
+pub from_number : (c : Context) (d : DesigTree) (e : ExprTree) (k : Rest) (go : Next) → AssignsNumber c.env d e →
+    from_assign c d e k go ≡ from_desig c d (assign_to e k) (λ l. from_expr c e (store_at l k) (λ n. writes c.line l (ordinal n) k))
 from_number c d e k go a =
-    ap (λ (t : Option TypeId). if has_simple_type t then from_desig c d (assign_to e k) (λ l. from_expr c e (store_at l k) (λ n. writes c.line l (ordinal n) k)) else from_copy c d (variable_in e) k go) a.value
-    ∙ ap (λ (b : Bool). if b then from_desig c d (assign_to e k) (λ l. from_expr c e (store_at l k) (λ n. writes c.line l (ordinal n) k)) else from_copy c d (variable_in e) k go) a.simple
+    ap (λ (t : Option TypeId). if has_simple_type t then
+    from_desig c d (assign_to e k) (λ l. from_expr c e (store_at l k) (λ n. writes c.line l (ordinal n) k)) else from_copy c d (variable_in e) k go) a.value
+    ∙ ap (λ (b : Bool). if b then
+    from_desig c d (assign_to e k) (λ l. from_expr c e (store_at l k) (λ n. writes c.line l (ordinal n) k)) else from_copy c d
+    (variable_in e) k go) a.simple
 
-pub from_whole : (c : Context) (d : DesigTree) (e : ExprTree) (k : Rest) (go : Next) (a : AssignsWhole c.env d e) → from_assign c d e k go ≡ from_desig c d (copy_to a.source k) (λ l. from_desig c a.source (copy_from l k) (λ m. copies_from c.line m l k))
+pub from_whole : (c : Context) (d : DesigTree) (e : ExprTree) (k : Rest) (go : Next) (a : AssignsWhole c.env d e) →
+    from_assign c d e k go ≡ from_desig c d (copy_to a.source k) (λ l. from_desig c a.source (copy_from l k) (λ m. copies_from c.line m l k))
 from_whole c d e k go a =
-    ap (λ (t : Option TypeId). if has_simple_type t then from_desig c d (assign_to e k) (λ l. from_expr c e (store_at l k) (λ n. writes c.line l (ordinal n) k)) else from_copy c d (variable_in e) k go) a.value
-    ∙ ap (λ (b : Bool). if b then from_desig c d (assign_to e k) (λ l. from_expr c e (store_at l k) (λ n. writes c.line l (ordinal n) k)) else from_copy c d (variable_in e) k go) a.whole
+    ap (λ (t : Option TypeId). if has_simple_type t then
+    from_desig c d (assign_to e k) (λ l. from_expr c e (store_at l k) (λ n. writes c.line l (ordinal n) k)) else from_copy c d (variable_in e) k go) a.value
+    ∙ ap (λ (b : Bool). if b then
+    from_desig c d (assign_to e k) (λ l. from_expr c e (store_at l k) (λ n. writes c.line l (ordinal n) k)) else from_copy c d (variable_in e) k go) a.whole
     ∙ ap (λ (x : Option DesigTree). from_copy c d x k go) a.variable
 
 -- ## Statements
@@ -109,12 +123,14 @@ module _ (g : Program) (checked : IsChecked g) where
   pub numeric_held : (line : ℕ) (e : ExprTree) (held : ℕ) → IsNumber g.env e → held_after held (expr_code (context g.env line) e) ≡ suc held
   numeric_held line e held n = held_expr (context g.env line) checked.sound e held (number_is_numeric g.env checked.outside checked.sound e n)
 
-  pub held_desig : (line : ℕ) (d : DesigTree) (t : TypeId) (held : ℕ) → desig_type g.env d ≡ Some t → held_after held (desig_code (context g.env line) d) ≡ suc held
+  pub held_desig : (line : ℕ) (d : DesigTree) (t : TypeId) (held : ℕ) → desig_type g.env d ≡ Some t →
+      held_after held (desig_code (context g.env line) d) ≡ suc held
   held_desig line (desig x ss p) t held e =
       let up : held - 0 + 1 ≡ suc held = omega arith in
       let c = context g.env line in
       let s = variable_type (meaning_of (find g.env x)) in
-      ap (λ (k : ℕ). held_after k (selectors_code c s ss)) up ∙ held_selectors c checked.sound ss s held (selectors_are g.env checked.outside checked.sound ss s t e).0
+      ap (λ (k : ℕ). held_after k (selectors_code c s ss)) up ∙
+      held_selectors c checked.sound ss s held (selectors_are g.env checked.outside checked.sound ss s t e).0
 
   held_assign : (line : ℕ) (d : DesigTree) (e : ExprTree) (held : ℕ) → IsAssignment g.env d e → held_after held (assign_code (context g.env line) d e) ≡ held
   held_assign line d e held a = by (assigned g.env d e a)
@@ -124,23 +140,32 @@ module _ (g : Program) (checked : IsChecked g) where
           let c = context g.env line in
           ap (λ (x : Code). held_after held x) (number_code c d e checked.sound number)
           ∙ held_both held (suc held) (desig_code c d) (expr_code c e ++ one c (STORE 1)) (held_desig line d number.t held number.target)
-          ∙ held_both (suc held) (suc (suc held)) (expr_code c e) (one c (STORE 1)) (numeric_held line e (suc held) (record { t = number.t; typed = number.value; simple = number.simple }))
+          ∙ held_both (suc held) (suc (suc held)) (expr_code c e) (one c (STORE 1)) (numeric_held line e (suc held) (record {
+            t = number.t;
+            typed =
+                number.value;
+            simple = number.simple;
+          }))
           ∙ omega arith
       by (inr whole) =
           let c = context g.env line in
           let z = cells_in g.env.state.forms whole.t in
           ap (λ (x : Code). held_after held x) (copy_code c d e whole)
-          ∙ held_both held (suc held) (desig_code c d) (desig_code c whole.source ++ (one c (LOAD z) ++ one c (STORE z))) (held_desig line d whole.t held whole.target)
-          ∙ held_both (suc held) (suc (suc held)) (desig_code c whole.source) (one c (LOAD z) ++ one c (STORE z)) (held_desig line whole.source whole.t (suc held) whole.from)
+          ∙ held_both held (suc held) (desig_code c d) (desig_code c whole.source ++ (one c (LOAD z) ++ one c (STORE z)))
+          (held_desig line d whole.t held whole.target)
+          ∙ held_both (suc held) (suc (suc held)) (desig_code c whole.source) (one c (LOAD z) ++ one c (STORE z))
+          (held_desig line whole.source whole.t (suc held) whole.from)
           ∙ omega arith
 
   plain_held : (line n : ℕ) (x : Option Text) (e : ExprTree) (held : ℕ) → IsItem g.env x e → held_after held (plain_item (context g.env line) n x e) ≡ held
   plain_held line n None e held i =
       let c = context g.env line in
-      held_both held (suc held) (expr_code c e) (one c (write_instr (simple_of (expr_type g.env e)) 0)) (numeric_held line e held i) ∙ write_held (simple_of (expr_type g.env e)) held
+      held_both held (suc held) (expr_code c e) (one c (write_instr (simple_of (expr_type g.env e)) 0)) (numeric_held line e held i) ∙
+      write_held (simple_of (expr_type g.env e)) held
   plain_held line n (Some x) e held i = omega arith
 
-  width_held : (line n : ℕ) (x : Option Text) (e w : ExprTree) (held : ℕ) → IsItem g.env x e → IsNumber g.env w → held_after held (wide_item (context g.env line) n x e w) ≡ held
+  width_held : (line n : ℕ) (x : Option Text) (e w : ExprTree) (held : ℕ) → IsItem g.env x e → IsNumber g.env w →
+      held_after held (wide_item (context g.env line) n x e w) ≡ held
   width_held line n None e w held i j =
       let c = context g.env line in
       held_both held (suc held) (expr_code c e) (expr_code c w ++ one c (write_instr (simple_of (expr_type g.env e)) 1)) (numeric_held line e held i)
@@ -154,22 +179,27 @@ module _ (g : Program) (checked : IsChecked g) where
   held_item line n (actual e) held i = plain_held line n (as_string e) e held i
   held_item line n (actual_width e w) held i = width_held line n (as_string e) e w held i.0 i.1
 
-  newline_held : (line : ℕ) (newline : Bool) (i : Instr) (held : ℕ) → held_behind held i ≡ held → held_after held (if newline then one (context g.env line) i else []) ≡ held
+  newline_held : (line : ℕ) (newline : Bool) (i : Instr) (held : ℕ) → held_behind held i ≡ held →
+      held_after held (if newline then one (context g.env line) i else []) ≡ held
   newline_held line true i held h = h
   newline_held line false i held h = refl
 
-  pub held_writes : (line n : ℕ) (args : ActualTrees) (newline : Bool) (held : ℕ) → AreWritten g.env args → held_after held (writes_code (context g.env line) n args newline) ≡ held
+  pub held_writes : (line n : ℕ) (args : ActualTrees) (newline : Bool) (held : ℕ) → AreWritten g.env args →
+      held_after held (writes_code (context g.env line) n args newline) ≡ held
   held_writes line n no_actuals newline held i = newline_held line newline WRNL held (omega arith)
   held_writes line n (more_actuals a rest) newline held i =
       let c = context g.env line in
-      held_both held held (item_code c n a) (writes_code c (n + string_count a) rest newline) (held_item line n a held i.0) ∙ held_writes line (n + string_count a) rest newline held i.1
+      held_both held held (item_code c n a) (writes_code c (n + string_count a) rest newline) (held_item line n a held i.0) ∙
+      held_writes line (n + string_count a) rest newline held i.1
 
   pub held_variable : (line : ℕ) (d : DesigTree) (held : ℕ) → IsSimpleDesig g.env d → held_after held (variable_code (context g.env line) (Some d)) ≡ held
   held_variable line d held i =
       let c = context g.env line in
-      held_both held (suc held) (desig_code c d) (one c (read_instr (simple_of (desig_type g.env d)))) (held_desig line d i.t held i.typed) ∙ read_held (simple_of (desig_type g.env d)) held
+      held_both held (suc held) (desig_code c d) (one c (read_instr (simple_of (desig_type g.env d)))) (held_desig line d i.t held i.typed) ∙
+      read_held (simple_of (desig_type g.env d)) held
 
-  pub held_reads : (line : ℕ) (args : ActualTrees) (skip : Bool) (held : ℕ) → AreRead g.env args → held_after held (reads_code (context g.env line) args skip) ≡ held
+  pub held_reads : (line : ℕ) (args : ActualTrees) (skip : Bool) (held : ℕ) → AreRead g.env args →
+      held_after held (reads_code (context g.env line) args skip) ≡ held
   held_reads line no_actuals skip held i = newline_held line skip RDNL held (omega arith)
   held_reads line (more_actuals a rest) skip held i =
       let c = context g.env line in
@@ -177,7 +207,8 @@ module _ (g : Program) (checked : IsChecked g) where
       held_both held held (variable_code c (as_desig (item_of a))) (reads_code c rest skip)
       (ap (λ (x : Option DesigTree). held_after held (variable_code c x)) is.1 ∙ held_variable line is.0 held is.2) ∙ held_reads line rest skip held i.1
 
-  held_call : (line n : ℕ) (p : Procedure) (args : ActualTrees) (held : ℕ) → IsCall g.env p args → held_after held (procedure_code (context g.env line) n p args) ≡ held
+  held_call : (line n : ℕ) (p : Procedure) (args : ActualTrees) (held : ℕ) → IsCall g.env p args →
+      held_after held (procedure_code (context g.env line) n p args) ≡ held
   held_call line n (reader skip) args held i = held_reads line args skip held i
   held_call line n (writer newline) args held i = held_writes line n args newline held i
   held_call line n no_procedure args held i = refl

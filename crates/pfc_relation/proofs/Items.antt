@@ -35,7 +35,8 @@ module _ (g : Program) where
 
   pub texts_back : (n : ℕ) (xs ys : List Text) → HasTexts g n (xs ++ ys) → HasTexts g (n + length xs) ys
   texts_back n [] ys h = let e : n ≡ n + 0 = omega arith in subst (λ (k : ℕ). HasTexts g k ys) e h
-  texts_back n (x ∷ xs) ys h = let e : n + 1 + length xs ≡ n + suc (length xs) = omega arith in subst (λ (k : ℕ). HasTexts g k ys) e (texts_back (n + 1) xs ys h.1)
+  texts_back n (x ∷ xs) ys h = let e : n + 1 + length xs ≡ n + suc (length xs) =
+      omega arith in subst (λ (k : ℕ). HasTexts g k ys) e (texts_back (n + 1) xs ys h.1)
 
   listed_front : (n : ℕ) (x : Option Text) (rest : List Text) → HasTexts g n (listed x rest) → HasTexts g n (listed x [])
   listed_front n None rest h = tt
@@ -51,10 +52,12 @@ module _ (g : Program) (checked : IsChecked g) (line : ℕ) where
 
   -- ## Output
 
-  pub shows : (t : Option TypeId) (k : Rest) (n : ℤ) (at : ℕ) (ops : List ℤ) → IsAt g at (write_instr (simple_of t) 0) line → RestAt g (at + 1) ops k → Follows g (prints line (shown (simple_of t) n) k) at (n ∷ ops)
+  pub shows : (t : Option TypeId) (k : Rest) (n : ℤ) (at : ℕ) (ops : List ℤ) → IsAt g at (write_instr (simple_of t) 0) line → RestAt g (at + 1) ops k →
+      Follows g (prints line (shown (simple_of t) n) k) at (n ∷ ops)
   shows t k n at ops is rest = arrives at (n ∷ ops) (ops, number (simple_of t) n refl refl is, rest)
 
-  pub pad_follows : (bytes : List ℕ) (k : Rest) (w : ℤ) (at : ℕ) (ops : List ℤ) → PadAt g line at ops bytes (λ below. RestAt g (at + 1) below k) → Follows g (from_width line bytes k w) at (w ∷ ops)
+  pub pad_follows : (bytes : List ℕ) (k : Rest) (w : ℤ) (at : ℕ) (ops : List ℤ) → PadAt g line at ops bytes (λ below. RestAt g (at + 1) below k) →
+      Follows g (from_width line bytes k w) at (w ∷ ops)
   pad_follows bytes k w at ops (of_number t n below e shape is rest) = by (padded w bytes) refl
     where
       by : (r : Result (List ℕ) RunFault) → padded w bytes ≡ r → Follows g (from_piece line k r) at (w ∷ ops)
@@ -69,11 +72,13 @@ module _ (g : Program) (checked : IsChecked g) (line : ℕ) where
   -- the width of a number
   pub width_follows :
       (t : Option TypeId) (w : ExprTree) (k : Rest) (n : ℤ) (at : ℕ) (ops : List ℤ)
-      → IsNumber g.env w → Stands g at (suc (length ops)) (expr_code c w) → IsAt g (at + length (expr_code c w)) (write_instr (simple_of t) 1) line → RestAt g (at + length (expr_code c w) + 1) ops k
+      → IsNumber g.env w → Stands g at (suc (length ops)) (expr_code c w) → IsAt g (at + length (expr_code c w)) (write_instr (simple_of t) 1) line →
+      RestAt g (at + length (expr_code c w) + 1) ops k
       → Follows g (from_expr c w (pad (shown (simple_of t) n) k) (from_width line (shown (simple_of t) n) k)) at (n ∷ ops)
   width_follows t w k n at ops num st is rest =
       let mid = at + length (expr_code c w) in
-      let awaited : PadAt g line mid (n ∷ ops) (shown (simple_of t) n) (λ below. RestAt g (mid + 1) below k) = of_number (simple_of t) n ops refl refl is rest in
+      let awaited : PadAt g line mid (n ∷ ops) (shown (simple_of t) n) (λ below. RestAt g (mid + 1) below k) =
+      of_number (simple_of t) n ops refl refl is rest in
       number_follows g checked line w (pad (shown (simple_of t) n) k) (from_width line (shown (simple_of t) n) k) at mid (n ∷ ops) num st refl awaited
       (λ v. pad_follows (shown (simple_of t) n) k v mid (n ∷ ops) awaited)
 
@@ -96,7 +101,8 @@ module _ (g : Program) (checked : IsChecked g) (line : ℕ) where
 
   wide_follows :
       (x : Option Text) (e w : ExprTree) (k : Rest) (n at : ℕ) (ops : List ℤ)
-      → IsItem g.env x e → IsNumber g.env w → HasTexts g n (listed x []) → Stands g at (length ops) (wide_item c n x e w) → RestAt g (at + length (wide_item c n x e w)) ops k
+      → IsItem g.env x e → IsNumber g.env w → HasTexts g n (listed x []) → Stands g at (length ops) (wide_item c n x e w) →
+      RestAt g (at + length (wide_item c n x e w)) ops k
       → Follows g (from_wide_string c x e w k) at ops
   wide_follows None e w k n at ops i num texts st rest =
       let t = expr_type g.env e in
@@ -110,7 +116,8 @@ module _ (g : Program) (checked : IsChecked g) (line : ℕ) where
       let is = head g (write_instr (simple_of t) 1) line [] last in
       let end : at + length (code ++ (width ++ instr)) ≡ right + 1 = omega (arith, length-append code (width ++ instr), length-append width instr) in
       let after = rest_moved g (at + length (code ++ (width ++ instr))) (right + 1) ops k end rest in
-      number_follows g checked line e (show_wide t w k) (λ v. from_expr c w (pad (shown (simple_of t) v) k) (from_width line (shown (simple_of t) v) k)) at mid ops i (front g code (width ++ instr) st) refl
+      number_follows g checked line e (show_wide t w k) (λ v. from_expr c w (pad (shown (simple_of t) v) k) (from_width line (shown (simple_of t) v) k)) at mid
+      ops i (front g code (width ++ instr) st) refl
       (num, front g width instr behind, is, after)
       (λ v. width_follows t w k v mid ops num (front g width instr behind) is after)
   wide_follows (Some x) e w k n at ops i num texts st rest =
@@ -126,16 +133,19 @@ module _ (g : Program) (checked : IsChecked g) (line : ℕ) where
 
   item_follows :
       (a : ActualTree) (k : Rest) (n at : ℕ) (ops : List ℤ)
-      → IsWritten g.env a → HasTexts g n (listed (as_string (item_of a)) []) → Stands g at (length ops) (item_code c n a) → RestAt g (at + length (item_code c n a)) ops k
+      → IsWritten g.env a → HasTexts g n (listed (as_string (item_of a)) []) → Stands g at (length ops) (item_code c n a) →
+      RestAt g (at + length (item_code c n a)) ops k
       → Follows g (from_item c a k) at ops
   item_follows (actual e) k n at ops i texts st rest = plain_follows (as_string e) e k n at ops i texts st rest
   item_follows (actual_width e w) k n at ops i texts st rest = wide_follows (as_string e) e w k n at ops i.0 i.1 texts st rest
 
   pub writes_follow :
       (args : ActualTrees) (line_end : Bool) (k : Rest) (go : Next) (n at to : ℕ) (ops : List ℤ)
-      → AreWritten g.env args → HasTexts g n (strings_among args) → Stands g at (length ops) (writes_code c n args line_end) → at + length (writes_code c n args line_end) ≡ to → RestAt g to ops k
+      → AreWritten g.env args → HasTexts g n (strings_among args) → Stands g at (length ops) (writes_code c n args line_end) →
+      at + length (writes_code c n args line_end) ≡ to → RestAt g to ops k
       → Follows g go to ops → Follows g (from_writes c args line_end k go) at ops
-  writes_follow no_actuals true k go n at to ops i texts st e rest on = arrives at ops (ops, newline refl refl (head g WRNL line [] st), rest_moved g to (at + 1) ops k (sym e) rest)
+  writes_follow no_actuals true k go n at to ops i texts st e rest on =
+      arrives at ops (ops, newline refl refl (head g WRNL line [] st), rest_moved g to (at + 1) ops k (sym e) rest)
   writes_follow no_actuals false k go n at to ops i texts st e rest on = follows_moved g to at (sym e ∙ omega arith) on
   writes_follow (more_actuals a args) line_end k go n at to ops i texts st e rest on =
       let first = item_code c n a in
@@ -144,8 +154,19 @@ module _ (g : Program) (checked : IsChecked g) (line : ℕ) where
       let mid = at + length first in
       let behind = back g first others (length ops) (held_item g checked line n a (length ops) i.0) st in
       let ends : to ≡ mid + length others = sym (ends_behind at to first others e) in
-      item_follows a (write_on line args line_end k) n at ops i.0 (listed_front g n (as_string (item_of a)) (strings_among args) texts) (front g first others st)
-      (mid, arrived mid, (after, i.1, listed_back g n (as_string (item_of a)) (strings_among args) texts, behind, rest_moved g to (mid + length others) ops k ends rest))
+      item_follows a (write_on line args line_end k) n at ops i.0 (listed_front g n (as_string (item_of a))
+      (strings_among args) texts) (front g first others st) (
+        mid,
+        arrived mid,
+        (
+          after,
+          i.1,
+          listed_back g n (as_string (item_of a)) (strings_among args) texts,
+          behind,
+          rest_moved g to
+              (mid + length others) ops k ends rest,
+        ),
+      )
 
   -- ## Input
 
@@ -177,7 +198,8 @@ module _ (g : Program) (checked : IsChecked g) (line : ℕ) where
       let first = variable_code c (Some d) in
       let others = reads_code c args skip in
       let mid = at + length first in
-      let whole : Stands g at (length ops) (first ++ others) = subst (λ (x : Option DesigTree). Stands g at (length ops) (variable_code c x ++ others)) is.1 st in
+      let whole : Stands g at (length ops) (first ++ others) =
+      subst (λ (x : Option DesigTree). Stands g at (length ops) (variable_code c x ++ others)) is.1 st in
       let length_is : at + length (first ++ others) ≡ to = subst (λ (x : Option DesigTree). at + length (variable_code c x ++ others) ≡ to) is.1 e in
       let behind = back g first others (length ops) (held_variable g checked line d (length ops) is.2) whole in
       let ends : to ≡ mid + length others = sym (ends_behind at to first others length_is) in
@@ -189,7 +211,8 @@ module _ (g : Program) (checked : IsChecked g) (line : ℕ) where
 
   pub call_follows :
       (p : Procedure) (args : ActualTrees) (k : Rest) (go : Next) (n at to : ℕ) (ops : List ℤ)
-      → IsCall g.env p args → HasTexts g n (procedure_strings p args) → Stands g at (length ops) (procedure_code c n p args) → at + length (procedure_code c n p args) ≡ to → RestAt g to ops k
+      → IsCall g.env p args → HasTexts g n (procedure_strings p args) → Stands g at (length ops) (procedure_code c n p args) →
+      at + length (procedure_code c n p args) ≡ to → RestAt g to ops k
       → Follows g go to ops → Follows g (from_procedure c p args k go) at ops
   call_follows (reader skip) args k go n at to ops i texts st e rest on = reads_follow args skip k go at to ops i st e rest on
   call_follows (writer line_end) args k go n at to ops i texts st e rest on = writes_follow args line_end k go n at to ops i texts st e rest on

@@ -22,9 +22,12 @@ over_written before old after new cells o place size is =
         ∙ drop_at (before ++ old) after (o + length new) (omega (arith, length-append before old, place, size))
 
 -- the middle part is what is read at its place
-pub middle_read : {A : Type 0} (before old after cells : List A) (o z : ℕ) → length before ≡ o → length old ≡ z → cells ≡ before ++ (old ++ after) → take z (drop o cells) ≡ old
-middle_read before old after cells o z place size is = ap (λ l. take z (drop o l)) is ∙ ap (λ l. take z l) (drop_at before (old ++ after) o place) ∙ take_at old after z size
+pub middle_read : {A : Type 0} (before old after cells : List A) (o z : ℕ) → length before ≡ o → length old ≡ z →
+    cells ≡ before ++ (old ++ after) → take z (drop o cells) ≡ old
+middle_read before old after cells o z place size is = ap (λ l. take z (drop o l)) is ∙
+    ap (λ l. take z l) (drop_at before (old ++ after) o place) ∙ take_at old after z size
 
 -- and it ends within the whole
-pub middle_within : {A : Type 0} (before old after cells : List A) (o z : ℕ) → length before ≡ o → length old ≡ z → cells ≡ before ++ (old ++ after) → o + z ≤ length cells
+pub middle_within : {A : Type 0} (before old after cells : List A) (o z : ℕ) → length before ≡ o → length old ≡ z →
+    cells ≡ before ++ (old ++ after) → o + z ≤ length cells
 middle_within before old after cells o z place size is = omega (arith, place, size, ap length is, length-append before (old ++ after), length-append old after)

@@ -42,7 +42,8 @@ variable_meant Faulty t e = none_is_some t e
 
 module _ (g : Program) (checked : IsChecked g) where
   -- a variable that has a type is a part
-  pub typed_part : (x : Text) (found : Found) → find g.env x ≡ Some found → (t : TypeId) → variable_type (Some found.meaning) ≡ Some t → IsPart g (part_found (Some found)) (pos (g.start + cell_found g.env (Some found)))
+  pub typed_part : (x : Text) (found : Found) → find g.env x ≡ Some found → (t : TypeId) → variable_type (Some found.meaning) ≡ Some t →
+      IsPart g (part_found (Some found)) (pos (g.start + cell_found g.env (Some found)))
   typed_part x found is t e = let meant = variable_meant found.meaning t e in variable_part g checked x found is t meant.0 meant.1
 
 module _ (g : Program) (checked : IsChecked g) (line : ℕ) where
@@ -54,15 +55,18 @@ module _ (g : Program) (checked : IsChecked g) (line : ℕ) where
       (e : ExprTree) (u : Use) (go : ℤ → Next) (at to : ℕ) (ops : List ℤ)
       → IsNumber g.env e → Stands g at (length ops) (expr_code c e) → at + length (expr_code c e) ≡ to → UseAt g line to ops u
       → ((v : ℤ) → Follows g (go v) to (v ∷ ops)) → Follows g (from_expr c e u go) at ops
-  number_follows e u go at to ops n st end waits on = expr_follows g checked line e u go at to ops (number_is_numeric g.env checked.outside checked.sound e n) st end waits on
+  number_follows e u go at to ops n st end waits on =
+      expr_follows g checked line e u go at to ops (number_is_numeric g.env checked.outside checked.sound e n) st end waits on
 
   found_follows :
-      (x : Text) (found : Option Found) → find g.env x ≡ found → (ss : SelectorTrees) (goal : Goal) (go : Location → Next) (t : TypeId) (at to : ℕ) (ops : List ℤ)
+      (x : Text) (found : Option Found) → find g.env x ≡ found → (ss : SelectorTrees) (goal : Goal) (go : Location →
+      Next) (t : TypeId) (at to : ℕ) (ops : List ℤ)
       → selected g.env (variable_type (meaning_of found)) ss ≡ Some t
       → Stands g at (length ops) (one c (ADDR 0 (cell_found g.env found)) ++ selectors_code c (variable_type (meaning_of found)) ss)
       → at + length (one c (ADDR 0 (cell_found g.env found)) ++ selectors_code c (variable_type (meaning_of found)) ss) ≡ to
       → GoalAt g line to ops t goal
-      → ((l : Location) (w : ℤ) → IsWord g l t w → Follows g (go l) to (w ∷ ops)) → Follows g (from_selectors c (part_found found) ss goal (λ part. go part.at)) at ops
+      → ((l : Location) (w : ℤ) → IsWord g l t w → Follows g (go l) to (w ∷ ops)) →
+      Follows g (from_selectors c (part_found found) ss goal (λ part. go part.at)) at ops
   found_follows x None is ss goal go t at to ops typed st e goal_at on = let some = selected_some g.env ss None t typed in none_is_some some.0 some.1
   found_follows x (Some found) is ss goal go t at to ops typed st e goal_at on =
       let s = variable_type (Some found.meaning) in
@@ -73,7 +77,8 @@ module _ (g : Program) (checked : IsChecked g) (line : ℕ) where
       let behind = tail g (ADDR 0 d) line (selectors_code c s ss) (suc (length ops)) (omega arith) st in
       let ends : at + 1 + length (selectors_code c s ss) ≡ to = omega arith in
       address_move g at ops d line (head g (ADDR 0 d) line (selectors_code c s ss) st) (room_for g behind)
-      (selectors_follow g checked line ss (part_found (Some found)) (pos (g.start + d)) t goal (λ part. go part.at) (at + 1) to ops part_is (are.0, are.1, behind, ends) goal_at
+      (selectors_follow g checked line ss (part_found (Some found)) (pos (g.start + d)) t goal (λ part. go part.at)
+      (at + 1) to ops part_is (are.0, are.1, behind, ends) goal_at
       (λ part w lies. on part.at w lies))
 
   pub desig_follows :
@@ -84,7 +89,8 @@ module _ (g : Program) (checked : IsChecked g) (line : ℕ) where
 
   -- ## What waits for a location
 
-  pub stores : (l : Location) (n w : ℤ) (k : Rest) (at : ℕ) (ops : List ℤ) → IsSimpleWord g l w → IsAt g at (STORE 1) line → RestAt g (at + 1) ops k → Follows g (writes line l (ordinal n) k) at (n ∷ w ∷ ops)
+  pub stores : (l : Location) (n w : ℤ) (k : Rest) (at : ℕ) (ops : List ℤ) → IsSimpleWord g l w → IsAt g at (STORE 1) line → RestAt g (at + 1) ops k →
+      Follows g (writes line l (ordinal n) k) at (n ∷ w ∷ ops)
   stores l n w k at ops is store rest =
       arrives at (n ∷ w ∷ ops)
       (of_value is.t w 1 ops refl (is_number is.t n is.simple) (record { lies = is.lies; cells = sym (checked.sound.simple_cells is.t is.simple) }) store rest)
@@ -92,7 +98,8 @@ module _ (g : Program) (checked : IsChecked g) (line : ℕ) where
   -- the value of an assignment
   pub value_follows :
       (e : ExprTree) (k : Rest) (l : Location) (w : ℤ) (at : ℕ) (ops : List ℤ)
-      → IsSimpleWord g l w → IsNumber g.env e → Stands g at (suc (length ops)) (expr_code c e ++ one c (STORE 1)) → RestAt g (at + length (expr_code c e) + 1) ops k
+      → IsSimpleWord g l w → IsNumber g.env e → Stands g at (suc (length ops)) (expr_code c e ++ one c (STORE 1)) →
+      RestAt g (at + length (expr_code c e) + 1) ops k
       → Follows g (from_expr c e (store_at l k) (λ n. writes line l (ordinal n) k)) at (w ∷ ops)
   value_follows e k l w at ops is n st rest =
       let code = expr_code c e in
@@ -109,23 +116,39 @@ module _ (g : Program) (checked : IsChecked g) (line : ℕ) where
       → Follows g (copies_from line m l k) at (from ∷ w ∷ ops)
   copies m l t from w z k at ops is whole st rest =
       let behind = tail g (LOAD z) line (one c (STORE z)) (suc (length ops) + z) (omega arith) st in
-      arrives at (from ∷ w ∷ ops)
-      (t, from, w, z, ops, refl, record { lies = is; cells = whole.cells }, whole, head g (LOAD z) line (one c (STORE z)) st, room_for g behind, head g (STORE z) line [] behind, rest)
+      arrives at (from ∷ w ∷ ops) (
+        t,
+        from,
+        w,
+        z,
+        ops,
+        refl,
+        record { lies = is; cells = whole.cells },
+        whole,
+        head g (LOAD z) line
+            (one c (STORE z)) st,
+        room_for g behind,
+        head g (STORE z) line [] behind,
+        rest,
+      )
 
   pub copy_follows :
       (d : DesigTree) (k : Rest) (l : Location) (t : TypeId) (w : ℤ) (z : ℕ) (at : ℕ) (ops : List ℤ)
-      → IsWord g l t w → desig_type g.env d ≡ Some t → z ≡ cells_in (forms_of g) t → Stands g at (suc (length ops)) (desig_code c d ++ (one c (LOAD z) ++ one c (STORE z)))
+      → IsWord g l t w → desig_type g.env d ≡ Some t → z ≡ cells_in (forms_of g) t →
+      Stands g at (suc (length ops)) (desig_code c d ++ (one c (LOAD z) ++ one c (STORE z)))
       → RestAt g (at + length (desig_code c d) + 2) ops k
       → Follows g (from_desig c d (copy_from l k) (λ m. copies_from line m l k)) at (w ∷ ops)
   copy_follows d k l t w z at ops is typed cells st rest =
       let code = desig_code c d in
       let behind = back g code (one c (LOAD z) ++ one c (STORE z)) (suc (suc (length ops))) (held_desig g checked line d t (suc (length ops)) typed) st in
       let whole : IsWholeWord g l t w z = record { lies = is; cells = cells } in
-      desig_follows d (copy_from l k) (λ m. copies_from line m l k) t at (at + length code) (w ∷ ops) typed (front g code (one c (LOAD z) ++ one c (STORE z)) st) refl
+      desig_follows d (copy_from l k) (λ m. copies_from line m l k) t at (at + length code) (w ∷ ops) typed
+      (front g code (one c (LOAD z) ++ one c (STORE z)) st) refl
       (w, z, ops, refl, whole, behind, rest)
       (λ m from from_is. copies m l t from w z k (at + length code) ops from_is whole behind rest)
 
-  pub goal_follows : (goal : Goal) (l : Location) (t : TypeId) (w : ℤ) (at : ℕ) (ops : List ℤ) → IsWord g l t w → GoalAt g line at ops t goal → Follows g (from_goal c goal l) at (w ∷ ops)
+  pub goal_follows : (goal : Goal) (l : Location) (t : TypeId) (w : ℤ) (at : ℕ) (ops : List ℤ) → IsWord g l t w → GoalAt g line at ops t goal →
+      Follows g (from_goal c goal l) at (w ∷ ops)
   goal_follows (read_for u) l t w at ops is h = arrives at (w ∷ ops) (w, ops, refl, record { t = t; simple = h.0; lies = is }, h.1, h.2)
   goal_follows (assign_to e k) l t w at ops is h = value_follows e k l w at ops (record { t = t; simple = h.0; lies = is }) h.1 h.2 h.3
   goal_follows (copy_to d k) l t w at ops is h = copy_follows d k l t w h.0 at ops is h.1 h.2 h.3 h.4
@@ -134,6 +157,7 @@ module _ (g : Program) (checked : IsChecked g) (line : ℕ) where
       let z = h.1 in
       let below = h.2 in
       let e : ops ≡ w ∷ below = h.3 in
-      let st : Stands g at (suc (suc (length below))) (one c (LOAD z) ++ one c (STORE z)) = subst (λ (x : List ℤ). Stands g at (suc (length x)) (one c (LOAD z) ++ one c (STORE z))) e h.5 in
+      let st : Stands g at (suc (suc (length below))) (one c (LOAD z) ++ one c (STORE z)) =
+      subst (λ (x : List ℤ). Stands g at (suc (length x)) (one c (LOAD z) ++ one c (STORE z))) e h.5 in
       subst (λ (x : List ℤ). Follows g (copies_from line m l k) at (from ∷ x)) (sym e) (copies m l t from w z k at below is h.4 st h.6)
   goal_follows (input_to u k) l t w at ops is h = arrives at (w ∷ ops) (w, ops, refl, record { t = t; simple = h.0; lies = is }, h.1, h.2)

@@ -21,7 +21,8 @@ use Rattle.pfc_relation.specs.Following.{IsFit, quietly, of_operands, Follows, a
 -- ## Rows
 
 -- an instruction that needs no more than the operands and goes on
-pub alone_is_quiet : (start : ℕ) (i : Instr) (at : ℕ) (ops : List ℤ) (to : ℕ) (left : List ℤ) → alone i at ops ≡ quiet to left → quietly start i at ops ≡ quiet to left
+pub alone_is_quiet : (start : ℕ) (i : Instr) (at : ℕ) (ops : List ℤ) (to : ℕ) (left : List ℤ) →
+    alone i at ops ≡ quiet to left → quietly start i at ops ≡ quiet to left
 alone_is_quiet start (ADDR zero d) at ops to left h = cc
 alone_is_quiet start i at ops to left h = h
 
@@ -85,7 +86,8 @@ module _ (g : Program) where
   pub address_move :
       {n : Next} (at : ℕ) (ops : List ℤ) (d line : ℕ)
       → IsAt g at (ADDR zero d) line → suc (length ops) ≤ g.room → Follows g n (at + 1) (pos (g.start + d) ∷ ops) → Follows g n at ops
-  address_move at ops d line is room on = moves at ops (ADDR zero d) line (at + 1) (pos (g.start + d) ∷ ops) is (fits (ADDR zero d) ops (omega arith) tt) refl (omega arith) room on
+  address_move at ops d line is room on =
+      moves at ops (ADDR zero d) line (at + 1) (pos (g.start + d) ∷ ops) is (fits (ADDR zero d) ops (omega arith) tt) refl (omega arith) room on
 
   -- an instruction that leaves a number, or ends in a fault
   pub outcome_move :
@@ -99,19 +101,22 @@ module _ (g : Program) where
       (op : AddOp) (a b : ℤ) (go : ℤ → Next) (at : ℕ) (ops : List ℤ) (line : ℕ)
       → IsAt g at (add_instr op) line → suc (length ops) ≤ g.room
       → ((v : ℤ) → Follows g (go v) (at + 1) (v ∷ ops)) → Follows g (with_number line (added op a b) go) at (b ∷ a ∷ ops)
-  add_move op a b go at ops line is room on = outcome_move (added op a b) go at (b ∷ a ∷ ops) ops (add_instr op) line is (add_fit op a b ops) (add_row op at a b ops) room on
+  add_move op a b go at ops line is room on = outcome_move (added op a b) go at (b ∷ a ∷ ops) ops (add_instr op) line is
+      (add_fit op a b ops) (add_row op at a b ops) room on
 
   pub multiply_move :
       (op : MulOp) (a b : ℤ) (go : ℤ → Next) (at : ℕ) (ops : List ℤ) (line : ℕ)
       → IsAt g at (multiply_instr op) line → suc (length ops) ≤ g.room
       → ((v : ℤ) → Follows g (go v) (at + 1) (v ∷ ops)) → Follows g (with_number line (multiplied op a b) go) at (b ∷ a ∷ ops)
-  multiply_move op a b go at ops line is room on = outcome_move (multiplied op a b) go at (b ∷ a ∷ ops) ops (multiply_instr op) line is (multiply_fit op a b ops) (multiply_row op at a b ops) room on
+  multiply_move op a b go at ops line is room on = outcome_move (multiplied op a b) go at (b ∷ a ∷ ops) ops (multiply_instr op) line is
+      (multiply_fit op a b ops) (multiply_row op at a b ops) room on
 
   pub relation_move :
       (r : Relation) (a b : ℤ) (go : ℤ → Next) (at : ℕ) (ops : List ℤ) (line : ℕ)
       → IsAt g at (relation_instr r) line → suc (length ops) ≤ g.room
       → Follows g (go (compared r a b)) (at + 1) (compared r a b ∷ ops) → Follows g (go (compared r a b)) at (b ∷ a ∷ ops)
-  relation_move r a b go at ops line is room on = next_move at (b ∷ a ∷ ops) (relation_instr r) line (compared r a b ∷ ops) is (relation_fit r a b ops) (relation_row r at a b ops) room on
+  relation_move r a b go at ops line is room on = next_move at (b ∷ a ∷ ops) (relation_instr r) line (compared r a b ∷ ops) is
+      (relation_fit r a b ops) (relation_row r at a b ops) room on
 
   -- ## Jumps
 
@@ -123,9 +128,12 @@ module _ (g : Program) where
   test_move v yes_next no_next at ops x line is up room so otherwise = by (is_true v) refl
     where
       by : (b : Bool) → is_true v ≡ b → Follows g (if b then yes_next else no_next) at (v ∷ ops)
-      by true e = move at (v ∷ ops) (JF x) line (at + 1) ops is (fits (JF x) (v ∷ ops) (omega arith) tt) (ap (λ (b : Bool). quiet (if b then at + 1 else x) ops) e) (omega arith) room so
-      by false e = move at (v ∷ ops) (JF x) line x ops is (fits (JF x) (v ∷ ops) (omega arith) tt) (ap (λ (b : Bool). quiet (if b then at + 1 else x) ops) e) up room otherwise
+      by true e = move at (v ∷ ops) (JF x) line (at + 1) ops is (fits (JF x) (v ∷ ops) (omega arith) tt)
+          (ap (λ (b : Bool). quiet (if b then at + 1 else x) ops) e) (omega arith) room so
+      by false e = move at (v ∷ ops) (JF x) line x ops is (fits (JF x) (v ∷ ops) (omega arith) tt)
+          (ap (λ (b : Bool). quiet (if b then at + 1 else x) ops) e) up room otherwise
 
   pub through : {n : Next} (at to : ℕ) (ops : List ℤ) → Leads g at to → length ops ≤ g.room → Follows g n to ops → Follows g n at ops
   through _ _ ops (arrived at) room on = on
-  through _ _ ops (jump at to end line is up leads) room on = move at ops (JMP to) line to ops is (fits (JMP to) ops (omega arith) tt) refl up room (through to end ops leads room on)
+  through _ _ ops (jump at to end line is up leads) room on =
+      move at ops (JMP to) line to ops is (fits (JMP to) ops (omega arith) tt) refl up room (through to end ops leads room on)

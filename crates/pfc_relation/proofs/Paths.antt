@@ -18,7 +18,8 @@ module _ (forms : Forms) where
   path_at {t} {path} {u} e h = subst (λ n. IsPath forms t path u n) e h
 
   -- two paths, one behind the other
-  pub path_joined : {t : TypeId} {path : List ℕ} {u : TypeId} {o : ℕ} {more : List ℕ} {v : TypeId} {p : ℕ} → IsPath forms t path u o → IsPath forms u more v p → IsPath forms t (path ++ more) v (o + p)
+  pub path_joined : {t : TypeId} {path : List ℕ} {u : TypeId} {o : ℕ} {more : List ℕ} {v : TypeId} {p : ℕ} → IsPath forms t path u o → IsPath forms u more v p →
+      IsPath forms t (path ++ more) v (o + p)
   path_joined (here t) h = path_at (omega arith) h
   path_joined (into_element t over element u low high i path o form below rest) h =
       path_at (omega arith) (into_element t over element _ low high i _ _ form below (path_joined rest h))
@@ -44,7 +45,8 @@ module _ (forms : Forms) where
 -- ## Locations
 
 -- a variable lies where its cells begin
-pub variable_lies : (forms : Forms) (names : Names) (k : ℕ) (name : Text) (t : TypeId) → slice_get names k ≡ Some (name, Variable t false) → LiesAt forms names (record { activation = 0; variable = k; path = [] }) t (cells_before forms names k)
+pub variable_lies : (forms : Forms) (names : Names) (k : ℕ) (name : Text) (t : TypeId) → slice_get names k ≡ Some (name, Variable t false) →
+    LiesAt forms names (record { activation = 0; variable = k; path = [] }) t (cells_before forms names k)
 variable_lies forms names k name t declared =
     record { main = refl; name = name; t = t; behind = 0; declared = declared; path = here t; cell_is = omega arith }
 

@@ -54,7 +54,8 @@ pub fields_later : (forms later : Forms) (fields : FieldList) → Begins forms l
 fields_later forms later fields b h = subst (λ (f : Forms). ArePlain f fields) (sym b.splits) (plain_fields_grown forms b.more h)
 
 -- one more at the end
-pub names_push : (forms : Forms) (names : Names) (x : Text) (m : Meaning) → ArePlainNames forms names → IsPlainName forms m → ArePlainNames forms (names ++ (x, m) ∷ [])
+pub names_push : (forms : Forms) (names : Names) (x : Text) (m : Meaning) → ArePlainNames forms names → IsPlainName forms m →
+    ArePlainNames forms (names ++ (x, m) ∷ [])
 names_push forms [] x m h k = (k, tt)
 names_push forms (e ∷ names) x m h k = (h.0, names_push forms names x m h.1 k)
 

@@ -43,14 +43,16 @@ module _ (g : Program) (checked : IsChecked g) where
       let to = h.0 in
       let n = h.2.0 in
       let end = to + length (stmts_code g.env to n ss) in
-      through g at to ops h.1 (room_for g h.2.1.code) (stmts_follow g checked ss k (from_rest g.env k) to n end ops h.2.1 refl h.2.2 (rest_follows k end ops h.2.2))
+      through g at to ops h.1 (room_for g h.2.1.code)
+      (stmts_follow g checked ss k (from_rest g.env k) to n end ops h.2.1 refl h.2.2 (rest_follows k end ops h.2.2))
   rest_follows (turn loop k) at ops h =
       through g at h.0 ops h.1 (room_for g h.2.3.code) (turns_follow g loop k (loop_line loop) h.0 h.2.0 h.2.1 ops h.2.2 h.2.3 h.2.4)
   rest_follows (until ss e p k) at ops h =
       let a = h.2.0 in
       let n = h.2.1 in
       through g at h.0 ops h.1 (room_for g h.2.2.code)
-      (follows_moved g (a + length (stmts_code g.env a n ss)) h.0 (sym h.2.3) (until_follows g checked ss e p k (from_rest g.env k) a n ops h.2.2 h.2.4 (rest_follows k _ ops h.2.4)))
+      (follows_moved g (a + length (stmts_code g.env a n ss)) h.0 (sym h.2.3)
+      (until_follows g checked ss e p k (from_rest g.env k) a n ops h.2.2 h.2.4 (rest_follows k _ ops h.2.4)))
   rest_follows (behind_pass f k) at ops h =
       let to = h.0 in
       let a = h.2.0 in
@@ -61,7 +63,8 @@ module _ (g : Program) (checked : IsChecked g) where
       let next_is : to + 1 ≡ q + 1 = omega arith in
       let left = rest_moved g (to + 1) (q + 1) below k next_is h.2.6 in
       through g at to ops h.1 (room_for g h.2.4.inner.code)
-      (follows_moved g q to (sym is) (behind_follows g f k (from_rest g.env k) a n ops below h.2.3 h.2.4 left (follows_moved g (to + 1) (q + 1) next_is (rest_follows k (to + 1) below h.2.6))))
+      (follows_moved g q to (sym is) (behind_follows g f k (from_rest g.env k) a n ops below h.2.3 h.2.4 left (follows_moved g (to + 1) (q + 1) next_is
+      (rest_follows k (to + 1) below h.2.6))))
   rest_follows (next_pass f k) at ops h =
       through g at h.0 ops h.1 (room_for g h.2.3.inner.code) (pass_follows g f k h.0 h.2.0 ops h.2.1 h.2.2 h.2.3 h.2.4)
   rest_follows (store_whole line l v k) at ops h =
@@ -71,11 +74,13 @@ module _ (g : Program) (checked : IsChecked g) where
       let to = h.0 in
       let n = h.2.0 in
       let end = to + length (writes_code (context g.env line) n args newline) in
-      through g at to ops h.1 (room_for g h.2.3) (writes_follow g checked line args newline k (from_rest g.env k) n to end ops h.2.1 h.2.2 h.2.3 refl h.2.4 (rest_follows k end ops h.2.4))
+      through g at to ops h.1 (room_for g h.2.3) (writes_follow g checked line args newline k
+      (from_rest g.env k) n to end ops h.2.1 h.2.2 h.2.3 refl h.2.4 (rest_follows k end ops h.2.4))
   rest_follows (read_on line args skip k) at ops h =
       let to = h.0 in
       let end = to + length (reads_code (context g.env line) args skip) in
-      through g at to ops h.1 (room_for g h.2.1) (reads_follow g checked line args skip k (from_rest g.env k) to end ops h.2.0 h.2.1 refl h.2.2 (rest_follows k end ops h.2.2))
+      through g at to ops h.1 (room_for g h.2.1) (reads_follow g checked line args skip k
+      (from_rest g.env k) to end ops h.2.0 h.2.1 refl h.2.2 (rest_follows k end ops h.2.2))
 
   -- ## What waits for a number
 
@@ -90,7 +95,8 @@ module _ (g : Program) (checked : IsChecked g) where
         let to = at + length (minus ++ terms) in
         let last = back g minus terms (suc (length ops)) (sign_held c sign (length ops)) h.1 in
         sign_follows g checked line sign v (λ n. from_summands c n rest u (from_use c u)) at ops (front g minus terms h.1)
-        (λ n. summands_follow g checked line rest n u (from_use c u) (at + length minus) to ops h.0 last (ends_behind at to minus terms refl) h.2 (λ m. use_follows u m to ops h.2))
+        (λ n. summands_follow g checked line rest n u (from_use c u) (at + length minus) to ops h.0 last
+        (ends_behind at to minus terms refl) h.2 (λ m. use_follows u m to ops h.2))
     use_follows (add_to n op rest u) v at ops h =
         let below = h.0 in
         let code = one c (add_instr op) ++ summands_code c rest in
@@ -112,7 +118,8 @@ module _ (g : Program) (checked : IsChecked g) where
         let last = tail g (multiply_instr op) line (multipliers_code c rest) (suc (length below)) (multiply_held op (length below)) st in
         let ends : at + 1 + length (multipliers_code c rest) ≡ to = omega arith in
         subst (λ (x : List ℤ). Follows g (with_number line (multiplied op n v) (λ m. from_multipliers c m rest u (from_use c u))) at (v ∷ x)) (sym h.1)
-        (multiply_move g op n v (λ m. from_multipliers c m rest u (from_use c u)) at below line (head g (multiply_instr op) line (multipliers_code c rest) st) (room_for g last)
+        (multiply_move g op n v (λ m. from_multipliers c m rest u (from_use c u)) at below line
+        (head g (multiply_instr op) line (multipliers_code c rest) st) (room_for g last)
         (λ m. multipliers_follow g checked line rest m u (from_use c u) (at + 1) to below h.2 last ends h.4 (λ k. use_follows u k to below h.4)))
     use_follows (compare_with r s u) v at ops h =
         let second = simple_code c s in
@@ -123,13 +130,15 @@ module _ (g : Program) (checked : IsChecked g) where
         let left = use_moved g line (at + length (second ++ compare)) (right + 1) ops u ends h.2 in
         let is = head g (relation_instr r) line [] last in
         let room = room_after g (suc (length ops)) (relation_held r (length ops)) last in
-        simple_follows g checked line s (compare_to v r u) (λ b. from_use c u (compared r v b)) at right (v ∷ ops) h.0 (front g second compare h.1) refl (ops, refl, room, is, left)
+        simple_follows g checked line s (compare_to v r u) (λ b. from_use c u (compared r v b)) at right (v ∷ ops) h.0
+        (front g second compare h.1) refl (ops, refl, room, is, left)
         (λ b. relation_move g r v b (from_use c u) right ops line is room (use_follows u (compared r v b) (right + 1) ops left))
     use_follows (compare_to n r u) v at ops h =
         let below = h.0 in
         subst (λ (x : List ℤ). Follows g (from_use c u (compared r n v)) at (v ∷ x)) (sym h.1)
         (relation_move g r n v (from_use c u) at below line h.3 h.2 (use_follows u (compared r n v) (at + 1) below h.4))
-    use_follows (invert u) v at ops h = next_move g at (v ∷ ops) NOT line (inverse_of v ∷ ops) h.1 (fits NOT (v ∷ ops) (omega arith) tt) refl h.0 (use_follows u (inverse_of v) (at + 1) ops h.2)
+    use_follows (invert u) v at ops h = next_move g at (v ∷ ops) NOT line (inverse_of v ∷ ops) h.1 (fits NOT (v ∷ ops) (omega arith) tt) refl h.0
+        (use_follows u (inverse_of v) (at + 1) ops h.2)
     use_follows (apply f t u) v at ops h =
         let to = at + length (function_code c f t) in
         finish_follows g checked line f t u (from_use c u) v at to ops h.0 h.1 refl h.2 (λ m. use_follows u m to ops h.2)
@@ -151,14 +160,16 @@ module _ (g : Program) (checked : IsChecked g) where
         let goal_at = h.10 in
         let met : (last : Part) → Next = λ (last : Part). from_selectors c last ss goal (λ whole. from_goal c goal whole.at) in
         subst (λ (x : List ℤ). Follows g (with_element line (element_part forms part v) (λ inside. from_indices c inside es ss goal met)) at (v ∷ x)) (sym h.3)
-        (element_follows g checked line part w v (λ inside. from_indices c inside es ss goal met) at below h.4 h.5 (head g i line (inner_code ++ rest_code) st) (room_for g last)
+        (element_follows g checked line part w v (λ inside. from_indices c inside es ss goal met) at below h.4 h.5
+        (head g i line (inner_code ++ rest_code) st) (room_for g last)
         (λ inside x inside_is same.
         let fit : IndicesAt g checked line (at + 1) mid to below es ss t inside.t =
         subst (λ (s : Option TypeId). IndicesAt g checked line (at + 1) mid to below es ss t s) (sym same) (h.6, h.7, h.8, last, refl, end) in
         indices_follow g checked line es inside x ss t goal met (at + 1) mid to below inside_is fit goal_at
         (λ deep y deep_is deep_same.
         let after : SelectorsAt g checked line mid to below ss t deep.t =
-        subst (λ (s : Option TypeId). SelectorsAt g checked line mid to below ss t s) (sym (deep_same ∙ ap (λ (s : Option TypeId). type_behind forms s es) same)) (h.7, h.8, behind, end) in
+        subst (λ (s : Option TypeId). SelectorsAt g checked line mid to below ss t s) (sym (deep_same ∙
+        ap (λ (s : Option TypeId). type_behind forms s es) same)) (h.7, h.8, behind, end) in
         selectors_follow g checked line ss deep y t goal (λ whole. from_goal c goal whole.at) mid to below deep_is after goal_at
         (λ whole z lies. goal_follows g checked line goal whole.at t z to below lies goal_at))))
     use_follows (store_at l k) v at ops h =
@@ -195,7 +206,8 @@ module _ (g : Program) (checked : IsChecked g) where
         let code = expr_code c b ++ pass_code c down (at + length (expr_code c b)) n s in
         let to = at + length code in
         let st : Stands g at (suc (suc (length below))) code = subst (λ (x : List ℤ). Stands g at (suc (length x)) code) h.3 h.8.0 in
-        subst (λ (x : List ℤ). Follows g (from_expr c b (count_to l v down s k) (λ m. from_bounds (counting line l v m down s) k (from_rest g.env k))) at (v ∷ x)) (sym h.3)
+        subst (λ (x : List ℤ). Follows g (from_expr c b (count_to l v down s k) (λ m. from_bounds (counting line l v m down s) k (from_rest g.env k))) at
+        (v ∷ x)) (sym h.3)
         (second_follows g checked line l v w down b s k (from_rest g.env k) at n to below h.4 h.5 h.6 h.7 st refl h.8.1 (rest_follows k to below h.8.1))
     use_follows (count_to l a down s k) v at ops h =
         let n = h.0 in

@@ -40,18 +40,21 @@ formless_cells forms t e = built_none Held held_next forms t.place one_cell (λ 
 -- ## Types that are made of others
 
 -- what a part holds is known before the whole
-part_held : (forms : Forms) (t : TypeId) (form : TypeForm) (u : TypeId) → form_of forms t ≡ Some form → u.place < t.place → held_before (all_held (take t.place forms)) u ≡ held_of forms u
+part_held : (forms : Forms) (t : TypeId) (form : TypeForm) (u : TypeId) → form_of forms t ≡ Some form → u.place < t.place →
+    held_before (all_held (take t.place forms)) u ≡ held_of forms u
 part_held forms t form u e below = built_part Held held_next forms t form u one_cell e below
 
 -- an array takes the cells of its element, as often as it has some
-pub array_takes : (forms : Forms) (t over element : TypeId) (low high : ℤ) → form_of forms t ≡ Some (Array over low high element) → element.place < t.place → cells_in forms t ≡ extent low high * cells_in forms element
+pub array_takes : (forms : Forms) (t over element : TypeId) (low high : ℤ) → form_of forms t ≡ Some (Array over low high element) → element.place < t.place →
+    cells_in forms t ≡ extent low high * cells_in forms element
 array_takes forms t over element low high e below =
     ap (λ (h : Held). h.cells) (built_form Held held_next forms t (Array over low high element) one_cell e)
     ∙ ap (λ (h : Held). extent low high * h.cells) (part_held forms t (Array over low high element) element e below)
 
 fields_sum :
     (forms : Forms) (t : TypeId) (form : TypeForm) (sum : Held) (fields : FieldList) → form_of forms t ≡ Some form → AreBefore t.place fields
-    → (fold (λ s f. held_with s (held_before (all_held (take t.place forms)) f.1)) sum fields).cells ≡ sum.cells + sum_by (λ (f : Text × TypeId). cells_in forms f.1) fields
+    → (fold (λ s f. held_with s (held_before (all_held (take t.place forms)) f.1)) sum fields).cells ≡ sum.cells + sum_by
+    (λ (f : Text × TypeId). cells_in forms f.1) fields
 fields_sum forms t form sum [] e below = omega arith
 fields_sum forms t form sum (f ∷ fields) e below =
     fields_sum forms t form (held_with sum (held_before (all_held (take t.place forms)) f.1)) fields e below.1
@@ -59,7 +62,8 @@ fields_sum forms t form sum (f ∷ fields) e below =
     ∙ omega (arith, sum_by-cons (λ (f : Text × TypeId). cells_in forms f.1) f fields)
 
 -- a record takes the cells of all its fields
-pub record_takes : (forms : Forms) (t : TypeId) (fields : FieldList) → form_of forms t ≡ Some (Record fields) → AreBefore t.place fields → cells_in forms t ≡ fields_before forms fields (length fields)
+pub record_takes : (forms : Forms) (t : TypeId) (fields : FieldList) → form_of forms t ≡ Some (Record fields) → AreBefore t.place fields →
+    cells_in forms t ≡ fields_before forms fields (length fields)
 record_takes forms t fields e below =
     ap (λ (h : Held). h.cells) (built_form Held held_next forms t (Record fields) one_cell e)
     ∙ fields_sum forms t (Record fields) (record { cells = 0; processes = 0; conditions = false; shared = false }) fields e below

@@ -47,7 +47,8 @@ module _ (g : Program) (checked : IsChecked g) where
 
   assign_follows :
       (line : ℕ) (d : DesigTree) (e : ExprTree) (k : Rest) (go : Next) (at to : ℕ) (ops : List ℤ)
-      → IsAssignment g.env d e → Stands g at (length ops) (assign_code (context g.env line) d e) → at + length (assign_code (context g.env line) d e) ≡ to → RestAt g to ops k
+      → IsAssignment g.env d e → Stands g at (length ops) (assign_code (context g.env line) d e) →
+      at + length (assign_code (context g.env line) d e) ≡ to → RestAt g to ops k
       → Follows g (from_assign (context g.env line) d e k go) at ops
   assign_follows line d e k go at to ops a st end rest = by (assigned g.env d e a)
     where
@@ -65,7 +66,8 @@ module _ (g : Program) (checked : IsChecked g) where
           let after : to ≡ mid + length (expr_code c e) + 1 = omega (arith, length-append target value, length-append (expr_code c e) (one c (STORE 1))) in
           let left = rest_moved g to (mid + length (expr_code c e) + 1) ops k after rest in
           subst (λ (n : Next). Follows g n at ops) (sym (from_number c d e k go number))
-          (desig_follows g checked line d (assign_to e k) (λ l. from_expr c e (store_at l k) (λ n. writes line l (ordinal n) k)) number.t at mid ops number.target (front g target value all) refl
+          (desig_follows g checked line d (assign_to e k) (λ l. from_expr c e (store_at l k) (λ n. writes line l (ordinal n) k)) number.t at mid ops
+          number.target (front g target value all) refl
           (number.simple, num, last, left)
           (λ l w lies. value_follows g checked line e k l w mid ops (record { t = number.t; simple = number.simple; lies = lies }) num last left))
       by (inr whole) =
@@ -78,16 +80,19 @@ module _ (g : Program) (checked : IsChecked g) where
           let all : Stands g at (length ops) (target ++ source) = subst (λ (x : Code). Stands g at (length ops) x) same st in
           let ends : at + length (target ++ source) ≡ to = subst (λ (x : Code). at + length x ≡ to) same end in
           let last = back g target source (suc (length ops)) (held_desig g checked line d whole.t (length ops) whole.target) all in
-          let after : to ≡ mid + length (desig_code c whole.source) + 2 = omega (arith, length-append target source, length-append (desig_code c whole.source) (one c (LOAD z) ++ one c (STORE z))) in
+          let after : to ≡ mid + length (desig_code c whole.source) + 2 =
+          omega (arith, length-append target source, length-append (desig_code c whole.source) (one c (LOAD z) ++ one c (STORE z))) in
           let left = rest_moved g to (mid + length (desig_code c whole.source) + 2) ops k after rest in
           subst (λ (n : Next). Follows g n at ops) (sym (from_whole c d e k go whole))
-          (desig_follows g checked line d (copy_to whole.source k) (λ l. from_desig c whole.source (copy_from l k) (λ m. copies_from line m l k)) whole.t at mid ops whole.target (front g target source all) refl
+          (desig_follows g checked line d (copy_to whole.source k) (λ l. from_desig c whole.source (copy_from l k) (λ m. copies_from line m l k)) whole.t at mid
+          ops whole.target (front g target source all) refl
           (z, whole.from, refl, last, left)
           (λ l w lies. copy_follows g checked line whole.source k l whole.t w z mid ops lies whole.from refl last left))
 
   -- ## Calls
 
-  called_same : (c : Context) (m : Option Meaning) (args : ActualTrees) (k : Rest) (go : Next) → from_called c m args k go ≡ from_procedure c (procedure_meant m) args k go
+  called_same : (c : Context) (m : Option Meaning) (args : ActualTrees) (k : Rest) (go : Next) →
+      from_called c m args k go ≡ from_procedure c (procedure_meant m) args k go
   called_same c None args k go = refl
   called_same c (Some (Predeclared n)) args k go = refl
   called_same c (Some (AConstant t v)) args k go = refl
@@ -101,7 +106,8 @@ module _ (g : Program) (checked : IsChecked g) where
 
   called_follows :
       (d : DesigTree) (args : ActualTrees) (p : Place) (k : Rest) (go : Next) (at n to : ℕ) (ops : List ℤ)
-      → StmtAt g at n (length ops) (call d args p) → at + length (stmt_code g.env at n (call d args p)) ≡ to → RestAt g to ops k → Follows g go to ops → Follows g (from_stmt g.env (call d args p) k go) at ops
+      → StmtAt g at n (length ops) (call d args p) → at + length (stmt_code g.env at n (call d args p)) ≡ to → RestAt g to ops k → Follows g go to ops →
+      Follows g (from_stmt g.env (call d args p) k go) at ops
   called_follows (desig x ss q) args p k go at n to ops is e rest on =
       let c = context g.env p.line in
       let m = meaning_of (find g.env x) in
@@ -111,7 +117,8 @@ module _ (g : Program) (checked : IsChecked g) where
   -- ## For
 
   -- the variable of a `for`
-  simple_variable : (x : Text) (found : Option Found) → find g.env x ≡ found → IsSimpleName g.env x → IsSimpleWord g (variable_found found) (pos (g.start + cell_found g.env found))
+  simple_variable : (x : Text) (found : Option Found) → find g.env x ≡ found → IsSimpleName g.env x →
+      IsSimpleWord g (variable_found found) (pos (g.start + cell_found g.env found))
   simple_variable x None e is = none_is_some is.t (ap (λ (y : Option Found). variable_type (meaning_of y)) (sym e) ∙ is.typed)
   simple_variable x (Some found) e is =
       let typed : variable_type (Some found.meaning) ≡ Some is.t = ap (λ (y : Option Found). variable_type (meaning_of y)) (sym e) ∙ is.typed in
@@ -121,15 +128,24 @@ module _ (g : Program) (checked : IsChecked g) where
 
   -- ## Statements
 
-  nothing_at : (s : StmtTree) (at n held : ℕ) → IsTyped g.env s → HasTexts g n (strings_in g.env s) → stmt_code g.env at n s ≡ [] → held ≤ g.room → StmtAt g at n held s
-  nothing_at s at n held typed texts nothing room = record { typed = typed; texts = texts; code = subst (λ (x : Code). Stands g at held x) (sym nothing) (record { has = tt; room = room }) }
+  nothing_at : (s : StmtTree) (at n held : ℕ) → IsTyped g.env s → HasTexts g n (strings_in g.env s) →
+      stmt_code g.env at n s ≡ [] → held ≤ g.room → StmtAt g at n held s
+  nothing_at s at n held typed texts nothing room = record {
+    typed = typed;
+    texts = texts;
+    code =
+        subst (λ (x : Code). Stands g at held x) (sym nothing) (record { has = tt; room = room });
+  }
 
   -- the test of `while x do s`; how its statement follows is given
   pub while_tested :
       (x : ExprTree) (s : StmtTree) (p : Place) (k : Rest) (go : Next) (a n : ℕ) (ops : List ℤ) (v : ℤ)
-      → StmtAt g a n (length ops) (while_do x s p) → RestAt g (a + length (stmt_code g.env a n (while_do x s p))) ops k → Follows g go (a + length (stmt_code g.env a n (while_do x s p))) ops
-      → ((k : Rest) (go : Next) (at n to : ℕ) → StmtAt g at n (length ops) s → at + length (stmt_code g.env at n s) ≡ to → RestAt g to ops k → Follows g go to ops → Follows g (from_stmt g.env s k go) at ops)
-      → Follows g (if is_true v then from_stmt g.env s (turn (while_do x s p) k) (turns p.line (again (while_do x s p) k)) else go) (a + length (expr_code (context g.env p.line) x)) (v ∷ ops)
+      → StmtAt g a n (length ops) (while_do x s p) → RestAt g (a + length (stmt_code g.env a n (while_do x s p))) ops k →
+      Follows g go (a + length (stmt_code g.env a n (while_do x s p))) ops
+      → ((k : Rest) (go : Next) (at n to : ℕ) → StmtAt g at n (length ops) s → at + length (stmt_code g.env at n s) ≡ to → RestAt g to ops k →
+      Follows g go to ops → Follows g (from_stmt g.env s k go) at ops)
+      → Follows g (if is_true v then from_stmt g.env s (turn (while_do x s p) k) (turns p.line (again (while_do x s p) k)) else go)
+      (a + length (expr_code (context g.env p.line) x)) (v ∷ ops)
   while_tested x s p k go a n ops v is rest on inner_follows =
       let c = context g.env p.line in
       let loop = while_do x s p in
@@ -145,15 +161,19 @@ module _ (g : Program) (checked : IsChecked g) where
       let turn_is = head g (TURN a) p.line [] fourth in
       let ends : a + length (stmt_code g.env a n loop) ≡ y + 1 = omega (arith, length-append test after, length-append inner back_code) in
       let inner_at : StmtAt g (mid + 1) n (length ops) s = record { typed = is.typed.1; texts = is.texts; code = front g inner back_code third } in
-      test_move g v (from_stmt g.env s (turn loop k) (turns p.line (again loop k))) go mid ops (y + 1) p.line (head g (JF (y + 1)) p.line (inner ++ back_code) second) (omega arith) (room_for g third)
-      (inner_follows (turn loop k) (turns p.line (again loop k)) (mid + 1) n y inner_at refl (y, arrived y, (a, n, turn_is, is, rest)) (turns_follow g loop k p.line y a n ops turn_is is rest))
+      test_move g v (from_stmt g.env s (turn loop k) (turns p.line (again loop k))) go mid ops (y + 1) p.line
+      (head g (JF (y + 1)) p.line (inner ++ back_code) second) (omega arith) (room_for g third)
+      (inner_follows (turn loop k) (turns p.line (again loop k)) (mid + 1) n y inner_at refl (y, arrived y, (a, n, turn_is, is, rest))
+      (turns_follow g loop k p.line y a n ops turn_is is rest))
       (follows_moved g (a + length (stmt_code g.env a n loop)) (y + 1) ends on)
 
   mutual
     pub stmt_follows :
         (s : StmtTree) (k : Rest) (go : Next) (at n to : ℕ) (ops : List ℤ)
-        → StmtAt g at n (length ops) s → at + length (stmt_code g.env at n s) ≡ to → RestAt g to ops k → Follows g go to ops → Follows g (from_stmt g.env s k go) at ops
-    stmt_follows (block (body ss first last) p) k go at n to ops is e rest on = stmts_follow ss k go at n to ops (record { typed = is.typed; texts = is.texts; code = is.code }) e rest on
+        → StmtAt g at n (length ops) s → at + length (stmt_code g.env at n s) ≡ to → RestAt g to ops k → Follows g go to ops →
+        Follows g (from_stmt g.env s k go) at ops
+    stmt_follows (block (body ss first last) p) k go at n to ops is e rest on =
+        stmts_follow ss k go at n to ops (record { typed = is.typed; texts = is.texts; code = is.code }) e rest on
     stmt_follows (if_then x s p) k go at n to ops is e rest on =
         let c = context g.env p.line in
         let test = expr_code c x in
@@ -169,8 +189,19 @@ module _ (g : Program) (checked : IsChecked g) where
         let left = rest_moved g to end ops k ends rest in
         let up : mid < end = omega arith in
         let same : end ≡ end + 0 = omega arith in
-        number_follows g checked p.line x (choose s empty k) (λ v. if is_true v then from_stmt g.env s k go else go) at mid ops is.typed.0 (front g test after is.code) refl
-        (end, jump_is, up, (n, inner_at, left), (n, nothing_at empty end n (length ops) tt tt refl (room_for g third), rest_moved g end (end + 0) ops k same left))
+        number_follows g checked p.line x (choose s empty k) (λ v. if is_true v then
+        from_stmt g.env s k go else go) at mid ops is.typed.0 (front g test after is.code) refl (
+          end,
+          jump_is,
+          up,
+          (n, inner_at, left),
+          (
+            n,
+            nothing_at empty end n (length ops) tt tt refl
+                (room_for g third),
+            rest_moved g end (end + 0) ops k same left,
+          ),
+        )
         (λ v. test_move g v (from_stmt g.env s k go) go mid ops end p.line jump_is up (room_for g third)
         (stmt_follows s k go (mid + 1) n end ops inner_at refl left (follows_moved g to end ends on)) (follows_moved g to end ends on))
     stmt_follows (if_then_else x s u p) k go at n to ops is e rest on =
@@ -192,17 +223,21 @@ module _ (g : Program) (checked : IsChecked g) where
         let test_is = head g (JF other) p.line (yes_code ++ last) second in
         let jump_is = head g (JMP end) p.line no_code fourth in
         let ends : to ≡ end = (let whole = ends_behind at to test after e in omega (arith, length-append yes_code last)) in
-        let yes_at : StmtAt g (mid + 1) n (length ops) s = record { typed = is.typed.1; texts = texts_front g n (strings_in g.env s) (strings_in g.env u) is.texts; code = front g yes_code last third } in
-        let no_at : StmtAt g other m (length ops) u = record { typed = is.typed.2; texts = texts_back g n (strings_in g.env s) (strings_in g.env u) is.texts; code = fifth } in
+        let yes_at : StmtAt g (mid + 1) n (length ops) s =
+        record { typed = is.typed.1; texts = texts_front g n (strings_in g.env s) (strings_in g.env u) is.texts; code = front g yes_code last third } in
+        let no_at : StmtAt g other m (length ops) u =
+        record { typed = is.typed.2; texts = texts_back g n (strings_in g.env s) (strings_in g.env u) is.texts; code = fifth } in
         let left = rest_moved g to end ops k ends rest in
         let up : mid < other = omega arith in
         let jump_up : y < end = omega arith in
         let left_yes = rest_jumped g k y end ops p.line jump_is jump_up left in
         let on_end = follows_moved g to end ends on in
-        number_follows g checked p.line x (choose s u k) (λ v. if is_true v then from_stmt g.env s k go else from_stmt g.env u k go) at mid ops is.typed.0 (front g test after is.code) refl
+        number_follows g checked p.line x (choose s u k) (λ v. if is_true v then
+        from_stmt g.env s k go else from_stmt g.env u k go) at mid ops is.typed.0 (front g test after is.code) refl
         (other, test_is, up, (n, yes_at, left_yes), (m, no_at, left))
         (λ v. test_move g v (from_stmt g.env s k go) (from_stmt g.env u k go) mid ops other p.line test_is up (room_for g third)
-        (stmt_follows s k go (mid + 1) n y ops yes_at refl left_yes (move g y ops (JMP end) p.line end ops jump_is (fits (JMP end) ops (omega arith) tt) refl jump_up (room_for g fifth) on_end))
+        (stmt_follows s k go (mid + 1) n y ops yes_at refl left_yes (move g y ops (JMP end) p.line end ops jump_is
+        (fits (JMP end) ops (omega arith) tt) refl jump_up (room_for g fifth) on_end))
         (stmt_follows u k go other m end ops no_at refl left on_end))
     stmt_follows (case_of x arms last p) k go at n to ops is e rest on =
         let c = context g.env p.line in
@@ -221,11 +256,19 @@ module _ (g : Program) (checked : IsChecked g) where
         let tests_are = tests_length c first n arms in
         let arms_are = arms_length c first n end arms in
         let from : mid + length (tests ++ one c CERR) ≡ first = omega (arith, length-append tests (one c CERR)) in
-        let ends : to ≡ end = (let all = ends_behind at to value (tests ++ (one c CERR ++ inner)) e in omega (arith, length-append tests (one c CERR ++ inner))) in
+        let ends : to ≡ end =
+        (let all = ends_behind at to value (tests ++ (one c CERR ++ inner)) e in omega (arith, length-append tests (one c CERR ++ inner))) in
         let arms_at : ArmsAt g p.line mid first n end (length ops) arms =
-        record { typed = is.typed.1; texts = is.texts; tests_stand = front g (tests ++ one c CERR) inner whole; arms_stand = stands_moved g first from arms_end } in
+        record {
+          typed = is.typed.1;
+          texts = is.texts;
+          tests_stand = front g (tests ++ one c CERR) inner whole;
+          arms_stand =
+              stands_moved g first from arms_end;
+        } in
         let left = rest_moved g to end ops k ends rest in
-        number_follows g checked p.line x (choose_arm arms k) (λ v. from_arms c v arms k go) at mid ops is.typed.0 (front g value (tests ++ (one c CERR ++ inner)) is.code) refl
+        number_follows g checked p.line x (choose_arm arms k) (λ v. from_arms c v arms k go) at mid ops is.typed.0
+        (front g value (tests ++ (one c CERR ++ inner)) is.code) refl
         (n, (arms_at, left))
         (λ v. arms_follow arms p.line v k go n mid first end ops arms_at (omega arith) refl left (follows_moved g to end ends on))
     stmt_follows (while_do x s p) k go at n to ops is e rest on =
@@ -233,9 +276,11 @@ module _ (g : Program) (checked : IsChecked g) where
         let test = expr_code (context g.env p.line) x in
         let whole = rest_moved g to (at + length (stmt_code g.env at n loop)) ops k (sym e) rest in
         let on_end = follows_moved g to (at + length (stmt_code g.env at n loop)) (sym e) on in
-        number_follows g checked p.line x (while_true x s p k) (λ v. if is_true v then from_stmt g.env s (turn loop k) (turns p.line (again loop k)) else go) at (at + length test) ops is.typed.0 (front g test _ is.code) refl
+        number_follows g checked p.line x (while_true x s p k) (λ v. if is_true v then from_stmt g.env s (turn loop k) (turns p.line (again loop k)) else go) at
+        (at + length test) ops is.typed.0 (front g test _ is.code) refl
         (at, n, is, refl, whole)
-        (λ v. while_tested x s p k go at n ops v is whole on_end (λ inner then_go from m end inner_is end_is left after. stmt_follows s inner then_go from m end ops inner_is end_is left after))
+        (λ v. while_tested x s p k go at n ops v is whole on_end
+        (λ inner then_go from m end inner_is end_is left after. stmt_follows s inner then_go from m end ops inner_is end_is left after))
     stmt_follows (repeat_until ss x p) k go at n to ops is e rest on =
         let loop = repeat_until ss x p in
         let code = stmts_code g.env at n ss in
@@ -272,7 +317,8 @@ module _ (g : Program) (checked : IsChecked g) where
         let third = back g from others (suc (suc (length ops))) (numeric_held g checked p.line a (suc (length ops)) is.typed.1) second in
         let ends : mid + length others ≡ to = omega (arith, length-append from others) in
         address_move g at ops d p.line (head g (ADDR 0 d) p.line (from ++ others) is.code) (room_for g second)
-        (number_follows g checked p.line a (count_from l down b s k) (λ v. from_expr c b (count_to l v down s k) (λ m. from_bounds (counting p.line l v m down s) k go)) (at + 1) mid (w ∷ ops) is.typed.1 (front g from others second) refl
+        (number_follows g checked p.line a (count_from l down b s k) (λ v. from_expr c b (count_to l v down s k)
+        (λ m. from_bounds (counting p.line l v m down s) k go)) (at + 1) mid (w ∷ ops) is.typed.1 (front g from others second) refl
         (n, w, ops, refl, lies, is.typed.2, is.typed.3, is.texts, (third, rest_moved g to (mid + length others) ops k (sym ends) rest))
         (λ v. second_follows g checked p.line l v w down b s k go mid n to ops lies is.typed.2 is.typed.3 is.texts third ends rest on))
     stmt_follows (assign d x p q) k go at n to ops is e rest on = assign_follows p.line d x k go at to ops is.typed is.code e rest
@@ -289,7 +335,8 @@ module _ (g : Program) (checked : IsChecked g) where
 
     pub stmts_follow :
         (ss : StmtTrees) (k : Rest) (go : Next) (at n to : ℕ) (ops : List ℤ)
-        → StmtsAt g at n (length ops) ss → at + length (stmts_code g.env at n ss) ≡ to → RestAt g to ops k → Follows g go to ops → Follows g (from_stmts g.env ss k go) at ops
+        → StmtsAt g at n (length ops) ss → at + length (stmts_code g.env at n ss) ≡ to → RestAt g to ops k → Follows g go to ops →
+        Follows g (from_stmts g.env ss k go) at ops
     stmts_follow no_stmts k go at n to ops is e rest on = follows_moved g to at (sym e ∙ omega arith) on
     stmts_follow (more_stmts s ss) k go at n to ops is e rest on =
         let first = stmt_code g.env at n s in
@@ -298,8 +345,13 @@ module _ (g : Program) (checked : IsChecked g) where
         let others = stmts_code g.env mid m ss in
         let behind = back g first others (length ops) (held_stmt g checked s at n (length ops) is.typed.0) is.code in
         let ends : mid + length others ≡ to = ends_behind at to first others e in
-        let one_at : StmtAt g at n (length ops) s = record { typed = is.typed.0; texts = texts_front g n (strings_in g.env s) (strings_of g.env ss) is.texts; code = front g first others is.code } in
-        let others_at : StmtsAt g mid m (length ops) ss = record { typed = is.typed.1; texts = texts_back g n (strings_in g.env s) (strings_of g.env ss) is.texts; code = behind } in
+        let one_at : StmtAt g at n (length ops) s = record {
+          typed = is.typed.0;
+          texts = texts_front g n (strings_in g.env s) (strings_of g.env ss) is.texts;
+          code = front g first others is.code;
+        } in
+        let others_at : StmtsAt g mid m (length ops) ss =
+        record { typed = is.typed.1; texts = texts_back g n (strings_in g.env s) (strings_of g.env ss) is.texts; code = behind } in
         stmt_follows s (perform ss k) (from_stmts g.env ss k go) at n mid ops one_at refl
         (mid, arrived mid, (m, others_at, rest_moved g to (mid + length others) ops k (sym ends) rest))
         (stmts_follow ss k go mid m to ops others_at ends rest on)
@@ -308,7 +360,8 @@ module _ (g : Program) (checked : IsChecked g) where
         (arms : ArmTrees) (line : ℕ) (v : ℤ) (k : Rest) (go : Next) (n tests first end : ℕ) (ops : List ℤ)
         → ArmsAt g line tests first n end (length ops) arms → tests + label_count arms < first → end ≡ first + arms_size (context g.env line) first n arms
         → RestAt g end ops k → Follows g go end ops → Follows g (from_arms (context g.env line) v arms k go) tests (v ∷ ops)
-    arms_follow no_arms line v k go n tests first end ops is below e rest on = arrives tests (v ∷ ops) (of_operands CERR (head g CERR line [] is.tests_stand) (fits CERR (v ∷ ops) (omega arith) tt) refl)
+    arms_follow no_arms line v k go n tests first end ops is below e rest on =
+        arrives tests (v ∷ ops) (of_operands CERR (head g CERR line [] is.tests_stand) (fits CERR (v ∷ ops) (omega arith) tt) refl)
     arms_follow (more_arms (arm ls s) arms) line v k go n tests first end ops is below e rest on =
         let c = context g.env line in
         let labels = labels_code c first ls in
@@ -329,8 +382,22 @@ module _ (g : Program) (checked : IsChecked g) where
         let third = tail g (JMP end) line other_arms (length ops) (omega arith) second in
         let jump_is = head g (JMP end) line other_arms second in
         let up : y < end = omega arith in
-        let inner_at : StmtAt g first n (length ops) s = record { typed = is.typed.1; texts = texts_front g n (strings_in g.env s) (arms_strings g.env arms) is.texts; code = front g inner ((JMP end, line) ∷ other_arms) is.arms_stand } in
-        let arms_at : ArmsAt g line (tests + length labels) (y + 1) m end (length ops) arms = record { typed = is.typed.2; texts = texts_back g n (strings_in g.env s) (arms_strings g.env arms) is.texts; tests_stand = tests_behind; arms_stand = third } in
-        labels_follow g line ls v first tests (suc (length ops)) ops (from_stmt g.env s k go) (from_arms c v arms k go) is.typed.0 (room_for g is.tests_stand) (front g labels (other_tests ++ one c CERR) whole) (omega arith)
-        (stmt_follows s k go first n y ops inner_at refl (rest_jumped g k y end ops line jump_is up rest) (move g y ops (JMP end) line end ops jump_is (fits (JMP end) ops (omega arith) tt) refl up (room_for g third) on))
+        let inner_at : StmtAt g first n (length ops) s =
+        record {
+          typed = is.typed.1;
+          texts = texts_front g n (strings_in g.env s) (arms_strings g.env arms) is.texts;
+          code =
+              front g inner ((JMP end, line) ∷ other_arms) is.arms_stand;
+        } in
+        let arms_at : ArmsAt g line (tests + length labels) (y + 1) m end (length ops) arms =
+        record {
+          typed = is.typed.2;
+          texts = texts_back g n (strings_in g.env s) (arms_strings g.env arms) is.texts;
+          tests_stand = tests_behind;
+          arms_stand = third;
+        } in
+        labels_follow g line ls v first tests (suc (length ops)) ops (from_stmt g.env s k go) (from_arms c v arms k go) is.typed.0 (room_for g is.tests_stand)
+        (front g labels (other_tests ++ one c CERR) whole) (omega arith)
+        (stmt_follows s k go first n y ops inner_at refl (rest_jumped g k y end ops line jump_is up rest) (move g y ops (JMP end) line end ops jump_is
+        (fits (JMP end) ops (omega arith) tt) refl up (room_for g third) on))
         (arms_follow arms line v k go m (tests + length labels) (y + 1) end ops arms_at count ends rest on)

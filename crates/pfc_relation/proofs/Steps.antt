@@ -22,7 +22,8 @@ module _ (g : Program) where
       record {
         cell = lies.cell + nat_abs (i -ℤ low) * cells_in (forms_of g) element;
         lies = element_lies (forms_of g) (names_of g) l t over element low high lies.cell (nat_abs (i -ℤ low)) lies.lies form (within_extent low high i within);
-        word = ap (λ x. element_word low (cells_in (forms_of g) element) i x) lies.word ∙ element_word_is low high i (cells_in (forms_of g) element) (g.start + lies.cell) within ∙ ap pos (omega arith);
+        word = ap (λ x. element_word low (cells_in (forms_of g) element) i x) lies.word ∙
+            element_word_is low high i (cells_in (forms_of g) element) (g.start + lies.cell) within ∙ ap pos (omega arith);
       }
 
   pub field_kept :

@@ -113,14 +113,17 @@ some_alike a b e = cc
 step_into : {A : Type 0} (x : A) (xs : List A) (i : ℕ) → slice_get (x ∷ xs) (1 + i) ≡ slice_get xs i
 step_into x xs i = let e : 1 + i ≡ suc i = omega arith in ap (λ k. slice_get (x ∷ xs) k) e
 
-field_found : (test : Text → Bool) (fields : FieldList) (v : TypeId) → lookup test fields ≡ Some v → (name : Text) × (slice_get fields (position_or_len test (keys_of fields)) ≡ Some (name, v)) × (position_or_len test (keys_of fields) < length (keys_of fields))
+field_found : (test : Text → Bool) (fields : FieldList) (v : TypeId) → lookup test fields ≡ Some v → (name : Text) ×
+    (slice_get fields (position_or_len test (keys_of fields)) ≡ Some (name, v)) × (position_or_len test (keys_of fields) < length (keys_of fields))
 field_found test [] v h = none_is_some v h
 field_found test (f ∷ fields) v h = by (test f.0) h (field_found test fields v)
   where
     by :
         (b : Bool) → cond b (Some f.1) (lookup test fields) ≡ Some v
-        → (lookup test fields ≡ Some v → (name : Text) × (slice_get fields (position_or_len test (keys_of fields)) ≡ Some (name, v)) × (position_or_len test (keys_of fields) < length (keys_of fields)))
-        → (name : Text) × (slice_get (f ∷ fields) (cond (not b) (1 + position_or_len test (keys_of fields)) 0) ≡ Some (name, v)) × (cond (not b) (1 + position_or_len test (keys_of fields)) 0 < length (keys_of (f ∷ fields)))
+        → (lookup test fields ≡ Some v → (name : Text) × (slice_get fields (position_or_len test (keys_of fields)) ≡ Some (name, v)) ×
+        (position_or_len test (keys_of fields) < length (keys_of fields)))
+        → (name : Text) × (slice_get (f ∷ fields) (cond (not b) (1 + position_or_len test (keys_of fields)) 0) ≡ Some (name, v)) ×
+        (cond (not b) (1 + position_or_len test (keys_of fields)) 0 < length (keys_of (f ∷ fields)))
     by true e ih = (f.0, ap (λ (t : TypeId). Some (f.0, t)) (some_alike f.1 v e), omega arith)
     by false e ih = let found = ih e in (found.0, step_into f fields (position_or_len test (keys_of fields)) ∙ found.1, (let below = found.2 in omega arith))
 
@@ -132,7 +135,19 @@ is_field forms (Some t) x v h = by (form_of forms t) refl h
     by (Some (Record fields)) e h =
         let found = field_found (bytes_eq x) fields v h in
         let k = position_or_len (bytes_eq x) (keys_of fields) in
-        record { whole = t; fields = fields; place = k; name = found.0; part = v; typed = refl; form = e; position = ap (λ (b : Bool). cond b (Some k) None) (below_test k (length (keys_of fields)) found.2); held = found.1; named = h }
+        record {
+          whole = t;
+          fields = fields;
+          place = k;
+          name = found.0;
+          part = v;
+          typed = refl;
+          form = e;
+          position =
+              ap (λ (b : Bool). cond b (Some k) None) (below_test k (length (keys_of fields)) found.2);
+          held = found.1;
+          named = h;
+        }
     by None e h = none_is_some v h
     by (Some (Channel u)) e h = none_is_some v h
     by (Some (Array over low high element)) e h = none_is_some v h
@@ -141,11 +156,13 @@ is_field forms (Some t) x v h = by (form_of forms t) refl h
 -- ## Selectors
 
 -- an index of an array that gives an element
-is_array : (forms : Forms) (t i : Option TypeId) (v : TypeId) → IsSound forms → indexed_type forms t i ≡ Some v → IsArray forms t × (has_simple i ≡ true) × (element_type forms t ≡ Some v)
+is_array : (forms : Forms) (t i : Option TypeId) (v : TypeId) → IsSound forms → indexed_type forms t i ≡ Some v → IsArray forms t ×
+    (has_simple i ≡ true) × (element_type forms t ≡ Some v)
 is_array forms None i v sound h = none_is_some v h
 is_array forms (Some t) i v sound h = by (form_of forms t) refl h
   where
-    by : (form : Option TypeForm) → form_of forms t ≡ form → element_of (array_form form) i ≡ Some v → IsArray forms (Some t) × (has_simple i ≡ true) × (element_type forms (Some t) ≡ Some v)
+    by : (form : Option TypeForm) → form_of forms t ≡ form → element_of (array_form form) i ≡ Some v → IsArray forms (Some t) ×
+        (has_simple i ≡ true) × (element_type forms (Some t) ≡ Some v)
     by (Some (Array over low high element)) e h =
         let so = some_so (has over i) element v h in
         let simple = both_left (is_simple over) _ (sound.bounds t (Array over low high element) e) in (
@@ -200,8 +217,28 @@ ArePlain [] = Unit {0}
 ArePlain (r ∷ rs) = IsPlain r × ArePlain rs
 
 routines_are_plain : ArePlain routines
-routines_are_plain =
-    (tt, (inl refl, (inl refl, (inl refl, (inl refl, (inl refl, (inl refl, (inl refl, (inl refl, (inl refl, (inr (refl, refl), (inl refl, (inl refl, (tt, (tt, (tt, (tt, (tt, (tt, (tt, (tt, (tt, (tt, tt)))))))))))))))))))))))
+routines_are_plain = (
+  tt,
+  (
+    inl refl,
+    (
+      inl refl,
+      (
+        inl refl,
+        (
+          inl refl,
+          (
+            inl refl,
+            (
+              inl refl,
+              (inl refl, (inl refl, (inl refl, (inr (refl, refl), (inl refl, (inl refl, (tt, (tt, (tt, (tt, (tt, (tt, (tt, (tt, (tt, (tt, tt)))))))))))))))),
+            ),
+          ),
+        ),
+      ),
+    ),
+  ),
+)
 
 plain_at : (rs : List Routine) → ArePlain rs → (k : ℕ) → IsPlain (get_or rs k the_signal)
 plain_at [] h k = tt
@@ -219,7 +256,8 @@ want_simple forms a_simple_value lent u p h = h
 want_simple forms (a_variable_of t) lent u p h = cc
 
 -- `empty` stands in no main body
-no_condition : (env : Env) (args : ActualTrees) → env.around.sub ≡ false → args_fit env one_condition args ≡ true → site_fits env.around in_monitor_sub (first_type env args) ≡ true → ⊥
+no_condition : (env : Env) (args : ActualTrees) → env.around.sub ≡ false → args_fit env one_condition args ≡ true →
+    site_fits env.around in_monitor_sub (first_type env args) ≡ true → ⊥
 no_condition env no_actuals outside fit site = cc
 no_condition env (more_actuals (actual_width e w) rest) outside fit site = cc
 no_condition env (more_actuals (actual e) rest) outside fit site =
@@ -252,7 +290,8 @@ module _ (env : Env) (outside : env.around.sub ≡ false) where
   call_numeric :
       (r : Routine) → IsPlain r → (args : ActualTrees) (alone : Bool)
       → ((wants : List Want) → list_all plain_want wants ≡ true → args_fit env wants args ≡ true → IsNumericArgument env args)
-      → has_simple (if alone && (args_fit env (called_routine r).wants args && site_fits env.around (called_routine r).site (first_type env args)) then routine_value r (first_type env args) else None) ≡ true
+      → has_simple (if alone && (args_fit env (called_routine r).wants args && site_fits env.around (called_routine r).site (first_type env args)) then
+      routine_value r (first_type env args) else None) ≡ true
       → IsNumericArgument env args
   call_numeric (a_function wants g site) p args alone argument h = by p
     where
@@ -275,7 +314,9 @@ module _ (env : Env) (outside : env.around.sub ≡ false) where
       (m : Meaning) (ss : SelectorTrees) (args : ActualTrees)
       → ((t u : Option TypeId) → selected env t ss ≡ u → has_simple u ≡ true → AreSelectors env t ss × (has_simple (type_selected env.state.forms t ss) ≡ true))
       → ((wants : List Want) → list_all plain_want wants ≡ true → args_fit env wants args ≡ true → IsNumericArgument env args)
-      → has_simple (plain_use env m (no_selector ss) (no_actual args) (selected env (variable_type (Some m)) ss) (args_fit env (called_function env.state.blocks (Some m)).wants args && site_fits env.around (called_function env.state.blocks (Some m)).site (first_type env args)) (first_type env args)) ≡ true
+      → has_simple (plain_use env m (no_selector ss) (no_actual args) (selected env (variable_type (Some m)) ss)
+      (args_fit env (called_function env.state.blocks (Some m)).wants args && site_fits env.around (called_function env.state.blocks (Some m)).site
+      (first_type env args)) (first_type env args)) ≡ true
       → IsNumericUse env.state.forms (Some m) ss (AreSelectors env (variable_type (Some m)) ss) (IsNumericArgument env args)
   meaning_numeric (Variable t r) ss args select argument h =
       select (Some t) (selected env (Some t) ss) refl (if_simple (no_actual args) (selected env (Some t) ss) h).1
@@ -292,10 +333,13 @@ module _ (env : Env) (outside : env.around.sub ≡ false) where
       (found : Option Found) (ss : SelectorTrees) (args : ActualTrees)
       → ((t u : Option TypeId) → selected env t ss ≡ u → has_simple u ≡ true → AreSelectors env t ss × (has_simple (type_selected env.state.forms t ss) ≡ true))
       → ((wants : List Want) → list_all plain_want wants ≡ true → args_fit env wants args ≡ true → IsNumericArgument env args)
-      → has_simple (use_type env found (no_selector ss) (no_actual args) (selected env (variable_type (meaning_of found)) ss) (args_fit env (called_function env.state.blocks (meaning_of found)).wants args && site_fits env.around (called_function env.state.blocks (meaning_of found)).site (first_type env args)) (first_type env args)) ≡ true
+      → has_simple (use_type env found (no_selector ss) (no_actual args) (selected env (variable_type (meaning_of found)) ss)
+      (args_fit env (called_function env.state.blocks (meaning_of found)).wants args && site_fits env.around
+      (called_function env.state.blocks (meaning_of found)).site (first_type env args)) (first_type env args)) ≡ true
       → IsNumericUse env.state.forms (meaning_of found) ss (AreSelectors env (variable_type (meaning_of found)) ss) (IsNumericArgument env args)
   use_numeric None ss args select argument h = tt
-  use_numeric (Some found) ss args select argument h = meaning_numeric found.meaning ss args select argument (if_simple (guard_allows env.around.guard (Some found)) _ h).1
+  use_numeric (Some found) ss args select argument h =
+      meaning_numeric found.meaning ss args select argument (if_simple (guard_allows env.around.guard (Some found)) _ h).1
 
 -- ## Expressions
 
@@ -324,7 +368,8 @@ module _ (env : Env) (outside : env.around.sub ≡ false) (sound : IsSound env.s
         let parts = multipliers_numeric rest (factor_type env f) h in
         (factor_numeric f parts.0, parts.1)
 
-    multipliers_numeric : (rest : MultiplierTrees) (t : Option TypeId) → has_simple (multiplied env t rest) ≡ true → (has_simple t ≡ true) × AreNumericMultipliers env rest
+    multipliers_numeric : (rest : MultiplierTrees) (t : Option TypeId) → has_simple (multiplied env t rest) ≡ true →
+        (has_simple t ≡ true) × AreNumericMultipliers env rest
     multipliers_numeric no_multipliers t h = (h, tt)
     multipliers_numeric (more_multipliers op f rest) t h =
         let parts = multipliers_numeric rest (operated (mul_operand op.0) t (factor_type env f)) h in
@@ -334,7 +379,8 @@ module _ (env : Env) (outside : env.around.sub ≡ false) (sound : IsSound env.s
     factor_numeric : (f : FactorTree) → has_simple (factor_type env f) ≡ true → IsNumericFactor env f
     factor_numeric (number n p) h = tt
     factor_numeric (literal x p) h = tt
-    factor_numeric (negation f p) h = factor_numeric f (has_is_simple boolean refl (factor_type env f) (where_is_so (has boolean (factor_type env f)) boolean h))
+    factor_numeric (negation f p) h =
+        factor_numeric f (has_is_simple boolean refl (factor_type env f) (where_is_so (has boolean (factor_type env f)) boolean h))
     factor_numeric (paren e p) h = expr_numeric e h
     factor_numeric (used (desig x ss q) args p) h =
         use_numeric env outside (find env x) ss args
@@ -349,11 +395,13 @@ module _ (env : Env) (outside : env.around.sub ≡ false) (sound : IsSound env.s
     argument_numeric no_actuals wants p h = tt
     argument_numeric (more_actuals (actual e) rest) [] p h = absurd (never h)
     argument_numeric (more_actuals (actual e) rest) (w ∷ wants) p h =
-        expr_numeric e (want_simple env.state.forms w (is_variable env None e) (expr_type env e) (both_left (plain_want w) _ p) (both_left (fits_want env.state.forms w (is_variable env None e) (expr_type env e)) _ h))
+        expr_numeric e (want_simple env.state.forms w (is_variable env None e) (expr_type env e) (both_left (plain_want w) _ p)
+        (both_left (fits_want env.state.forms w (is_variable env None e) (expr_type env e)) _ h))
     argument_numeric (more_actuals (actual_width e width) rest) [] p h = absurd (never h)
     argument_numeric (more_actuals (actual_width e width) rest) (w ∷ wants) p h = absurd (never h)
 
-    selectors_fit : (ss : SelectorTrees) (t : Option TypeId) (u : TypeId) → selected env t ss ≡ Some u → AreSelectors env t ss × (type_selected env.state.forms t ss ≡ Some u)
+    selectors_fit : (ss : SelectorTrees) (t : Option TypeId) (u : TypeId) → selected env t ss ≡ Some u → AreSelectors env t ss ×
+        (type_selected env.state.forms t ss ≡ Some u)
     selectors_fit no_selectors t u h = (tt, h)
     selectors_fit (more_selectors (index es p) ss) t u h =
         let some = selected_some env ss (indexed env t es) u h in
@@ -365,7 +413,8 @@ module _ (env : Env) (outside : env.around.sub ≡ false) (sound : IsSound env.s
         let behind = selectors_fit ss (field_type env.state.forms t x) u h in
         ((is_field env.state.forms t x some.0 some.1, behind.0), behind.1)
 
-    indices_fit : (es : ExprTrees) (t : Option TypeId) (u : TypeId) → indexed env t es ≡ Some u → AreIndices env t es × (type_behind env.state.forms t es ≡ Some u)
+    indices_fit : (es : ExprTrees) (t : Option TypeId) (u : TypeId) → indexed env t es ≡ Some u → AreIndices env t es ×
+        (type_behind env.state.forms t es ≡ Some u)
     indices_fit no_exprs t u h = (tt, h)
     indices_fit (more_exprs e es) t u h =
         let some = indexed_some env es (indexed_type env.state.forms t (expr_type env e)) u h in
@@ -380,5 +429,6 @@ module _ (env : Env) (outside : env.around.sub ≡ false) (sound : IsSound env.s
   pub number_is_numeric : (e : ExprTree) → IsNumber env e → IsNumeric env e
   number_is_numeric e h = numeric e h.t h.typed h.simple
 
-  pub selectors_are : (ss : SelectorTrees) (t : Option TypeId) (u : TypeId) → selected env t ss ≡ Some u → AreSelectors env t ss × (type_selected env.state.forms t ss ≡ Some u)
+  pub selectors_are : (ss : SelectorTrees) (t : Option TypeId) (u : TypeId) → selected env t ss ≡ Some u → AreSelectors env t ss ×
+      (type_selected env.state.forms t ss ≡ Some u)
   selectors_are ss t u h = selectors_fit ss t u h

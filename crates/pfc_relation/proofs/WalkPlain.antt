@@ -90,7 +90,8 @@ declare_plain s x m P h plain name p = by (is_some (meaning_in (scope_at s.block
     by false = (
       record {
         types = λ j y.
-            scope_set s.blocks.scopes 0 j (scope_at s.blocks.scopes 0 ++ (x.0, m) ∷ []) (λ (names : Names). IsPlainType s.forms (meaning_in names y)) (h.types j y)
+            scope_set s.blocks.scopes 0 j (scope_at s.blocks.scopes 0 ++ (x.0, m) ∷ [])
+            (λ (names : Names). IsPlainType s.forms (meaning_in names y)) (h.types j y)
             (name_pushed (scope_at s.blocks.scopes 0) x.0 y m (IsPlainType s.forms) (h.types 0 y) plain);
         names =
             scope_set s.blocks.scopes 0 0 (scope_at s.blocks.scopes 0 ++ (x.0, m) ∷ []) (ArePlainNames s.forms) h.names
@@ -114,7 +115,8 @@ or-right : (a b : Bool) → (a || b) ≡ false → b ≡ false
 or-right true b e = absurd (cc)
 or-right false b e = e
 
-known_plain : (forms : Forms) (x : Text) → is_unbuilt_type x ≡ false → (e : Text × Meaning) → is_known e ≡ true → bytes_eq x e.0 ≡ true → IsPlainType forms (Some e.1)
+known_plain : (forms : Forms) (x : Text) → is_unbuilt_type x ≡ false → (e : Text × Meaning) → is_known e ≡ true →
+    bytes_eq x e.0 ≡ true → IsPlainType forms (Some e.1)
 known_plain forms x built (y, Named t) known same = plain_simple t (by (is_simple t) known)
   where
     unbuilt : is_unbuilt_type y ≡ false
@@ -160,7 +162,8 @@ added_plain s (Some form) p h of = by (refusal_of s.forms form)
     by None =
         record {
           all = add_form_plain s form h;
-          plain = of (s.forms ++ Some form ∷ []) (record { place = length s.forms }) (begins_push s.forms (Some form ∷ [])) (get_or_push s.forms (Some form) None (length s.forms) refl);
+          plain = of (s.forms ++ Some form ∷ []) (record { place = length s.forms }) (begins_push s.forms (Some form ∷ []))
+              (get_or_push s.forms (Some form) None (length s.forms) refl);
         }
     by (Some Bounds) = record { all = h; plain = tt }
     by (Some Cells) = record { all = note_plain s (unless false p 304) h; plain = tt }
@@ -175,7 +178,8 @@ arrays_plain : (m : Made) (rs : List (Option Extent)) (p : Place) → IsMadePlai
 arrays_plain m [] p h = h
 arrays_plain m (r ∷ rs) p h =
     let inner = arrays_plain m rs p h in
-    added_plain (made_arrays m rs p).state (array_of r (made_arrays m rs p).t) p inner.all (array_of_plain (made_arrays m rs p).state.forms r (made_arrays m rs p).t inner.plain)
+    added_plain (made_arrays m rs p).state (array_of r (made_arrays m rs p).t) p inner.all
+    (array_of_plain (made_arrays m rs p).state.forms r (made_arrays m rs p).t inner.plain)
 
 -- the fields of a record so far are of plain types
 record AreMadePlain (r : MadeFields) : Type 0 where
@@ -183,7 +187,8 @@ record AreMadePlain (r : MadeFields) : Type 0 where
   plain : ArePlain r.state.forms r.list
 
 -- the table stays as it is while names of fields are listed
-field_plain : (t : TypeId) (r : MadeFields) (x : Text × Place) → AreMadePlain r → IsPlain r.state.forms t → AreMadePlain (made_field t r x) × IsPlain (made_field t r x).state.forms t
+field_plain : (t : TypeId) (r : MadeFields) (x : Text × Place) → AreMadePlain r → IsPlain r.state.forms t → AreMadePlain (made_field t r x) ×
+    IsPlain (made_field t r x).state.forms t
 field_plain t r x h plain = by (is_some (type_named r.list x.0))
   where
     next : Bool → MadeFields
@@ -214,7 +219,9 @@ mutual
   type_plain s view (named x p) h built =
       record {
         all = note_plain s (type_name_rules false (look s.blocks.scopes view x) p) h;
-        plain = subst (λ (forms : Forms). MayBePlain forms (named_type false (look s.blocks.scopes view x))) (sym (note_forms s (type_name_rules false (look s.blocks.scopes view x) p))) (named_plain s.forms false (look s.blocks.scopes view x) (look_plain s h view x built));
+        plain = subst (λ (forms : Forms). MayBePlain forms (named_type false (look s.blocks.scopes view x)))
+            (sym (note_forms s (type_name_rules false (look s.blocks.scopes view x) p)))
+            (named_plain s.forms false (look s.blocks.scopes view x) (look_plain s h view x built));
       }
   type_plain s view (channel t p) h built = absurd (cc)
   type_plain s view (array rs t p) h built =
@@ -222,7 +229,8 @@ mutual
       (type_plain (note s (broken_ranges s.blocks.scopes view rs)) view t (note_plain s (broken_ranges s.blocks.scopes view rs) h) built)
   type_plain s view (fields vs last p) h built =
       let r = items_plain view (fields_begun s) vs (record { all = h; plain = plain_none }) built in
-      added_plain (made_items view (fields_begun s) vs).state (record_form (made_items view (fields_begun s) vs)) p r.all (record_of_plain (made_items view (fields_begun s) vs) r)
+      added_plain (made_items view (fields_begun s) vs).state (record_form (made_items view (fields_begun s) vs)) p r.all
+      (record_of_plain (made_items view (fields_begun s) vs) r)
 
   items_plain : (view : List Level) (r : MadeFields) (vs : VarTrees) → AreMadePlain r → vars_unbuilt vs ≡ false → AreMadePlain (made_items view r vs)
   items_plain view r no_vars h built = h
@@ -244,7 +252,8 @@ types_name : (forms : Forms) (t : Option TypeId) → MayBePlain forms t → IsPl
 types_name forms None h = (tt, refl)
 types_name forms (Some t) h = (h, refl)
 
-variables_name : (forms : Forms) (t : Option TypeId) → MayBePlain forms t → IsPlainType forms (Some (variable_meaning false t)) × IsPlainName forms (variable_meaning false t)
+variables_name : (forms : Forms) (t : Option TypeId) → MayBePlain forms t → IsPlainType forms (Some (variable_meaning false t)) ×
+    IsPlainName forms (variable_meaning false t)
 variables_name forms None h = (tt, refl)
 variables_name forms (Some t) h = (tt, h)
 
@@ -255,7 +264,8 @@ consts_plain s (c ∷ cs) h =
     let noted : State = note s (broken_constant s.blocks.scopes view c.value) in
     let m : Meaning = constant_meaning (constant_value s.blocks.scopes view c.value) in
     let fits = constants_name noted.forms (constant_value s.blocks.scopes view c.value) in
-    consts_plain (const_state s 0 [] c) cs (declare_plain noted (c.name, c.place) m (λ forms. Unit {0}) (note_plain s (broken_constant s.blocks.scopes view c.value) h) fits.0 fits.1 tt).0
+    consts_plain (const_state s 0 [] c) cs (declare_plain noted (c.name, c.place) m (λ forms. Unit {0})
+    (note_plain s (broken_constant s.blocks.scopes view c.value) h) fits.0 fits.1 tt).0
 
 types_plain : (s : State) (ds : List TypeItemTree) → AllPlain s → items_unbuilt ds ≡ false → AllPlain (types_state s 0 [] ds)
 types_plain s [] h built = h
@@ -271,7 +281,8 @@ population_plain : (s : State) (n : ℕ) → AllPlain s → AllPlain (set_popula
 population_plain s n h = record { types = h.types; names = h.names }
 
 -- a variable is declared, and its type is plain as before
-var_name_plain : (s : State) (t : Option TypeId) (x : Text × Place) → AllPlain s → MayBePlain s.forms t → AllPlain (var_name_state s 0 t x) × MayBePlain (var_name_state s 0 t x).forms t
+var_name_plain : (s : State) (t : Option TypeId) (x : Text × Place) → AllPlain s → MayBePlain s.forms t → AllPlain (var_name_state s 0 t x) ×
+    MayBePlain (var_name_state s 0 t x).forms t
 var_name_plain s t x h plain = by (is_some (meaning_in (scope_at s.blocks.scopes 0) x.0))
   where
     next : Bool → State
@@ -285,11 +296,13 @@ var_name_plain s t x h plain = by (is_some (meaning_in (scope_at s.blocks.scopes
 
     populate : (b : Bool) → AllPlain (next b) × MayBePlain (next b).forms t
     populate true =
-        declare_plain (note (set_population s (most_processes (s.blocks.population + brought s.forms t))) (unless false x.1 424)) x Faulty (λ forms. MayBePlain forms t)
+        declare_plain (note (set_population s (most_processes (s.blocks.population + brought s.forms t)))
+        (unless false x.1 424)) x Faulty (λ forms. MayBePlain forms t)
         (note_plain (set_population s (most_processes (s.blocks.population + brought s.forms t))) (unless false x.1 424) counted) tt refl plain
     populate false =
         let fits = variables_name s.forms t plain in
-        declare_plain (set_population s (most_processes (s.blocks.population + brought s.forms t))) x (variable_meaning false t) (λ forms. MayBePlain forms t) counted fits.0 fits.1 plain
+        declare_plain (set_population s (most_processes (s.blocks.population + brought s.forms t))) x (variable_meaning false t)
+        (λ forms. MayBePlain forms t) counted fits.0 fits.1 plain
 
     after : Bool → State
     after b = if b then declare s 0 x Faulty else populated s 0 (brought s.forms t) x (variable_meaning false t)
@@ -320,7 +333,8 @@ vars_plain owner s (more_vars (var_item xs t) vs) h built =
     let fs : Faults = owner_rules owner made_state.forms made_type (type_place t) in
     vars_plain owner (var_state owner s 0 [] (var_item xs t)) vs
     (var_names_plain (note made_state fs) (owned_type owner made_state.forms made_type) xs (note_plain made_state fs m.all)
-    (subst (λ (forms : Forms). MayBePlain forms (owned_type owner made_state.forms made_type)) (sym (note_forms made_state fs)) (owned_plain owner made_state.forms made_type m.plain)))
+    (subst (λ (forms : Forms). MayBePlain forms (owned_type owner made_state.forms made_type)) (sym (note_forms made_state fs))
+    (owned_plain owner made_state.forms made_type m.plain)))
     (or-right (type_unbuilt t) (vars_unbuilt vs) built)
 
 part_plain : (s : State) (q : PartTree) → AllPlain s → part_unbuilt q ≡ false → AllPlain (part_state in_program s 0 [] q)
@@ -334,12 +348,17 @@ part_plain s (process_part q) h built = absurd (cc)
 
 parts_plain : (s : State) (qs : PartTrees) → AllPlain s → parts_unbuilt qs ≡ false → AllPlain (parts_state in_program s 0 [] qs)
 parts_plain s no_parts h built = h
-parts_plain s (more_parts q qs) h built = parts_plain (part_state in_program s 0 [] q) qs (part_plain s q h (or-left (part_unbuilt q) (parts_unbuilt qs) built)) (or-right (part_unbuilt q) (parts_unbuilt qs) built)
+parts_plain s (more_parts q qs) h built = parts_plain (part_state in_program s 0 [] q) qs (part_plain s q h (or-left (part_unbuilt q) (parts_unbuilt qs) built))
+    (or-right (part_unbuilt q) (parts_unbuilt qs) built)
 
 -- ## The whole
 
 begun_plain : AllPlain begun
-begun_plain = record { types = λ i x. scope_pushed no_blocks.scopes i (λ (names : Names). IsPlainType predeclared_forms (meaning_in names x)) tt tt; names = tt }
+begun_plain = record {
+  types = λ i x. scope_pushed no_blocks.scopes i (λ (names : Names). IsPlainType predeclared_forms (meaning_in names x)) tt tt;
+  names =
+      tt;
+}
 
 -- each name of main's block holds numbers alone, in a tree that holds nothing that is not built
 pub names_are_plain : (t : ProgramTree) → unbuilt t ≡ false → ArePlainNames (types_of t) (scope_at (scopes_of t).scopes 0)
@@ -351,10 +370,12 @@ names_are_plain t built =
     let noted = note_kept (declared_all t) (cells_rule (main_cells (declared_all t)) t.name.1) in
     let counted = program_walked t in
     names_later s.forms (types_of t) (scope_at (scopes_of t).scopes 0) (begins_trans s.forms (declared_all t).forms (types_of t) opened.forms noted.forms)
-    (subst (λ (names : Names). ArePlainNames s.forms names) (sym (ap (λ l. scope_at l 0) noted.scopes ∙ opened.others 0 (omega (arith, counted.count)))) parts.names)
+    (subst (λ (names : Names). ArePlainNames s.forms names) (sym (ap (λ l. scope_at l 0) noted.scopes ∙
+    opened.others 0 (omega (arith, counted.count)))) parts.names)
 
 -- so the cells of its main's block are zeros at the start
 pub main_starts :
     (t : ProgramTree) → unbuilt t ≡ false
-    → AreCells (types_of t) (scope_at (scopes_of t).scopes 0) (fresh (types_of t) (scope_at (scopes_of t).scopes 0)) (replicate (scope_cells (types_of t) (scope_at (scopes_of t).scopes 0)) (pos 0))
+    → AreCells (types_of t) (scope_at (scopes_of t).scopes 0) (fresh (types_of t) (scope_at (scopes_of t).scopes 0))
+    (replicate (scope_cells (types_of t) (scope_at (scopes_of t).scopes 0)) (pos 0))
 main_starts t built = start_cells (types_of t) (types_built t) (scope_at (scopes_of t).scopes 0) (names_are_plain t built)

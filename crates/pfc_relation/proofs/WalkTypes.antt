@@ -56,7 +56,8 @@ placed_grown : (forms more : Forms) (m : Option Meaning) → IsPlaced forms m �
 placed_grown forms more (Some (Named t)) h = omega (arith, h, length-append forms more)
 placed_grown forms more m h = tt
 
-form_pushed : (forms : Forms) (f : TypeForm) (n : ℕ) (form : TypeForm) → get_or (forms ++ Some f ∷ []) n None ≡ Some form → (get_or forms n None ≡ Some form) ⊎ ((n ≡ length forms) × (f ≡ form))
+form_pushed : (forms : Forms) (f : TypeForm) (n : ℕ) (form : TypeForm) → get_or (forms ++ Some f ∷ []) n None ≡ Some form →
+    (get_or forms n None ≡ Some form) ⊎ ((n ≡ length forms) × (f ≡ form))
 form_pushed [] f zero form e = let same : f ≡ form = cc in inr (refl, same)
 form_pushed [] f (suc n) form e = absurd (cc)
 form_pushed (g ∷ forms) f zero form e = inl e
@@ -114,7 +115,11 @@ scope_pushed (names ∷ scopes) (suc i) P h empty = scope_pushed scopes i P h em
 
 -- a scope that is opened is empty
 pub open_holds : (s : State) → Holds s → Holds (open_scope s)
-open_holds s h = record { built = h.built; placed = λ i x. scope_pushed s.blocks.scopes i (λ (names : Names). IsPlaced s.forms (meaning_in names x)) (h.placed i x) tt }
+open_holds s h = record {
+  built = h.built;
+  placed =
+      λ i x. scope_pushed s.blocks.scopes i (λ (names : Names). IsPlaced s.forms (meaning_in names x)) (h.placed i x) tt;
+}
 
 -- what is true of a scope and of what is written there is true of the scope behind the write
 pub scope_set : (scopes : List Names) (i j : ℕ) (names : Names) (P : Names → Type 0) → P (scope_at scopes j) → P names → P (scope_at (set scopes i names) j)
@@ -125,7 +130,8 @@ scope_set (others ∷ scopes) (suc i) zero names P h k = h
 scope_set (others ∷ scopes) (suc i) (suc j) names P h k = scope_set scopes i j names P h k
 
 -- a name more at the end of a scope
-pub name_pushed : (names : Names) (x y : Text) (m : Meaning) (P : Option Meaning → Type 0) → P (meaning_in names y) → P (Some m) → P (meaning_in (names ++ (x, m) ∷ []) y)
+pub name_pushed : (names : Names) (x y : Text) (m : Meaning) (P : Option Meaning → Type 0) → P (meaning_in names y) → P (Some m) →
+    P (meaning_in (names ++ (x, m) ∷ []) y)
 name_pushed [] x y m P h k = by (bytes_eq y x)
   where
     by : (b : Bool) → P (cond b (Some m) None)
@@ -133,7 +139,8 @@ name_pushed [] x y m P h k = by (bytes_eq y x)
     by false = h
 name_pushed (e ∷ names) x y m P h k = by (bytes_eq y e.0) h (λ g. name_pushed names x y m P g k)
   where
-    by : (b : Bool) → P (cond b (Some e.1) (meaning_in names y)) → (P (meaning_in names y) → P (meaning_in (names ++ (x, m) ∷ []) y)) → P (cond b (Some e.1) (meaning_in (names ++ (x, m) ∷ []) y))
+    by : (b : Bool) → P (cond b (Some e.1) (meaning_in names y)) → (P (meaning_in names y) → P (meaning_in (names ++ (x, m) ∷ []) y)) →
+        P (cond b (Some e.1) (meaning_in (names ++ (x, m) ∷ []) y))
     by true g others = g
     by false g others = others g
 
@@ -147,7 +154,8 @@ declare_holds s i x m h placed = by (is_some (meaning_in (scope_at s.blocks.scop
         record {
           built = h.built;
           placed = λ j y.
-              scope_set s.blocks.scopes i j (scope_at s.blocks.scopes i ++ (x.0, m) ∷ []) (λ (names : Names). IsPlaced s.forms (meaning_in names y)) (h.placed j y)
+              scope_set s.blocks.scopes i j (scope_at s.blocks.scopes i ++ (x.0, m) ∷ [])
+              (λ (names : Names). IsPlaced s.forms (meaning_in names y)) (h.placed j y)
               (name_pushed (scope_at s.blocks.scopes i) x.0 y m (IsPlaced s.forms) (h.placed i y) placed);
         }
 
@@ -170,21 +178,24 @@ name_is P test x (e ∷ names) absent h some = by (bytes_eq x e.0) refl (name_is
 
 -- what is true of a name in each scope and of the predeclared one is true of the name in view
 pub look_is :
-    (P : Option Meaning → Type 0) (scopes : List Names) (x : Text) → P (meaning_in predeclared_names x) → ((i : ℕ) → P (meaning_in (scope_at scopes i) x)) → (view : List Level)
+    (P : Option Meaning → Type 0) (scopes : List Names) (x : Text) → P (meaning_in predeclared_names x) →
+    ((i : ℕ) → P (meaning_in (scope_at scopes i) x)) → (view : List Level)
     → P (look scopes view x)
 look_is P scopes x outermost h [] = by (meaning_in predeclared_names x) outermost
   where
     by : (m : Option Meaning) → P m → P (meaning_of (option_map (λ y. record { scope = None; place = 0; meaning = y }) m))
     by None g = g
     by (Some y) g = g
-look_is P scopes x outermost h (level ∷ view) = by (position_in (scope_at scopes level.scope) x) (meaning_in (scope_at scopes level.scope) x) (h level.scope) (look_is P scopes x outermost h view)
+look_is P scopes x outermost h (level ∷ view) = by (position_in (scope_at scopes level.scope) x) (meaning_in (scope_at scopes level.scope) x)
+    (h level.scope) (look_is P scopes x outermost h view)
   where
     by : (p : Option ℕ) (m : Option Meaning) → P m → P (look scopes view x) → P (meaning_of (option_or (within level p m) (found_in scopes view x)))
     by None m g outside = outside
     by (Some k) None g outside = outside
     by (Some k) (Some y) g outside = seen (nat_lt k level.count)
       where
-        seen : (b : Bool) → P (meaning_of (option_or (cond b (Some (record { scope = Some level.scope; place = k; meaning = y })) None) (found_in scopes view x)))
+        seen : (b : Bool) → P
+            (meaning_of (option_or (cond b (Some (record { scope = Some level.scope; place = k; meaning = y })) None) (found_in scopes view x)))
         seen true = g
         seen false = outside
 
@@ -235,7 +246,11 @@ added_made s None p h behind = record { holds = h; place = tt }
 added_made s (Some form) p h behind = by (refusal_of s.forms form) refl
   where
     by : (fault : Option TypeFault) → refusal_of s.forms form ≡ fault → IsMade (added_unless fault s form p)
-    by None e = record { holds = add_form_holds s form h behind (accepted_bounds s.forms form e); place = omega (arith, length-append s.forms (Some form ∷ [])) }
+    by None e = record {
+      holds = add_form_holds s form h behind (accepted_bounds s.forms form e);
+      place =
+          omega (arith, length-append s.forms (Some form ∷ []));
+    }
     by (Some Bounds) e = record { holds = h; place = tt }
     by (Some Cells) e = record { holds = note_holds s (unless false p 304) h; place = tt }
     by (Some Memory) e = record { holds = h; place = tt }
@@ -263,7 +278,8 @@ arrays_made : (m : Made) (rs : List (Option Extent)) (p : Place) → IsMade m �
 arrays_made m [] p h = h
 arrays_made m (r ∷ rs) p h =
     let inner = arrays_made m rs p h in
-    added_made (made_arrays m rs p).state (array_of r (made_arrays m rs p).t) p inner.holds (array_behind (made_arrays m rs p).state.forms r (made_arrays m rs p).t inner.place)
+    added_made (made_arrays m rs p).state (array_of r (made_arrays m rs p).t) p inner.holds
+    (array_behind (made_arrays m rs p).state.forms r (made_arrays m rs p).t inner.place)
 
 -- the fields of a record so far stand in the table
 record AreMade (r : MadeFields) : Type 0 where
@@ -279,7 +295,8 @@ before_later n m [] le h = tt
 before_later n m (f ∷ list) le h = (omega (arith, le, h.0), before_later n m list le h.1)
 
 -- the table stays as it is while names of fields are listed
-field_made : (t : TypeId) (r : MadeFields) (x : Text × Place) → AreMade r → t.place < length r.state.forms → AreMade (made_field t r x) × (t.place < length (made_field t r x).state.forms)
+field_made : (t : TypeId) (r : MadeFields) (x : Text × Place) → AreMade r → t.place < length r.state.forms → AreMade (made_field t r x) ×
+    (t.place < length (made_field t r x).state.forms)
 field_made t r x h below = by (is_some (type_named r.list x.0))
   where
     next : Bool → MadeFields
@@ -298,7 +315,11 @@ integer_placed : (s : State) → Holds s → integer.place < length s.forms
 integer_placed s h = omega (arith, begins_length predeclared_forms s.forms h.built.predeclared)
 
 group_made : (r : MadeFields) (t : Option TypeId) (xs : List (Text × Place)) → AreMade r → HasPlace r.state.forms t → AreMade (made_group r t xs)
-group_made r None xs h place = names_made integer (record r { whole = false }) xs (record { holds = h.holds; before = h.before }) (integer_placed r.state h.holds)
+group_made r None xs h place = names_made integer (record r { whole = false }) xs (record {
+  holds = h.holds;
+  before =
+      h.before;
+}) (integer_placed r.state h.holds)
 group_made r (Some t) xs h place = names_made t r xs h place
 
 record_behind : (r : MadeFields) → AreMade r → IsBehind r.state.forms (record_form r)
@@ -314,7 +335,9 @@ mutual
   type_made carried s view (named x p) h =
       record {
         holds = note_holds s (type_name_rules carried (look s.blocks.scopes view x) p) h;
-        place = subst (λ (forms : Forms). HasPlace forms (named_type carried (look s.blocks.scopes view x))) (sym (note_forms s (type_name_rules carried (look s.blocks.scopes view x) p))) (named_placed s.forms carried (look s.blocks.scopes view x) (look_placed s h view x));
+        place = subst (λ (forms : Forms). HasPlace forms (named_type carried (look s.blocks.scopes view x)))
+            (sym (note_forms s (type_name_rules carried (look s.blocks.scopes view x) p)))
+            (named_placed s.forms carried (look s.blocks.scopes view x) (look_placed s h view x));
       }
   type_made carried s view (channel t p) h = channel_made (made true s view t) (type_place t) p (type_made true s view t h)
   type_made carried s view (array rs t p) h =
@@ -322,7 +345,8 @@ mutual
       (type_made false (note s (broken_ranges s.blocks.scopes view rs)) view t (note_holds s (broken_ranges s.blocks.scopes view rs) h))
   type_made carried s view (fields vs last p) h =
       let r = items_made view (fields_begun s) vs (record { holds = h; before = tt }) in
-      added_made (made_items view (fields_begun s) vs).state (record_form (made_items view (fields_begun s) vs)) p r.holds (record_behind (made_items view (fields_begun s) vs) r)
+      added_made (made_items view (fields_begun s) vs).state (record_form (made_items view (fields_begun s) vs)) p r.holds
+      (record_behind (made_items view (fields_begun s) vs) r)
 
   items_made : (view : List Level) (r : MadeFields) (vs : VarTrees) → AreMade r → AreMade (made_items view r vs)
   items_made view r no_vars h = h
@@ -332,5 +356,9 @@ mutual
   item_made view r (var_item xs t) h =
       let m = type_made false r.state view t h.holds in
       group_made (record r { state = (made false r.state view t).state }) (made false r.state view t).t xs
-      (record { holds = m.holds; before = before_later (length r.state.forms) (length (made false r.state view t).state.forms) r.list (begins_length r.state.forms (made false r.state view t).state.forms (made_kept false r.state view t).forms) h.before })
+      (record {
+        holds = m.holds;
+        before = before_later (length r.state.forms) (length (made false r.state view t).state.forms) r.list
+            (begins_length r.state.forms (made false r.state view t).state.forms (made_kept false r.state view t).forms) h.before;
+      })
       m.place

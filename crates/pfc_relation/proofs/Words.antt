@@ -16,7 +16,8 @@ use Rattle.pfc_relation.specs.Cells.{into_element, into_field, words_of, words_i
 -- ## How many
 
 -- the fields before one lie behind the first
-fields_next : (forms : Forms) (f : Text × TypeId) (fields : FieldList) (k : ℕ) → fields_before forms (f ∷ fields) (suc k) ≡ cells_in forms f.1 + fields_before forms fields k
+fields_next : (forms : Forms) (f : Text × TypeId) (fields : FieldList) (k : ℕ) →
+    fields_before forms (f ∷ fields) (suc k) ≡ cells_in forms f.1 + fields_before forms fields k
 fields_next forms f fields k = sum_by-cons (λ (x : Text × TypeId). cells_in forms x.1) f (take k fields)
 
 module _ (forms : Forms) (sound : IsSound forms) where
@@ -30,13 +31,15 @@ module _ (forms : Forms) (sound : IsSound forms) where
     -- so many values of one type have so many times its cells
     pub elements_length : {n : ℕ} {t : TypeId} {vs : Values} → AreOf forms n t vs → length (words_in vs) ≡ n * cells_in forms t
     elements_length (none_of t) = omega arith
-    elements_length (one_of n t v vs first rest) = length-append (words_of v) (words_in vs) ∙ ap₂ (λ a b. a + b) (words_length first) (elements_length rest) ∙ omega arith
+    elements_length (one_of n t v vs first rest) = length-append (words_of v) (words_in vs) ∙
+        ap₂ (λ a b. a + b) (words_length first) (elements_length rest) ∙ omega arith
 
     -- the values of fields have the cells of all of them
     pub fields_length : {fields : FieldList} {vs : Values} → AreFieldsOf forms fields vs → length (words_in vs) ≡ fields_before forms fields (length fields)
     fields_length no_field = refl
     fields_length (one_field f fields v vs first rest) =
-        length-append (words_of v) (words_in vs) ∙ ap₂ (λ a b. a + b) (words_length first) (fields_length rest) ∙ sym (fields_next forms f fields (length fields))
+        length-append (words_of v) (words_in vs) ∙ ap₂ (λ a b. a + b) (words_length first) (fields_length rest) ∙
+        sym (fields_next forms f fields (length fields))
 
 -- ## What a value of an array or of a record is
 
@@ -51,7 +54,8 @@ record IsFields (forms : Forms) (fields : FieldList) (v : Value) : Type 0 where
   are : AreFieldsOf forms fields vs
 
 module _ (forms : Forms) (sound : IsSound forms) where
-  as_array : {t : TypeId} {v : Value} (over element : TypeId) (low high : ℤ) → IsOf forms t v → form_of forms t ≡ Some (Array over low high element) → IsArray forms (extent low high) element v
+  as_array : {t : TypeId} {v : Value} (over element : TypeId) (low high : ℤ) → IsOf forms t v → form_of forms t ≡ Some (Array over low high element) →
+      IsArray forms (extent low high) element v
   as_array over element low high (is_number t n simple) form = absurd (let e = sound.simple_form t simple in cc)
   as_array over element low high (is_array t over' element' low' high' vs form' inner) form =
       let a : low' ≡ low = cc in
@@ -104,13 +108,17 @@ module _ (forms : Forms) (sound : IsSound forms) where
   element_at : {n : ℕ} {t : TypeId} {vs : Values} (i : ℕ) → AreOf forms n t vs → i < n → At vs i (i * cells_in forms t)
   element_at i (none_of t) below = absurd (omega (arith, below))
   element_at zero (one_of n t v vs first rest) below = first_at v vs (0 * cells_in forms t) (omega arith)
-  element_at (suc i) (one_of n t v vs first rest) below = next_at v vs i (i * cells_in forms t) (suc i * cells_in forms t) (ap (λ k. k + i * cells_in forms t) (words_length forms sound first) ∙ omega arith) (element_at i rest (omega (arith, below)))
+  element_at (suc i) (one_of n t v vs first rest) below =
+      next_at v vs i (i * cells_in forms t) (suc i * cells_in forms t) (ap (λ k. k + i * cells_in forms t) (words_length forms sound first) ∙
+      omega arith) (element_at i rest (omega (arith, below)))
 
-  field_at : {fields : FieldList} {vs : Values} (i : ℕ) (f : Text × TypeId) → AreFieldsOf forms fields vs → slice_get fields i ≡ Some f → At vs i (fields_before forms fields i)
+  field_at : {fields : FieldList} {vs : Values} (i : ℕ) (f : Text × TypeId) → AreFieldsOf forms fields vs →
+      slice_get fields i ≡ Some f → At vs i (fields_before forms fields i)
   field_at i f no_field there = absurd (cc)
   field_at zero f (one_field g fields v vs first rest) there = first_at v vs (fields_before forms (g ∷ fields) 0) refl
   field_at (suc i) f (one_field g fields v vs first rest) there =
-      next_at v vs i (fields_before forms fields i) (fields_before forms (g ∷ fields) (suc i)) (ap (λ k. k + fields_before forms fields i) (words_length forms sound first) ∙ sym (fields_next forms g fields i)) (field_at i f rest there)
+      next_at v vs i (fields_before forms fields i) (fields_before forms (g ∷ fields) (suc i)) (ap (λ k. k + fields_before forms fields i)
+      (words_length forms sound first) ∙ sym (fields_next forms g fields i)) (field_at i f rest there)
 
 module _ (forms : Forms) where
   element_is : {n : ℕ} {t : TypeId} {vs : Values} (i : ℕ) → AreOf forms n t vs → i < n → IsOf forms t (part_at vs i)
@@ -123,14 +131,17 @@ module _ (forms : Forms) where
   element_set zero new (one_of n t v vs first rest) h = one_of n t new vs h rest
   element_set (suc i) new (one_of n t v vs first rest) h = one_of n t v (with_part_at vs i new) first (element_set i new rest h)
 
-  field_is : {fields : FieldList} {vs : Values} (i : ℕ) (f : Text × TypeId) → AreFieldsOf forms fields vs → slice_get fields i ≡ Some f → IsOf forms f.1 (part_at vs i)
+  field_is : {fields : FieldList} {vs : Values} (i : ℕ) (f : Text × TypeId) → AreFieldsOf forms fields vs →
+      slice_get fields i ≡ Some f → IsOf forms f.1 (part_at vs i)
   field_is i f no_field there = absurd (cc)
   field_is zero f (one_field g fields v vs first rest) there = let e : g ≡ f = cc in subst (λ (x : Text × TypeId). IsOf forms x.1 v) e first
   field_is (suc i) f (one_field g fields v vs first rest) there = field_is i f rest there
 
-  field_set : {fields : FieldList} {vs : Values} (i : ℕ) (f : Text × TypeId) (new : Value) → AreFieldsOf forms fields vs → slice_get fields i ≡ Some f → IsOf forms f.1 new → AreFieldsOf forms fields (with_part_at vs i new)
+  field_set : {fields : FieldList} {vs : Values} (i : ℕ) (f : Text × TypeId) (new : Value) → AreFieldsOf forms fields vs → slice_get fields i ≡ Some f →
+      IsOf forms f.1 new → AreFieldsOf forms fields (with_part_at vs i new)
   field_set i f new no_field there h = no_field
-  field_set zero f new (one_field g fields v vs first rest) there h = let e : f ≡ g = cc in one_field g fields new vs (subst (λ (x : Text × TypeId). IsOf forms x.1 new) e h) rest
+  field_set zero f new (one_field g fields v vs first rest) there h = let e : f ≡ g =
+      cc in one_field g fields new vs (subst (λ (x : Text × TypeId). IsOf forms x.1 new) e h) rest
   field_set (suc i) f new (one_field g fields v vs first rest) there h = one_field g fields v (with_part_at vs i new) first (field_set i f new rest there h)
 
 -- ## A part of a value
@@ -148,7 +159,16 @@ pub record Around (forms : Forms) (t : TypeId) (path : List ℕ) (u : TypeId) (o
 
 around_here : (forms : Forms) (t : TypeId) (v : Value) → IsOf forms t v → Around forms t [] t 0 v
 around_here forms t v h =
-    record { before = []; after = []; place = refl; is = h; reads = sym (append-nil (words_of v)); becomes = λ new n. n; writes = λ new. sym (append-nil (words_of new)) }
+    record {
+      before = [];
+      after = [];
+      place = refl;
+      is = h;
+      reads = sym (append-nil (words_of v));
+      becomes = λ new n. n;
+      writes =
+          λ new. sym (append-nil (words_of new));
+    }
 
 -- the words around a part lie around those of its own part
 around_step :
@@ -161,9 +181,11 @@ around_step forms t v u i path o p vs at inner becomes =
       after = inner.after ++ at.after;
       place = length-append at.before inner.before ∙ ap₂ (λ a b. a + b) at.place inner.place;
       is = inner.is;
-      reads = at.reads ∙ ap (λ ws. at.before ++ (ws ++ at.after)) inner.reads ∙ nested at.before inner.before (words_of (part path (part_at vs i))) inner.after at.after;
+      reads = at.reads ∙ ap (λ ws. at.before ++ (ws ++ at.after)) inner.reads ∙
+          nested at.before inner.before (words_of (part path (part_at vs i))) inner.after at.after;
       becomes = λ new h. becomes (with_part path (part_at vs i) new) (inner.becomes new h);
-      writes = λ new. at.writes (with_part path (part_at vs i) new) ∙ ap (λ ws. at.before ++ (ws ++ at.after)) (inner.writes new) ∙ nested at.before inner.before (words_of new) inner.after at.after;
+      writes = λ new. at.writes (with_part path (part_at vs i) new) ∙ ap (λ ws. at.before ++ (ws ++ at.after)) (inner.writes new) ∙
+          nested at.before inner.before (words_of new) inner.after at.after;
     }
 
 module _ (forms : Forms) (sound : IsSound forms) where
@@ -173,12 +195,14 @@ module _ (forms : Forms) (sound : IsSound forms) where
   around (into_element t over element u low high i path o form below inner) v h =
       let w = as_array forms sound over element low high h form in
       subst (λ x. Around forms t (i ∷ path) u (i * cells_in forms element + o) x) (sym w.is)
-      (around_step forms t element u i path (i * cells_in forms element) o w.vs (element_at forms sound i w.are below) (around inner (part_at w.vs i) (element_is forms i w.are below))
+      (around_step forms t element u i path (i * cells_in forms element) o w.vs (element_at forms sound i w.are below)
+      (around inner (part_at w.vs i) (element_is forms i w.are below))
       (λ new n. is_array t over element low high (with_part_at w.vs i new) form (element_set forms i new w.are n)))
   around (into_field t v u x fields i path o form there inner) value h =
       let w = as_record forms sound fields h form in
       subst (λ y. Around forms t (i ∷ path) u (fields_before forms fields i + o) y) (sym w.is)
-      (around_step forms t v u i path (fields_before forms fields i) o w.vs (field_at forms sound i (x, v) w.are there) (around inner (part_at w.vs i) (field_is forms i (x, v) w.are there))
+      (around_step forms t v u i path (fields_before forms fields i) o w.vs (field_at forms sound i (x, v) w.are there)
+      (around inner (part_at w.vs i) (field_is forms i (x, v) w.are there))
       (λ new n. is_record t fields (with_part_at w.vs i new) form (field_set forms i (x, v) new w.are there n)))
 
   -- the part that a path leads to is of its type
@@ -186,19 +210,23 @@ module _ (forms : Forms) (sound : IsSound forms) where
   part_is p v h = (around p v h).is
 
   -- its words are those behind so many of the whole
-  pub part_words : {t : TypeId} {path : List ℕ} {u : TypeId} {o : ℕ} → IsPath forms t path u o → (v : Value) → IsOf forms t v → take (cells_in forms u) (drop o (words_of v)) ≡ words_of (part path v)
+  pub part_words : {t : TypeId} {path : List ℕ} {u : TypeId} {o : ℕ} → IsPath forms t path u o → (v : Value) → IsOf forms t v →
+      take (cells_in forms u) (drop o (words_of v)) ≡ words_of (part path v)
   part_words {t} {path} {u} {o} p v h =
-      let a = around p v h in middle_read a.before (words_of (part path v)) a.after (words_of v) o (cells_in forms u) a.place (words_length forms sound a.is) a.reads
+      let a = around p v h in middle_read a.before (words_of (part path v)) a.after (words_of v) o (cells_in forms u) a.place
+      (words_length forms sound a.is) a.reads
 
   -- a part lies within the cells of the whole
-  pub path_within : {t : TypeId} {path : List ℕ} {u : TypeId} {o : ℕ} → IsPath forms t path u o → (v : Value) → IsOf forms t v → o + cells_in forms u ≤ cells_in forms t
+  pub path_within : {t : TypeId} {path : List ℕ} {u : TypeId} {o : ℕ} → IsPath forms t path u o → (v : Value) → IsOf forms t v →
+      o + cells_in forms u ≤ cells_in forms t
   path_within {t} {path} {u} {o} p v h =
       let a = around p v h in
       subst (λ n. o + cells_in forms u ≤ n) (words_length forms sound h)
       (middle_within a.before (words_of (part path v)) a.after (words_of v) o (cells_in forms u) a.place (words_length forms sound a.is) a.reads)
 
   -- with another value of its type in it the whole is of the same type
-  pub with_part_is : {t : TypeId} {path : List ℕ} {u : TypeId} {o : ℕ} → IsPath forms t path u o → (v new : Value) → IsOf forms t v → IsOf forms u new → IsOf forms t (with_part path v new)
+  pub with_part_is : {t : TypeId} {path : List ℕ} {u : TypeId} {o : ℕ} → IsPath forms t path u o → (v new : Value) → IsOf forms t v →
+      IsOf forms u new → IsOf forms t (with_part path v new)
   with_part_is p v new h n = (around p v h).becomes new n
 
   -- and its words are those of the whole with the words of the part written over
@@ -208,4 +236,5 @@ module _ (forms : Forms) (sound : IsSound forms) where
   with_part_words {t} {path} {u} {o} p v new h n =
       let a = around p v h in
       a.writes new
-      ∙ over_written a.before (words_of (part path v)) a.after (words_of new) (words_of v) o a.place (words_length forms sound n ∙ sym (words_length forms sound a.is)) a.reads
+      ∙ over_written a.before (words_of (part path v)) a.after (words_of new) (words_of v) o a.place (words_length forms sound n ∙
+      sym (words_length forms sound a.is)) a.reads

@@ -24,7 +24,8 @@ pub record IsSound (forms : Forms) : Type 0 where
   pub simple_cells : (t : TypeId) → is_simple t ≡ true → cells_in forms t ≡ 1
   pub simple_form : (t : TypeId) → is_simple t ≡ true → form_of forms t ≡ None
   -- arrays and records take the cells of their parts
-  pub array_cells : (t over element : TypeId) (low high : ℤ) → form_of forms t ≡ Some (Array over low high element) → cells_in forms t ≡ extent low high * cells_in forms element
+  pub array_cells : (t over element : TypeId) (low high : ℤ) → form_of forms t ≡ Some (Array over low high element) →
+      cells_in forms t ≡ extent low high * cells_in forms element
   pub record_cells : (t : TypeId) (fields : FieldList) → form_of forms t ≡ Some (Record fields) → cells_in forms t ≡ fields_before forms fields (length fields)
   -- an index is of a simple type, and the low bound is not above the high one
   pub bounds : (t : TypeId) (form : TypeForm) → form_of forms t ≡ Some form → has_bounds form ≡ true
@@ -44,8 +45,10 @@ abbrev mutual
 mutual
   pub data IsOf (forms : Forms) : TypeId → Value → Type 0 where
     is_number : (t : TypeId) (n : ℤ) → is_simple t ≡ true → IsOf forms t (ordinal n)
-    is_array : (t over element : TypeId) (low high : ℤ) (vs : Values) → form_of forms t ≡ Some (Array over low high element) → AreOf forms (extent low high) element vs → IsOf forms t (compound vs)
-    is_record : (t : TypeId) (fields : FieldList) (vs : Values) → form_of forms t ≡ Some (Record fields) → AreFieldsOf forms fields vs → IsOf forms t (compound vs)
+    is_array : (t over element : TypeId) (low high : ℤ) (vs : Values) → form_of forms t ≡ Some (Array over low high element) →
+        AreOf forms (extent low high) element vs → IsOf forms t (compound vs)
+    is_record : (t : TypeId) (fields : FieldList) (vs : Values) → form_of forms t ≡ Some (Record fields) →
+        AreFieldsOf forms fields vs → IsOf forms t (compound vs)
 
   -- so many values of one type
   pub data AreOf (forms : Forms) : ℕ → TypeId → Values → Type 0 where
@@ -55,7 +58,8 @@ mutual
   -- one value for each field
   pub data AreFieldsOf (forms : Forms) : FieldList → Values → Type 0 where
     no_field : AreFieldsOf forms [] no_values
-    one_field : (f : Text × TypeId) (fields : FieldList) (v : Value) (vs : Values) → IsOf forms f.1 v → AreFieldsOf forms fields vs → AreFieldsOf forms (f ∷ fields) (more_values v vs)
+    one_field : (f : Text × TypeId) (fields : FieldList) (v : Value) (vs : Values) → IsOf forms f.1 v → AreFieldsOf forms fields vs →
+        AreFieldsOf forms (f ∷ fields) (more_values v vs)
 
 -- ## Cells of main's variables
 
@@ -78,8 +82,10 @@ AreCells forms (x ∷ names) (v ∷ values) cells =
 -- a path from a value of type t to a part of type u, so many cells behind its first
 pub data IsPath (forms : Forms) : TypeId → List ℕ → TypeId → ℕ → Type 0 where
   here : (t : TypeId) → IsPath forms t [] t 0
-  into_element : (t over element u : TypeId) (low high : ℤ) (i : ℕ) (path : List ℕ) (o : ℕ) → form_of forms t ≡ Some (Array over low high element) → i < extent low high → IsPath forms element path u o → IsPath forms t (i ∷ path) u (i * cells_in forms element + o)
-  into_field : (t v u : TypeId) (x : Text) (fields : FieldList) (i : ℕ) (path : List ℕ) (o : ℕ) → form_of forms t ≡ Some (Record fields) → slice_get fields i ≡ Some (x, v) → IsPath forms v path u o → IsPath forms t (i ∷ path) u (fields_before forms fields i + o)
+  into_element : (t over element u : TypeId) (low high : ℤ) (i : ℕ) (path : List ℕ) (o : ℕ) → form_of forms t ≡ Some (Array over low high element) →
+      i < extent low high → IsPath forms element path u o → IsPath forms t (i ∷ path) u (i * cells_in forms element + o)
+  into_field : (t v u : TypeId) (x : Text) (fields : FieldList) (i : ℕ) (path : List ℕ) (o : ℕ) → form_of forms t ≡ Some (Record fields) →
+      slice_get fields i ≡ Some (x, v) → IsPath forms v path u o → IsPath forms t (i ∷ path) u (fields_before forms fields i + o)
 
 -- The location of a part of type u of one of main's variables, whose cells begin at the place `cell` among those of its block.
 pub record LiesAt (forms : Forms) (names : Names) (l : Location) (u : TypeId) (cell : ℕ) : Type 0 where

@@ -31,26 +31,33 @@ pub record IsFit (i : Instr) (ops : List ℤ) : Type 0 where
 -- a number or a string that is printed, with or without a width
 pub data IsPiece (g : Program) (line at : ℕ) (ops below : List ℤ) (bytes : List ℕ) : Type 0 where
   number : (t : Simple) (n : ℤ) → ops ≡ n ∷ below → bytes ≡ shown t n → IsAt g at (write_instr t 0) line → IsPiece g line at ops below bytes
-  wide_number : (t : Simple) (n w : ℤ) → ops ≡ w ∷ n ∷ below → padded w (shown t n) ≡ Ok bytes → IsAt g at (write_instr t 1) line → IsPiece g line at ops below bytes
+  wide_number : (t : Simple) (n w : ℤ) → ops ≡ w ∷ n ∷ below → padded w (shown t n) ≡ Ok bytes →
+      IsAt g at (write_instr t 1) line → IsPiece g line at ops below bytes
   string : (s : ℕ) → ops ≡ below → slice_get g.texts s ≡ Some bytes → IsAt g at (WRS s 0) line → IsPiece g line at ops below bytes
-  wide_string : (s : ℕ) (w : ℤ) (text : List ℕ) → ops ≡ w ∷ below → slice_get g.texts s ≡ Some text → padded w text ≡ Ok bytes → IsAt g at (WRS s 1) line → IsPiece g line at ops below bytes
+  wide_string : (s : ℕ) (w : ℤ) (text : List ℕ) → ops ≡ w ∷ below → slice_get g.texts s ≡ Some text → padded w text ≡ Ok bytes →
+      IsAt g at (WRS s 1) line → IsPiece g line at ops below bytes
   newline : ops ≡ below → bytes ≡ 10 ∷ [] → IsAt g at WRNL line → IsPiece g line at ops below bytes
 
 -- an instruction that ends in a fault
 pub data IsFault (g : Program) (line at : ℕ) (ops : List ℤ) (f : RunFault) : Type 0 where
   of_operands : (i : Instr) → IsAt g at i line → IsFit i ops → alone i at ops ≡ fault f → IsFault g line at ops f
-  of_number_width : (t : Simple) (n w : ℤ) (below : List ℤ) → ops ≡ w ∷ n ∷ below → padded w (shown t n) ≡ Err f → IsAt g at (write_instr t 1) line → IsFault g line at ops f
-  of_string_width : (s : ℕ) (w : ℤ) (text : List ℕ) (below : List ℤ) → ops ≡ w ∷ below → slice_get g.texts s ≡ Some text → padded w text ≡ Err f → IsAt g at (WRS s 1) line → IsFault g line at ops f
+  of_number_width : (t : Simple) (n w : ℤ) (below : List ℤ) → ops ≡ w ∷ n ∷ below → padded w (shown t n) ≡ Err f →
+      IsAt g at (write_instr t 1) line → IsFault g line at ops f
+  of_string_width : (s : ℕ) (w : ℤ) (text : List ℕ) (below : List ℤ) → ops ≡ w ∷ below → slice_get g.texts s ≡ Some text → padded w text ≡ Err f →
+      IsAt g at (WRS s 1) line → IsFault g line at ops f
 
 -- a write of a value from the operands, or of the value that a `for` keeps
 pub data IsWrite (g : Program) (line at : ℕ) (ops : List ℤ) (l : Location) (v : Value) (k : Rest) : Type 0 where
-  of_value : (t : TypeId) (w : ℤ) (z : ℕ) (below : List ℤ) → ops ≡ reverse (words_of v) ++ w ∷ below → IsOf (forms_of g) t v → IsWholeWord g l t w z → IsAt g at (STORE z) line → RestAt g (at + 1) below k → IsWrite g line at ops l v k
-  of_kept : (last kept w : ℤ) (below : List ℤ) → ops ≡ last ∷ kept ∷ w ∷ below → v ≡ ordinal kept → IsSimpleWord g l w → IsAt g at FORW line → RestAt g (at + 1) ops k → IsWrite g line at ops l v k
+  of_value : (t : TypeId) (w : ℤ) (z : ℕ) (below : List ℤ) → ops ≡ reverse (words_of v) ++ w ∷ below → IsOf (forms_of g) t v → IsWholeWord g l t w z →
+      IsAt g at (STORE z) line → RestAt g (at + 1) below k → IsWrite g line at ops l v k
+  of_kept : (last kept w : ℤ) (below : List ℤ) → ops ≡ last ∷ kept ∷ w ∷ below → v ≡ ordinal kept → IsSimpleWord g l w → IsAt g at FORW line →
+      RestAt g (at + 1) ops k → IsWrite g line at ops l v k
 
 -- the way back of a loop, or to the next value of a `for`
 pub data IsTurn (g : Program) (line at : ℕ) (ops : List ℤ) (k : Rest) : Type 0 where
   of_loop : (a : ℕ) → IsAt g at (TURN a) line → RestAt g a ops k → IsTurn g line at ops k
-  of_count : (d a : ℕ) (last kept w : ℤ) (below : List ℤ) → ops ≡ last ∷ kept ∷ w ∷ below → is_before d kept last ≡ true → IsAt g at (FORT d a) line → RestAt g a (last ∷ value_behind d kept ∷ w ∷ below) k → IsTurn g line at ops k
+  of_count : (d a : ℕ) (last kept w : ℤ) (below : List ℤ) → ops ≡ last ∷ kept ∷ w ∷ below → is_before d kept last ≡ true → IsAt g at (FORT d a) line →
+      RestAt g a (last ∷ value_behind d kept ∷ w ∷ below) k → IsTurn g line at ops k
 
 -- the code is at the action, and does behind it what is left then
 abbrev pub Arrived : Program → ℕ → List ℤ → Next → Type 0
@@ -74,7 +81,8 @@ Arrived g at ops (finishes line) = (ops ≡ []) × IsAt g at END line
 -- Quiet instructions, each of which leads up, and then the action.
 pub data Follows (g : Program) (n : Next) : ℕ → List ℤ → Type 0 where
   arrives : (at : ℕ) (ops : List ℤ) → Arrived g at ops n → Follows g n at ops
-  moves : (at : ℕ) (ops : List ℤ) (i : Instr) (line to : ℕ) (left : List ℤ) → IsAt g at i line → IsFit i ops → quietly g.start i at ops ≡ quiet to left → at < to → length left ≤ g.room → Follows g n to left → Follows g n at ops
+  moves : (at : ℕ) (ops : List ℤ) (i : Instr) (line to : ℕ) (left : List ℤ) → IsAt g at i line → IsFit i ops → quietly g.start i at ops ≡ quiet to left →
+      at < to → length left ≤ g.room → Follows g n to left → Follows g n at ops
 
 -- a process is at this address with these operands, where this is still to do
 abbrev pub TaskAt : Program → ℕ → List ℤ → Task → Type 0

@@ -56,7 +56,8 @@ pub record Program : Type 0 where
 pub record IsChecked (g : Program) : Type 0 where
   pub sound : IsSound g.env.state.forms
   -- a variable in view is one of main's block, and none is a reference
-  pub variables : (x : Text) (found : Found) (t : TypeId) (reference : Bool) → find g.env x ≡ Some found → found.meaning ≡ Variable t reference → (name : Text) × (slice_get (scope_at g.env.state.blocks.scopes 0) found.place ≡ Some (name, Variable t false))
+  pub variables : (x : Text) (found : Found) (t : TypeId) (reference : Bool) → find g.env x ≡ Some found → found.meaning ≡ Variable t reference →
+      (name : Text) × (slice_get (scope_at g.env.state.blocks.scopes 0) found.place ≡ Some (name, Variable t false))
   pub outside : g.env.around.sub ≡ false
   -- values of the variables lie in the cells of its block, one behind the other
   pub values : List Value
@@ -203,7 +204,8 @@ StmtThen g at ops s k = (n : ℕ) × StmtAt g at n (length ops) s × RestAt g (a
 
 -- a width is awaited: the bytes are those of the number below it, or of a string of the program
 pub data PadAt (g : Program) (line at : ℕ) (ops : List ℤ) (bytes : List ℕ) (P : List ℤ → Type 0) : Type 0 where
-  of_number : (t : Simple) (n : ℤ) (below : List ℤ) → ops ≡ n ∷ below → bytes ≡ shown t n → IsAt g at (write_instr t 1) line → P below → PadAt g line at ops bytes P
+  of_number : (t : Simple) (n : ℤ) (below : List ℤ) → ops ≡ n ∷ below → bytes ≡ shown t n →
+      IsAt g at (write_instr t 1) line → P below → PadAt g line at ops bytes P
   of_string : (s : ℕ) → slice_get g.texts s ≡ Some bytes → IsAt g at (WRS s 1) line → P ops → PadAt g line at ops bytes P
 
 -- `eof` and `eoln` have no argument
@@ -245,7 +247,8 @@ abbrev mutual
   UseAt g line at ops (index_into part es ss goal) =
       let c = context g.env line in
       let forms = forms_of g in
-      let code = one c (index_instr forms (form_in forms part.t)) ++ (indices_code c (element_type forms part.t) es ++ selectors_code c (type_behind forms (element_type forms part.t) es) ss) in
+      let code = one c (index_instr forms (form_in forms part.t)) ++ (indices_code c (element_type forms part.t) es ++ selectors_code c
+      (type_behind forms (element_type forms part.t) es) ss) in
       (w : ℤ) × (below : List ℤ) × (t : TypeId) × (ops ≡ w ∷ below) × IsPart g part w
       × IsArray forms part.t × AreIndices g.env (element_type forms part.t) es × AreSelectors g.env (type_behind forms (element_type forms part.t) es) ss
       × (type_selected forms (type_behind forms (element_type forms part.t) es) ss ≡ Some t)

@@ -36,7 +36,8 @@ pub record IsSimpleName (env : Env) (x : Text) : Type 0 where
 -- both sides have one type: a number is assigned, or a whole array or record from a variable
 pub data IsAssignment (env : Env) (d : DesigTree) (e : ExprTree) : Type 0 where
   of_number : (t : TypeId) → desig_type env d ≡ Some t → expr_type env e ≡ Some t → is_simple t ≡ true → IsAssignment env d e
-  of_whole : (t : TypeId) (source : DesigTree) → desig_type env d ≡ Some t → expr_type env e ≡ Some t → variable_in e ≡ Some source → desig_type env source ≡ Some t → IsAssignment env d e
+  of_whole : (t : TypeId) (source : DesigTree) → desig_type env d ≡ Some t → expr_type env e ≡ Some t → variable_in e ≡ Some source →
+      desig_type env source ≡ Some t → IsAssignment env d e
 
 -- an item of a `write`: a string, or a number
 abbrev pub IsItem : Env → Option Text → ExprTree → Type 0

@@ -28,14 +28,16 @@ pub fn code_follows_source()
 /// the whole body.
 pub fn code_of_a_program_stands()
     ensures checked { (t : ProgramTree) → first_fault t ≡ None → unbuilt t ≡ false → IsChecked (program_of t) }
-    ensures stands { (t : ProgramTree) → IsLawful (forget_program t) → first_fault t ≡ None → unbuilt t ≡ false → RestAt (program_of t) 0 [] (body_rest t.body) }
+    ensures stands { (t : ProgramTree) → IsLawful (forget_program t) → first_fault t ≡ None → unbuilt t ≡ false →
+        RestAt (program_of t) 0 [] (body_rest t.body) }
 {}
 
 /// The cells of main's block hold the values of its variables: at a location's cells lie the words of the value there,
 /// and other words of its type written there are those of the store with the other value.
 pub fn cells_hold_the_variables()
     ensures read { (forms : Forms) → IsSound forms → (names : Names) (values : List Value) (cells : List ℤ) → AreCells forms names values cells
-        → (l : Location) (u : TypeId) (cell : ℕ) → LiesAt forms names l u cell → take (cells_in forms u) (drop cell cells) ≡ words_of (value_at (values ∷ []) l) }
+        → (l : Location) (u : TypeId) (cell : ℕ) → LiesAt forms names l u cell →
+        take (cells_in forms u) (drop cell cells) ≡ words_of (value_at (values ∷ []) l) }
     ensures written { (forms : Forms) → IsSound forms → (names : Names) (values : List Value) (cells : List ℤ) → AreCells forms names values cells
         → (l : Location) (u : TypeId) (cell : ℕ) (new : Value) → LiesAt forms names l u cell → IsOf forms u new
         → AreCells forms names (variables (stored (values ∷ []) l new) 0) (take cell cells ++ words_of new ++ drop (cell + length (words_of new)) cells) }

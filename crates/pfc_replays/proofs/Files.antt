@@ -52,7 +52,8 @@ module _
 
     none_lacks : first_lack files (names_by asked) ≡ None → first_lack others (names_by scripted) ≡ None
     none_lacks e =
-        let first = both_none (lack_of files text_limit (file_of asked.source)) (option_or (lack_of files stream_limit asked.input) (lack_of files stream_limit asked.script)) e in
+        let first = both_none (lack_of files text_limit (file_of asked.source)) (option_or (lack_of files stream_limit asked.input)
+        (lack_of files stream_limit asked.script)) e in
         let second = both_none (lack_of files stream_limit asked.input) (lack_of files stream_limit asked.script) first.1 in
         nothing_lacks (lack_of others text_limit (file_of asked.source)) (lack_of others stream_limit asked.input) (lack_of others stream_limit (Some name))
         (same_lack files others text_limit (file_of asked.source) text ∙ first.0)

@@ -87,7 +87,12 @@ module _ (m : Meaning) (of : IsOfSource m) (request : Request) where
           let runs_so : m.run tree later ≡ m.run tree (settings_of request policy)
           = of tree later ∙ ap told_of (same_run here is) ∙ sym (of tree (settings_of request policy)) in
           ap
-          (λ (r : Run). (let o : Outcome = record { status = status_of r.ending; bytes = r.output ++ report_of m tree r; ran = Some (record { tree = tree; settings = later }) } in o))
+          (λ (r : Run). (let o : Outcome = record {
+            status = status_of r.ending;
+            bytes = r.output ++ report_of m tree r;
+            ran =
+                Some (record { tree = tree; settings = later });
+          } in o))
           (sym runs_so)
           ∙ sym (ap (λ (x : Result (List ℕ) ℕ). run_under m tree (with_script request (script_of here)) (script_policy x)) (script_read here is))
 

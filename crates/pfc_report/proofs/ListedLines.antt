@@ -22,7 +22,8 @@ lines_of_parts-cons part [] some = absurd (omega arith)
 lines_of_parts-cons part (next ∷ parts) some = refl
 
 -- the first line, and the rest
-lines_of-cons : (text : List ℕ) (end : ℕ) → position_or_len is_end text ≡ end → end < length text → lines_of text ≡ take end text ∷ lines_of (drop (end + 1) text)
+lines_of-cons : (text : List ℕ) (end : ℕ) → position_or_len is_end text ≡ end → end < length text →
+    lines_of text ≡ take end text ∷ lines_of (drop (end + 1) text)
 lines_of-cons text end is inside =
     let within : position_or_len is_end text < length text = rw is inside in
     let parts : slice_split is_end text ≡ take end text ∷ slice_split is_end (drop (end + 1) text) = rw is at (slice_split_first is_end text 0 within) in

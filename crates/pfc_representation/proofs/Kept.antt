@@ -213,7 +213,15 @@ module _ (facts : Facts) (q : ℕ) (d : Descriptor) (homes homes' : Homes) (entr
       record {
         home = h.home;
         behind = h.behind;
-        is = record { at = alone.at_home l.activation h.home is.at; meaning = is.meaning; laid = is.laid; variable = is.variable; own = is.own; path = is.path };
+        is = record {
+          at = alone.at_home l.activation h.home is.at;
+          meaning = is.meaning;
+          laid = is.laid;
+          variable =
+              is.variable;
+          own = is.own;
+          path = is.path;
+        };
         place = h.place;
       }
 

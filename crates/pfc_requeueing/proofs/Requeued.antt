@@ -183,7 +183,8 @@ pub gives_way_so :
     → new ≡ record s { activities = new.activities; store = new.store } → new.activities.items ≡ set s.activities.items p y
     → store_view new.store ≡ without (with_room (store_view s.store) number (values_view values)) before
     → GivesWay source s new p held before mark doing args
-gives_way_so source s new p held before cells number mark doing args display values found moved y is moved_is has numbered apart in_view given shows new_is items store g c a n k innermost program is_at ahead =
+gives_way_so source s new p held before cells number mark doing args display values found moved y is moved_is has numbered apart in_view given shows new_is
+    items store g c a n k innermost program is_at ahead =
     let t : Tables = source.program.tables in
     let before_it : IsBefore source s c p a n = is_at.before in
     let block : Block = block_view t held in
@@ -280,7 +281,8 @@ pub requeued_so :
     ≡ from_remainder (block_view t held).env
     (behind_scan (block_view t held) (scan_in r (get_or source.program.resource_ends.items r 0) (way_in r procedure (block_view t held).guard))))
     → GivesWay source s mid p held before mark doing args → EndsAt mid new p line d → Requeues source s new p scope args d
-requeued_so source s mid new p scope line cells procedure r before mark args held doing d found innermost has few lines marked numbered ahead gives ends g c choice a n program is_at e on_line =
+requeued_so source s mid new p scope line cells procedure r before mark args held doing d found innermost has few lines marked numbered ahead gives ends
+    g c choice a n program is_at e on_line =
     let t : Tables = source.program.tables in
     let block : Block = block_at g scope in
     let same : block_view t held ≡ block = block_is source g scope held program found in

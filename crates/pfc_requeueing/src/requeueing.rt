@@ -131,7 +131,8 @@ fn cells_instead<'t>(state: &State<'t>, p: u32, block: &Block<'t>) -> Option<u64
 fn cells_with<'t>(p: u32, activations: &[Activation<'t>], block: &Block<'t>) -> Option<u64>
     ensures some { IfSome result (λ n. (t : Tables) → calls.cells_above (drop 1 (activations_view t activations.now)) (block_view t block.now) ≡ n) }
     ensures few { IfSome result (λ n. nat_le n (calls.most_cells p) ≡ true) }
-    ensures many { result ≡ None → (t : Tables) → nat_le (calls.cells_above (drop 1 (activations_view t activations.now)) (block_view t block.now)) (calls.most_cells p) ≡ false }
+    ensures many { result ≡ None → (t : Tables) →
+        nat_le (calls.cells_above (drop 1 (activations_view t activations.now)) (block_view t block.now)) (calls.most_cells p) ≡ false }
 {
     match activations {
         [below @ .., _innermost] => cells_above(p, below, block),
@@ -157,7 +158,13 @@ fn scan_ahead<'t>(
     resource: u32,
     procedure: u32,
 ) -> Scan<'t>
-    ensures { (t : Tables) → scan_view t result ≡ record { resource = resource; line = get_or program.now.resource_ends.items resource 0; after = None; way = way_in resource procedure (block_view t block.now).guard } }
+    ensures { (t : Tables) → scan_view t result ≡ record {
+      resource = resource;
+      line = get_or program.now.resource_ends.items resource 0;
+      after = None;
+      way =
+          way_in resource procedure (block_view t block.now).guard;
+    } }
 {
     let line = match program.resource_ends.get(resource as usize) {
         Some(line) => *line,
@@ -216,7 +223,14 @@ fn give_way<'t>(
 
 /// The process has this at hand, in another activation in place of its innermost.
 fn replace<'t>(activity: &mut Activity<'t>, other: Other, doing: Doing<'t>, display: Display)
-    ensures { (t : Tables) → activity_shown t activity.new ≡ record { next = doing_ahead t doing.entry; display = display; activations = instead other.number other.scope other.cells (activations_view t activity.old.activations.items); hand = empty_hand; line = activity.old.line } }
+    ensures { (t : Tables) → activity_shown t activity.new ≡ record {
+      next = doing_ahead t doing.entry;
+      display = display;
+      activations =
+          instead other.number other.scope other.cells (activations_view t activity.old.activations.items);
+      hand = empty_hand;
+      line = activity.old.line;
+    } }
 {
     activity.doing = doing;
     activity.display = display;
@@ -226,7 +240,8 @@ fn replace<'t>(activity: &mut Activity<'t>, other: Other, doing: Doing<'t>, disp
 
 /// The innermost activation is another; its caller, its mark and the display behind it stay.
 fn replace_last<'t>(activations: &mut Vec<Activation<'t>>, other: Other)
-    ensures { (t : Tables) → activations_view t activations.new.items ≡ instead other.number other.scope other.cells (activations_view t activations.old.items) }
+    ensures { (t : Tables) → activations_view t activations.new.items ≡ instead other.number other.scope other.cells
+        (activations_view t activations.old.items) }
 {
     if let Some(last) = activations.last_mut() {
         last.number = other.number;

@@ -48,14 +48,16 @@ enter h p g lt ok = go (holder_in h.holders g) refl
   where
     go : (o : Option ℕ) → holder_in h.holders g ≡ o → AreOrderly (resource_entered_where o h p g)
     go None e =
-        both h (holding h g (Some p)) g ok (λ free. is-held _ p (sym (same-holder h.holders g (Some p) lt) ∙ free)) (λ n other. other-holder h.holders g n (Some p) other) (λ n other u. u)
+        both h (holding h g (Some p)) g ok (λ free. is-held _ p (sym (same-holder h.holders g (Some p) lt) ∙ free))
+        (λ n other. other-holder h.holders g n (Some p) other) (λ n other u. u)
     go (Some q) e =
         both h (standing h (blocked h.table p (Entrant g) [])) g ok (λ free. is-held _ q (sym e ∙ free)) (λ n other. refl)
         (λ n other u. unwanted-set h.table.rows n p (Waits (Entrant g) _ []) (another g n _ other) u)
 
 pub pass : (h : Held) (g q : ℕ) → g < length h.holders → AreOrderly h → AreOrderly (passed_to h g q)
 pass h g q lt ok =
-    both h (given_to (Some q) h g) g ok (λ free. is-held _ q (sym (same-holder h.holders g (Some q) lt) ∙ free)) (λ n other. other-holder h.holders g n (Some q) other)
+    both h (given_to (Some q) h g) g ok (λ free. is-held _ q (sym (same-holder h.holders g (Some q) lt) ∙ free))
+    (λ n other. other-holder h.holders g n (Some q) other)
     (λ n other u. unwanted-set h.table.rows n q Is_ready refl u)
 
 pub give_up : (h : Held) (g : ℕ) → g < length h.holders → AreOrderly h → AreOrderly (given_up h g)
@@ -63,7 +65,8 @@ give_up h g lt ok = go (next_entrant h.table.rows g) refl
   where
     go : (o : Option ℕ) → next_entrant h.table.rows g ≡ o → AreOrderly (given_to o h g)
     go (Some q) e = pass h g q lt ok
-    go None e = both h (holding h g None) g ok (λ free. nobody-first (ticket_at (Entrant g)) h.table.rows refl e) (λ n other. other-holder h.holders g n None other) (λ n other u. u)
+    go None e = both h (holding h g None) g ok (λ free. nobody-first (ticket_at (Entrant g)) h.table.rows refl e)
+        (λ n other. other-holder h.holders g n None other) (λ n other u. u)
 
 pub bar : (h : Held) (p g procedure : ℕ) → g < length h.holders → AreOrderly h → AreOrderly (barred h p g procedure)
 bar h p g procedure lt ok n free = unwanted-set (given_up h g).table.rows n p (Waits (Barred g procedure) _ []) refl (give_up h g lt ok n free)
@@ -106,7 +109,8 @@ same-ticket : (b : Bool) (ticket t : ℕ) → cond b (Some ticket) None ≡ Some
 same-ticket true ticket t h = h
 same-ticket false ticket t h = no-ticket _ t h
 
-gives-wait : (g : ℕ) (after : Option ℕ) (why : Why) (ticket : ℕ) (arms : List Arm) (t : ℕ) → ticket_barred g after (Waits why ticket arms) ≡ Some t → Some ticket ≡ Some t
+gives-wait : (g : ℕ) (after : Option ℕ) (why : Why) (ticket : ℕ) (arms : List Arm) (t : ℕ) →
+    ticket_barred g after (Waits why ticket arms) ≡ Some t → Some ticket ≡ Some t
 gives-wait g after (Barred resource procedure) ticket arms t h = same-ticket ((resource == g) && is_above after ticket) ticket t h
 gives-wait g after _ ticket arms t h = no-ticket _ t h
 

@@ -21,7 +21,8 @@ pub fn a_free_resource_is_wanted_by_nobody()
 /// Who is barred is tried in the order of tickets: the next is the one of least ticket above that of the turn before, so
 /// the tickets of a scan's turns rise, and nobody whose ticket lies between two turns is passed over.
 pub fn barred_processes_are_tried_in_the_order_of_tickets()
-    ensures next { (rows : List Stand) (g q : ℕ) (after : Option ℕ) → AreApart rows → IsFirst (ticket_barred g after) rows q → next_barred rows g after ≡ Some q }
+    ensures next { (rows : List Stand) (g q : ℕ) (after : Option ℕ) → AreApart rows →
+        IsFirst (ticket_barred g after) rows q → next_barred rows g after ≡ Some q }
     ensures none { (rows : List Stand) (g : ℕ) (after : Option ℕ) → IsNobody (ticket_barred g after) rows → next_barred rows g after ≡ None }
     ensures rises { (g t u : ℕ) (stand : Stand) → ticket_barred g (Some t) stand ≡ Some u → t < u }
 {}

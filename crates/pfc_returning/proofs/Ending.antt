@@ -30,7 +30,8 @@ use Rattle.pfc_returning.specs.Ending.{HasEnded}
 
 -- main may be released, and nothing else changes
 released_acting : (w : Table) → (released w).acting ≡ w.acting
-released_acting w = elim (is_released w.rows) as (λ b. (let u : Table = if b then placed w 0 Is_ready else w in u.acting ≡ w.acting)) [ true ↦ refl | false ↦ refl ]
+released_acting w = elim (is_released w.rows) as (λ b. (let u : Table = if b then
+    placed w 0 Is_ready else w in u.acting ≡ w.acting)) [ true ↦ refl | false ↦ refl ]
 
 released_rows : (w : Table) → length (released w).rows ≡ length w.rows
 released_rows w =
@@ -57,7 +58,8 @@ finished_moment w p =
 
 -- ## The variables
 
-pub without_more : (store : Store) (xs : List configurations.Activation) (a : configurations.Activation) → without_all store (xs ++ a ∷ []) ≡ without (without_all store xs) a.number
+pub without_more : (store : Store) (xs : List configurations.Activation) (a : configurations.Activation) →
+    without_all store (xs ++ a ∷ []) ≡ without (without_all store xs) a.number
 without_more store [] a = refl
 without_more store (x ∷ xs) a = without_more (without store x.number) xs a
 

@@ -43,7 +43,8 @@ use Rattle.pfc_returning.proofs.Scanning.{nothing_so, IsPut, scan_put, put_befor
 
 -- mid is the state without the variables of that activation, and y the process behind it
 pub goes_back_so :
-    (source : Source) (g : Program) (s mid new : State) (c k : Config) (p choice number line : ℕ) (b y : Activity) (a : Activation) (below : List Activation) (doing : Doing)
+    (source : Source) (g : Program) (s mid new : State) (c k : Config) (p choice number line : ℕ) (b y : Activity) (a : Activation)
+    (below : List Activation) (doing : Doing)
     → IsBefore source s k p b (finishes line) → k.table.acting ≡ None → k.fault ≡ None
     → mid ≡ record s { store = mid.store } → store_view mid.store ≡ without (store_view s.store) number → number ≡ a.number
     → activity_shown source.program.tables y ≡ shown_back doing a.display below line

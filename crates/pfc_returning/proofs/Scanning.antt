@@ -111,7 +111,8 @@ last_first : (t : Tables) (xs : List Activation) (x : Activation) → activation
 last_first t xs x = ap reverse (map-append (activation_view t) xs (x ∷ [])) ∙ reverse-append (map (activation_view t) xs) (activation_view t x ∷ [])
 
 -- what was pushed, where there was room for it
-pub pushed : {E : Type 0} (xs new : List Activation) (x : Activation) (r : Result (Unit {0}) E) (u : Unit {0}) → new ≡ (if is_ok r then xs ++ x ∷ [] else xs) → r ≡ Ok u → new ≡ xs ++ x ∷ []
+pub pushed : {E : Type 0} (xs new : List Activation) (x : Activation) (r : Result (Unit {0}) E) (u : Unit {0}) →
+    new ≡ (if is_ok r then xs ++ x ∷ [] else xs) → r ≡ Ok u → new ≡ xs ++ x ∷ []
 pushed xs new x r u is ok = is ∙ ap (λ z. if is_ok z then xs ++ x ∷ [] else xs) ok
 
 -- the innermost has another caller
@@ -121,7 +122,8 @@ pub other_caller :
     → activations_view t new ≡ record (activation_view t x) { caller = inner } ∷ activations_view t popped
 other_caller t old popped new x caller inner before is same =
     ap (activations_view t) is ∙ last_first t popped (record x { caller = caller })
-    ∙ ap (λ (z : configurations.Caller). (let y : configurations.Activation = record (activation_view t x) { caller = z } in y ∷ activations_view t popped)) same
+    ∙ ap (λ (z : configurations.Caller). (let y : configurations.Activation =
+    record (activation_view t x) { caller = z } in y ∷ activations_view t popped)) same
 
 pub scan_seen :
     (t : Tables) (old : Activity) (popped new : List Activation) (x : Activation) (caller : HeldCaller) (resource line : ℕ)
@@ -170,7 +172,8 @@ put_before source g s new c p resource line a b n before put shows =
 
 -- what was there before is not to be seen behind the return
 pub left_from_scan :
-    (g : Program) (c : Config) (p resource line : ℕ) (a : configurations.Activation) (caller : configurations.Caller) (below : List configurations.Activation) (doing : Doing)
+    (g : Program) (c : Config) (p resource line : ℕ) (a : configurations.Activation) (caller : configurations.Caller)
+    (below : List configurations.Activation) (doing : Doing)
     → p < length c.activities
     → left_by g (scan_put g c p resource line) p (record a { caller = caller }) below doing ≡ left_by g c p a below doing
 left_from_scan g c p resource line a caller below doing within =

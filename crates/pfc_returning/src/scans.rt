@@ -29,7 +29,8 @@ fn push_scan<'t>(
     resource: u32,
     line: u32,
 ) -> Result<(), Memory>
-    ensures ok { OnOk result ((t : Tables) → remainder_of (waiting t pending.new.items) ≡ scan_before t names resource line (remainder_of (waiting t pending.old.items))) }
+    ensures ok { OnOk result ((t : Tables) → remainder_of (waiting t pending.new.items) ≡ scan_before t names resource line
+        (remainder_of (waiting t pending.old.items))) }
     ensures err { OnErr result (pending.new.items ≡ pending.old.items) }
 {
     pending.reserve(2)?;

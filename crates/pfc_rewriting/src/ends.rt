@@ -26,7 +26,8 @@ impl<'t> Going<'t> {
         alloc: Global,
     ) -> Result<Option<Came<'t>>, Memory>
         requires { HasRoom self.old }
-        ensures { (t : Tables) (env : Known) → turned_ahead t env self.new result ≡ from_remainder env (remainder_of (over t (waiting t self.old.pending.items) part.entry)) }
+        ensures { (t : Tables) (env : Known) →
+            turned_ahead t env self.new result ≡ from_remainder env (remainder_of (over t (waiting t self.old.pending.items) part.entry)) }
     {
         match part {
             Pending::Within(n, s, point) => self.end_within(n, s, point, alloc),
@@ -48,7 +49,9 @@ impl<'t> Going<'t> {
         alloc: Global,
     ) -> Result<Option<Came<'t>>, Memory>
         requires { HasRoom self.old }
-        ensures { (t : Tables) (env : Known) → turned_ahead t env self.new result ≡ from_remainder env (remainder_of (over t (waiting t self.old.pending.items) (pending.Within n s.entry point))) }
+        ensures { (t : Tables) (env : Known) →
+            turned_ahead t env self.new result ≡ from_remainder env
+            (remainder_of (over t (waiting t self.old.pending.items) (pending.Within n s.entry point))) }
     {
         match resume_in(n, s, point, alloc) {
             Ok(begun) => {
@@ -64,7 +67,8 @@ impl<'t> Going<'t> {
     fn end_plain(&mut self, part: Pending<'t>, alloc: Global) -> Result<Option<Came<'t>>, Memory>
         requires room { HasRoom self.old }
         requires plain { is_plain part ≡ true }
-        ensures { (t : Tables) (env : Known) → turned_ahead t env self.new result ≡ from_remainder env (remainder_of (over t (waiting t self.old.pending.items) part.entry)) }
+        ensures { (t : Tables) (env : Known) →
+            turned_ahead t env self.new result ≡ from_remainder env (remainder_of (over t (waiting t self.old.pending.items) part.entry)) }
     {
         match resume(&part, self.pending.last(), alloc) {
             Ok(Some(resumed)) => {
@@ -98,7 +102,8 @@ impl<'t> Going<'t> {
     #[tactic(auto, using(crate::proofs::Waiting::parts))]
     fn put_back(&mut self, part: Pending<'t>) -> Memory
         requires { HasRoom self.old }
-        ensures { (t : Tables) (env : Known) → going_ahead t env self.new ≡ from_remainder env (remainder_of (over t (waiting t self.old.pending.items) part.entry)) }
+        ensures { (t : Tables) (env : Known) →
+            going_ahead t env self.new ≡ from_remainder env (remainder_of (over t (waiting t self.old.pending.items) part.entry)) }
     {
         self.pending.push_reserved(part);
         self.put(At::Rest);

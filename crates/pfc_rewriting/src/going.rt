@@ -34,7 +34,8 @@ impl<'t> Going<'t> {
     #[tactic(auto, using(crate::proofs::Waiting::parts))]
     pub(crate) fn go_on(&mut self, step: Step<'t>)
         requires { HasRoom self.old }
-        ensures { (t : Tables) (env : Known) → going_ahead t env self.new ≡ step_ahead t (context env self.old.line) (waiting t self.old.pending.items) step.entry }
+        ensures { (t : Tables) (env : Known) →
+            going_ahead t env self.new ≡ step_ahead t (context env self.old.line) (waiting t self.old.pending.items) step.entry }
     {
         match step {
             Step::On(at) => self.put(at),

@@ -31,7 +31,8 @@ impl<'t> Going<'t> {
     #[inline(never)]
     pub(crate) fn read(&mut self, at: At<'t>, site: Site<'t, '_>) -> Result<(), Memory>
         requires { HasRoom self.old }
-        ensures { (t : Tables) → going_ahead t (env_view site.entry.env) self.new ≡ ahead t (context (env_view site.entry.env) self.old.line) (waiting t self.old.pending.items) at.entry }
+        ensures { (t : Tables) → going_ahead t (env_view site.entry.env) self.new ≡ ahead t (context (env_view site.entry.env) self.old.line)
+            (waiting t self.old.pending.items) at.entry }
     {
         match at {
             At::Stmt(n, s) => self.read_stmt(n, s, site),
@@ -49,7 +50,8 @@ impl<'t> Going<'t> {
     #[inline(never)]
     pub(crate) fn read_expr(&mut self, e: &'t Expr, site: Site<'t, '_>)
         requires { HasRoom self.old }
-        ensures { (t : Tables) → going_ahead t (env_view site.entry.env) self.new ≡ ahead t (context (env_view site.entry.env) self.old.line) (waiting t self.old.pending.items) (at.Expr e.entry) }
+        ensures { (t : Tables) → going_ahead t (env_view site.entry.env) self.new ≡ ahead t (context (env_view site.entry.env) self.old.line)
+            (waiting t self.old.pending.items) (at.Expr e.entry) }
     {
         self.go_on(expr(e, site));
     }
@@ -58,7 +60,8 @@ impl<'t> Going<'t> {
     #[inline(never)]
     pub(crate) fn read_simple(&mut self, s: &'t Simple, site: Site<'t, '_>)
         requires { HasRoom self.old }
-        ensures { (t : Tables) → going_ahead t (env_view site.entry.env) self.new ≡ ahead t (context (env_view site.entry.env) self.old.line) (waiting t self.old.pending.items) (at.Simple s.entry) }
+        ensures { (t : Tables) → going_ahead t (env_view site.entry.env) self.new ≡ ahead t (context (env_view site.entry.env) self.old.line)
+            (waiting t self.old.pending.items) (at.Simple s.entry) }
     {
         self.go_on(simple(s, site));
     }
@@ -67,7 +70,8 @@ impl<'t> Going<'t> {
     #[inline(never)]
     pub(crate) fn read_term(&mut self, product: &'t Term, site: Site<'t, '_>)
         requires { HasRoom self.old }
-        ensures { (t : Tables) → going_ahead t (env_view site.entry.env) self.new ≡ ahead t (context (env_view site.entry.env) self.old.line) (waiting t self.old.pending.items) (at.Term product.entry) }
+        ensures { (t : Tables) → going_ahead t (env_view site.entry.env) self.new ≡ ahead t (context (env_view site.entry.env) self.old.line)
+            (waiting t self.old.pending.items) (at.Term product.entry) }
     {
         self.go_on(term(product, site));
     }
@@ -76,7 +80,8 @@ impl<'t> Going<'t> {
     #[inline(never)]
     pub(crate) fn read_factor(&mut self, f: &'t Factor, site: Site<'t, '_>)
         requires { HasRoom self.old }
-        ensures { (t : Tables) → going_ahead t (env_view site.entry.env) self.new ≡ ahead t (context (env_view site.entry.env) self.old.line) (waiting t self.old.pending.items) (at.Factor f.entry) }
+        ensures { (t : Tables) → going_ahead t (env_view site.entry.env) self.new ≡ ahead t (context (env_view site.entry.env) self.old.line)
+            (waiting t self.old.pending.items) (at.Factor f.entry) }
     {
         self.go_on(factor(f, site));
     }
@@ -90,7 +95,8 @@ impl<'t> Going<'t> {
         site: Site<'t, '_>,
     ) -> Result<(), Memory>
         requires { HasRoom self.old }
-        ensures { (t : Tables) → going_ahead t (env_view site.entry.env) self.new ≡ ahead t (context (env_view site.entry.env) self.old.line) (waiting t self.old.pending.items) (at.Stmt n s.entry) }
+        ensures { (t : Tables) → going_ahead t (env_view site.entry.env) self.new ≡ ahead t (context (env_view site.entry.env) self.old.line)
+            (waiting t self.old.pending.items) (at.Stmt n s.entry) }
     {
         match stmt(n, s, site) {
             Ok(Begin::Step(begun)) => {
@@ -114,8 +120,10 @@ impl<'t> Going<'t> {
         q: Select<'t>,
         site: Site<'t, '_>,
     ) -> Result<(), Memory>
-        requires { (t : Tables) (w : Waiting) → select_ahead (env_view site.env) n w q ≡ from_stmt (env_view site.env) n (stmt_at s) (remainder_of w) (from_remainder (env_view site.env) (remainder_of w)) }
-        ensures { (t : Tables) → going_ahead t (env_view site.entry.env) self.new ≡ ahead t (context (env_view site.entry.env) self.old.line) (waiting t self.old.pending.items) (at.Stmt n s.entry) }
+        requires { (t : Tables) (w : Waiting) → select_ahead (env_view site.env) n w q ≡ from_stmt (env_view site.env) n (stmt_at s) (remainder_of w)
+            (from_remainder (env_view site.env) (remainder_of w)) }
+        ensures { (t : Tables) → going_ahead t (env_view site.entry.env) self.new ≡ ahead t (context (env_view site.entry.env) self.old.line)
+            (waiting t self.old.pending.items) (at.Stmt n s.entry) }
     {
         match begin(n, q.pri, q.alts, q.otherwise, q.line, site) {
             Ok(at) => {
@@ -134,7 +142,8 @@ impl<'t> Going<'t> {
     #[inline(never)]
     pub(crate) fn read_stmts(&mut self, n: u32, ss: Stmts<'t>) -> Result<(), Memory>
         requires { HasRoom self.old }
-        ensures { (t : Tables) (env : Known) → going_ahead t env self.new ≡ ahead t (context env self.old.line) (waiting t self.old.pending.items) (at.Stmts n ss.entry) }
+        ensures { (t : Tables) (env : Known) →
+            going_ahead t env self.new ≡ ahead t (context env self.old.line) (waiting t self.old.pending.items) (at.Stmts n ss.entry) }
     {
         match stmts(n, ss) {
             Ok(step) => {
@@ -159,7 +168,8 @@ impl<'t> Going<'t> {
         site: Site<'t, '_>,
     ) -> Result<(), Memory>
         requires { HasRoom self.old }
-        ensures { (t : Tables) → going_ahead t (env_view site.entry.env) self.new ≡ ahead t (context (env_view site.entry.env) self.old.line) (waiting t self.old.pending.items) (at.Part spot es.entry ss.entry goal.entry) }
+        ensures { (t : Tables) → going_ahead t (env_view site.entry.env) self.new ≡ ahead t (context (env_view site.entry.env) self.old.line)
+            (waiting t self.old.pending.items) (at.Part spot es.entry ss.entry goal.entry) }
     {
         match lead(spot, es, ss, goal, site) {
             Reached::Step(step) => {
@@ -191,7 +201,8 @@ impl<'t> Going<'t> {
 
     /// A variable and what waits for it are at hand again, since memory was refused.
     fn wait_still(&mut self, spot: TypedSpot, goal: Goal<'t>) -> Memory
-        ensures { (t : Tables) (env : Known) → going_ahead t env self.new ≡ from_location (context env self.old.line) (goal_over (waiting t self.old.pending.items) goal.entry) (typed_spot_view spot) }
+        ensures { (t : Tables) (env : Known) → going_ahead t env self.new ≡ from_location (context env self.old.line)
+            (goal_over (waiting t self.old.pending.items) goal.entry) (typed_spot_view spot) }
     {
         self.put(At::Part(spot, &[], &[], goal));
         Memory
@@ -205,7 +216,8 @@ impl<'t> Going<'t> {
         choosing: Box<Choosing<'t>>,
     ) -> Result<(), Memory>
         requires { HasRoom self.old }
-        ensures { (t : Tables) (env : Known) → going_ahead t env self.new ≡ from_location (context env self.old.line) (goal_over (waiting t self.old.pending.items) (goal.OfferTo message.entry choosing.entry)) (typed_spot_view spot) }
+        ensures { (t : Tables) (env : Known) → going_ahead t env self.new ≡ from_location (context env self.old.line)
+            (goal_over (waiting t self.old.pending.items) (goal.OfferTo message.entry choosing.entry)) (typed_spot_view spot) }
     {
         match reach_to(spot, message, choosing) {
             Ok(step) => {
@@ -245,7 +257,8 @@ impl<'t> Going<'t> {
         choosing: Box<Choosing<'t>>,
     ) -> Result<(), Memory>
         requires { HasRoom self.old }
-        ensures { (t : Tables) (env : Known) → going_ahead t env self.new ≡ from_location (context env self.old.line) (goal_over (waiting t self.old.pending.items) (goal.OfferInto channel choosing.entry)) (typed_spot_view spot) }
+        ensures { (t : Tables) (env : Known) → going_ahead t env self.new ≡ from_location (context env self.old.line)
+            (goal_over (waiting t self.old.pending.items) (goal.OfferInto channel choosing.entry)) (typed_spot_view spot) }
     {
         match reach_into(spot, channel, choosing) {
             Ok(step) => {
@@ -260,7 +273,8 @@ impl<'t> Going<'t> {
     #[inline(never)]
     fn read_opened(&mut self, choosing: Box<Choosing<'t>>, site: Site<'t, '_>) -> Result<(), Memory>
         requires { HasRoom self.old }
-        ensures { (t : Tables) → going_ahead t (env_view site.entry.env) self.new ≡ ahead t (context (env_view site.entry.env) self.old.line) (waiting t self.old.pending.items) (at.Opened choosing.entry) }
+        ensures { (t : Tables) → going_ahead t (env_view site.entry.env) self.new ≡ ahead t (context (env_view site.entry.env) self.old.line)
+            (waiting t self.old.pending.items) (at.Opened choosing.entry) }
     {
         match opened(choosing, site) {
             Ok(step) => {

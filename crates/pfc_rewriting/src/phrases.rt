@@ -15,7 +15,8 @@ use pfc_statement_steps::{item, reads, writes};
 /// What a part of the text comes to, on this line; what is none, or takes memory, stays at hand.
 #[inline(never)]
 pub(crate) fn phrase<'t>(at: At<'t>, line: u32, site: Site<'t, '_>) -> Step<'t>
-    ensures { (t : Tables) (w : Waiting) → step_ahead t (context (env_view site.entry.env) line) w result ≡ ahead t (context (env_view site.entry.env) line) w at.entry }
+    ensures { (t : Tables) (w : Waiting) → step_ahead t (context (env_view site.entry.env) line) w result ≡ ahead t
+        (context (env_view site.entry.env) line) w at.entry }
 {
     match at {
         At::Writes(items, newline) => writes(items, newline, line),

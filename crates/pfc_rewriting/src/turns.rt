@@ -115,7 +115,8 @@ impl<'t> Going<'t> {
     #[tactic(auto, using(crate::proofs::Waiting::unwanted))]
     fn turn_value(&mut self, v: Value, site: Site<'t, '_>) -> Result<(), Memory>
         requires { HasRoom self.old }
-        ensures { (t : Tables) → going_ahead t (env_view site.entry.env) self.new ≡ going_ahead t (env_view site.entry.env) (record self.old { at = at.Value v }) }
+        ensures { (t : Tables) → going_ahead t (env_view site.entry.env) self.new ≡ going_ahead t (env_view site.entry.env)
+            (record self.old { at = at.Value v }) }
     {
         match self.pending.pop() {
             Some(part) => self.meet(part, v, site),

@@ -32,7 +32,8 @@ impl<'t> Going<'t> {
         site: Site<'t, '_>,
     ) -> Result<(), Memory>
         requires { HasRoom self.old }
-        ensures { (t : Tables) → going_ahead t (env_view site.entry.env) self.new ≡ from_value (context (env_view site.entry.env) self.old.line) (awaits_of (over t (waiting t self.old.pending.items) part.entry)) (value_view v) }
+        ensures { (t : Tables) → going_ahead t (env_view site.entry.env) self.new ≡ from_value (context (env_view site.entry.env) self.old.line)
+            (awaits_of (over t (waiting t self.old.pending.items) part.entry)) (value_view v) }
     {
         let mut part = part;
         if !is_of_expression(&part) {
@@ -52,7 +53,9 @@ impl<'t> Going<'t> {
     #[tactic(auto, using(crate::proofs::Waiting::parts))]
     fn wait_again(&mut self, part: Pending<'t>, v: Value) -> Memory
         requires { HasRoom self.old }
-        ensures { (t : Tables) (env : Known) → going_ahead t env self.new ≡ from_value (context env self.old.line) (awaits_of (over t (waiting t self.old.pending.items) part.entry)) (value_view v) }
+        ensures { (t : Tables) (env : Known) →
+            going_ahead t env self.new ≡ from_value (context env self.old.line)
+            (awaits_of (over t (waiting t self.old.pending.items) part.entry)) (value_view v) }
     {
         self.pending.push_reserved(part);
         self.put(At::Value(v));
@@ -64,7 +67,8 @@ impl<'t> Going<'t> {
     fn meet_other(&mut self, part: Pending<'t>, v: Value, site: Site<'t, '_>) -> Result<(), Memory>
         requires room { HasRoom self.old }
         requires other { expressions.is_of_expression part ≡ false }
-        ensures { (t : Tables) → going_ahead t (env_view site.entry.env) self.new ≡ from_value (context (env_view site.entry.env) self.old.line) (awaits_of (over t (waiting t self.old.pending.items) part.entry)) (value_view v) }
+        ensures { (t : Tables) → going_ahead t (env_view site.entry.env) self.new ≡ from_value (context (env_view site.entry.env) self.old.line)
+            (awaits_of (over t (waiting t self.old.pending.items) part.entry)) (value_view v) }
     {
         match arrive_guard(&part, &v, self.line) {
             Some(begun) => {
@@ -83,7 +87,8 @@ impl<'t> Going<'t> {
         requires room { HasRoom self.old }
         requires other { expressions.is_of_expression part ≡ false }
         requires no_guard { is_guard part ≡ false }
-        ensures { (t : Tables) → going_ahead t (env_view site.entry.env) self.new ≡ from_value (context (env_view site.entry.env) self.old.line) (awaits_of (over t (waiting t self.old.pending.items) part.entry)) (value_view v) }
+        ensures { (t : Tables) → going_ahead t (env_view site.entry.env) self.new ≡ from_value (context (env_view site.entry.env) self.old.line)
+            (awaits_of (over t (waiting t self.old.pending.items) part.entry)) (value_view v) }
     {
         match part {
             Pending::Within(n, s, point) => self.meet_point(n, s, point, v, site),
@@ -112,7 +117,8 @@ impl<'t> Going<'t> {
         site: Site<'t, '_>,
     ) -> Result<(), Memory>
         requires { HasRoom self.old }
-        ensures { (t : Tables) → going_ahead t (env_view site.entry.env) self.new ≡ from_value (context (env_view site.entry.env) self.old.line) (awaits_of (over t (waiting t self.old.pending.items) (pending.Within n s.entry point))) (value_view v) }
+        ensures { (t : Tables) → going_ahead t (env_view site.entry.env) self.new ≡ from_value (context (env_view site.entry.env) self.old.line)
+            (awaits_of (over t (waiting t self.old.pending.items) (pending.Within n s.entry point))) (value_view v) }
     {
         match arrive_in(n, s, point, &v, self.line, site) {
             Ok(step) => {
@@ -132,7 +138,9 @@ impl<'t> Going<'t> {
         v: Value,
     ) -> Result<(), Memory>
         requires { HasRoom self.old }
-        ensures { (t : Tables) (env : Known) → going_ahead t env self.new ≡ from_value (context env self.old.line) (awaits_of (over t (waiting t self.old.pending.items) (pending.OfferValue channel choosing.entry))) (value_view v) }
+        ensures { (t : Tables) (env : Known) →
+            going_ahead t env self.new ≡ from_value (context env self.old.line)
+            (awaits_of (over t (waiting t self.old.pending.items) (pending.OfferValue channel choosing.entry))) (value_view v) }
     {
         match offer_value(channel, choosing, v) {
             Ok(step) => {
@@ -150,7 +158,9 @@ impl<'t> Going<'t> {
     #[inline(never)]
     fn meet_seconds(&mut self, choosing: Box<Choosing<'t>>, v: Value) -> Result<(), Memory>
         requires { HasRoom self.old }
-        ensures { (t : Tables) (env : Known) → going_ahead t env self.new ≡ from_value (context env self.old.line) (awaits_of (over t (waiting t self.old.pending.items) (pending.OfferWait choosing.entry))) (value_view v) }
+        ensures { (t : Tables) (env : Known) →
+            going_ahead t env self.new ≡ from_value (context env self.old.line)
+            (awaits_of (over t (waiting t self.old.pending.items) (pending.OfferWait choosing.entry))) (value_view v) }
     {
         match offer_wait(choosing, &v) {
             Ok(step) => {

@@ -25,7 +25,8 @@ pub fn next_deed<'t>(
     names: &mut Names,
     going: &mut Going<'t>,
 ) -> Result<Deed<'t>, Memory>
-    ensures ok { IfOk result (λ deed. deed_ahead program.now.tables (context (names_view program.now.tables names.new) going.new.line) (waiting program.now.tables going.new.pending.items) deed
+    ensures ok { IfOk result (λ deed. deed_ahead program.now.tables (context (names_view program.now.tables names.new) going.new.line)
+        (waiting program.now.tables going.new.pending.items) deed
         ≡ going_ahead program.now.tables (names_view program.now.tables names.old) going.old) }
     ensures err { OnErr result (going_ahead program.now.tables (names_view program.now.tables names.new) going.new
         ≡ going_ahead program.now.tables (names_view program.now.tables names.old) going.old) }

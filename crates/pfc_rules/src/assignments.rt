@@ -47,7 +47,8 @@ fn result_type(n: u32, env: Env) -> Option<TypeId>
 
 /// 310: a sub that is assigned is a function. 327: its name is assigned inside its body only. At the name.
 fn result_fault(n: u32, place: Place, env: Env) -> Option<Refusal>
-    ensures { refused result ≡ rules.sub_target (rules.is_around (levels env.entry.view.now) (sub_at env.entry.scopes.now n).scope) (sub_at env.entry.scopes.now n).sort place }
+    ensures { refused result ≡ rules.sub_target (rules.is_around (levels env.entry.view.now) (sub_at env.entry.scopes.now n).scope)
+        (sub_at env.entry.scopes.now n).sort place }
 {
     let inside = is_inside(n, env);
     match env.scopes.sub_sort(n) {

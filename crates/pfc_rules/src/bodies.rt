@@ -82,7 +82,8 @@ fn guard(kind: &SubKind, env: Env, best: &mut Best)
 
 /// The guard of a sub, whose own scope is `own` and holds `count` parameters. `outer` is in view around the heading.
 fn headed(kind: &SubKind, own: u32, count: u32, outer: &View, home: Home, best: &mut Best)
-    ensures { best.new ≡ noted best.old (rules.broken_when (rules.env_at (finished_in home.entry) (rules.level own count ∷ levels outer.now) (rules.around_guard home.entry.scope)) (kind_view kind.now)) }
+    ensures { best.new ≡ noted best.old (rules.broken_when (rules.env_at (finished_in home.entry) (rules.level own count ∷ levels outer.now)
+        (rules.around_guard home.entry.scope)) (kind_view kind.now)) }
 {
     let view = View {
         scope: own,
@@ -96,7 +97,9 @@ fn headed(kind: &SubKind, own: u32, count: u32, outer: &View, home: Home, best: 
 pub(crate) fn block_body(b: &Body, next: u32, around: Around, home: Home, best: &mut Best) -> u32
     requires { next + body_scopes (body_view b.now) < 2 ^ 32 }
     ensures next { result ≡ next + body_scopes (body_view b.now) }
-    ensures best { best.new ≡ noted best.old (broken_body (rules.env_at (finished_in home.entry) (here home.entry.scopes.now.scopes home.entry.scope (levels_around home.entry.outer)) around) next (body_view b.now)) }
+    ensures best { best.new ≡ noted best.old
+        (broken_body (rules.env_at (finished_in home.entry) (here home.entry.scopes.now.scopes home.entry.scope (levels_around home.entry.outer)) around) next
+        (body_view b.now)) }
 {
     let view = view_of(home, names_in(home.scopes, home.scope));
     body(b, next, env_at(home, &view, around), best)
@@ -108,7 +111,8 @@ pub(crate) fn block_body(b: &Body, next: u32, around: Around, home: Home, best: 
 fn part(p: &Part, count: u32, next: u32, home: Home, best: &mut Best) -> u32
     requires { next + rules.part_scopes (part_view p.now) < 2 ^ 32 }
     ensures next { result ≡ next + rules.part_scopes (part_view p.now) }
-    ensures best { best.new ≡ noted best.old (rules.broken_part (finished_in home.entry) home.entry.process home.entry.scope count (levels_around home.entry.outer) next (part_view p.now)) }
+    ensures best { best.new ≡ noted best.old (rules.broken_part (finished_in home.entry) home.entry.process home.entry.scope count
+        (levels_around home.entry.outer) next (part_view p.now)) }
 {
     match p {
         Part::Consts(_) | Part::Types(_) | Part::Vars(_) => next,
@@ -124,7 +128,8 @@ fn part(p: &Part, count: u32, next: u32, home: Home, best: &mut Best) -> u32
 pub(crate) fn parts(ps: &[Part], count: u32, next: u32, home: Home, best: &mut Best) -> u32
     requires { next + rules.parts_scopes (parts_view ps.now) < 2 ^ 32 }
     ensures next { result ≡ next + rules.parts_scopes (parts_view ps.now) }
-    ensures best { best.new ≡ noted best.old (rules.broken_parts (finished_in home.entry) home.entry.process home.entry.scope count (levels_around home.entry.outer) next (parts_view ps.now)) }
+    ensures best { best.new ≡ noted best.old (rules.broken_parts (finished_in home.entry) home.entry.process home.entry.scope count
+        (levels_around home.entry.outer) next (parts_view ps.now)) }
 {
     let mut before = count;
     let mut after = next;
@@ -140,7 +145,8 @@ pub(crate) fn parts(ps: &[Part], count: u32, next: u32, home: Home, best: &mut B
 fn sub(b: &Sub, count: u32, next: u32, home: Home, best: &mut Best) -> u32
     requires { next + rules.sub_scopes (sub_view b.now) < 2 ^ 32 }
     ensures next { result ≡ next + rules.sub_scopes (sub_view b.now) }
-    ensures best { best.new ≡ noted best.old (rules.broken_sub (finished_in home.entry) home.entry.process home.entry.scope count (levels_around home.entry.outer) next (sub_view b.now)) }
+    ensures best { best.new ≡ noted best.old (rules.broken_sub (finished_in home.entry) home.entry.process home.entry.scope count
+        (levels_around home.entry.outer) next (sub_view b.now)) }
 {
     let own = passed_groups(&b.formals, home.scopes, next, 0);
     let before = view_of(home, count);
@@ -162,7 +168,8 @@ fn sub(b: &Sub, count: u32, next: u32, home: Home, best: &mut Best) -> u32
 fn module(m: &Module, count: u32, next: u32, home: Home, best: &mut Best) -> u32
     requires { next + rules.module_scopes (module_view m.now) < 2 ^ 32 }
     ensures next { result ≡ next + rules.module_scopes (module_view m.now) }
-    ensures best { best.new ≡ noted best.old (rules.broken_module (finished_in home.entry) home.entry.scope count (levels_around home.entry.outer) next (module_view m.now)) }
+    ensures best { best.new ≡ noted best.old (rules.broken_module (finished_in home.entry) home.entry.scope count
+        (levels_around home.entry.outer) next (module_view m.now)) }
 {
     let outer = view_of(home, count);
     let block = inner(home, false, next, &outer);
@@ -178,7 +185,8 @@ fn module(m: &Module, count: u32, next: u32, home: Home, best: &mut Best) -> u32
 fn process(q: &Process, count: u32, next: u32, home: Home, best: &mut Best) -> u32
     requires { next + rules.process_scopes (process_view q.now) < 2 ^ 32 }
     ensures next { result ≡ next + rules.process_scopes (process_view q.now) }
-    ensures best { best.new ≡ noted best.old (rules.broken_process (finished_in home.entry) home.entry.scope count (levels_around home.entry.outer) next (process_view q.now)) }
+    ensures best { best.new ≡ noted best.old (rules.broken_process (finished_in home.entry) home.entry.scope count
+        (levels_around home.entry.outer) next (process_view q.now)) }
 {
     let own = passed_groups(&q.formals, home.scopes, next, 0);
     let own = passed_entries(&q.entries, home.scopes, next, own);

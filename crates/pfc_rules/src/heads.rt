@@ -20,7 +20,8 @@ use pfc_types::TypeId;
 
 /// An expression that has to be a boolean.
 pub(crate) fn condition(e: &Expr, env: Env, best: &mut Best)
-    ensures { best.new ≡ noted best.old (broken_expr (env_view env.entry) (expr_view e.now) ⨾ condition_rule (expr_type (env_view env.entry) (expr_view e.now)) (expr_place (expr_view e.now))) }
+    ensures { best.new ≡ noted best.old (broken_expr (env_view env.entry) (expr_view e.now) ⨾ condition_rule
+        (expr_type (env_view env.entry) (expr_view e.now)) (expr_place (expr_view e.now))) }
 {
     let t = expr(e, env, best);
     best.add(condition_fault(t, expr_place(e)));

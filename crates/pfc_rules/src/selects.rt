@@ -61,7 +61,8 @@ fn ways(alts: &[Alt], best: &mut Best) -> bool
 /// whether a `timeout` or `terminate` stands.
 pub(crate) fn select_head(alts: &[Alt], place: Place, env: Env, best: &mut Best) -> bool
     ensures way { result ≡ rules.has_way (alts_view alts.now) }
-    ensures best { best.new ≡ noted best.old (rules.select_rule (alts_view alts.now) place ⨾ rules.number_rule (env_view env.entry) (alts_view alts.now) place ⨾ rules.ways_rule false (alts_view alts.now)) }
+    ensures best { best.new ≡ noted best.old (rules.select_rule (alts_view alts.now) place ⨾ rules.number_rule (env_view env.entry)
+        (alts_view alts.now) place ⨾ rules.ways_rule false (alts_view alts.now)) }
 {
     best.unless(any_communicates(alts), place, 416);
     best.add(number_fault(alts, place, env));

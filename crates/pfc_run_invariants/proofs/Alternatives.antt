@@ -119,7 +119,8 @@ abbrev pub GoesOn : Asked → ℕ → List Mark → (Selecting → Action) → T
 GoesOn law who ms go = (s : Selecting) → FitsSelecting law who ms s → FitsAction law who ms (go s)
 
 module _ (law : Asked) (who : ℕ) (ms : List Mark) (closed : IsClosed law) where
-  pub open_fits : (a : Alternative) (s : Selecting) (offer : Offer) → FitsAlternative law who ms a → FitsSelecting law who ms s → FitsOffer law who ms offer → FitsSelecting law who ms (with_open a s offer)
+  pub open_fits : (a : Alternative) (s : Selecting) (offer : Offer) → FitsAlternative law who ms a → FitsSelecting law who ms s → FitsOffer law who ms offer →
+      FitsSelecting law who ms (with_open a s offer)
   open_fits a s offer one all fits = (all_push (FitsOpen law who ms) s.offered _ all.0 (fits, one.0, one.3), all.1)
 
   pub begun_fits : (pri : Bool) → FitsSelecting law who ms (select_begun pri)
@@ -154,13 +155,16 @@ module _ (law : Asked) (who : ℕ) (ms : List Mark) (closed : IsClosed law) wher
     -- ## Going through
 
     pub seconds_fit :
-        (a : Alternative) (s : Selecting) (go : Selecting → Action) (v : Value) → FitsAlternative law who ms a → FitsSelecting law who ms s → GoesOn law who ms go
+        (a : Alternative) (s : Selecting) (go : Selecting → Action) (v : Value) → FitsAlternative law who ms a →
+        FitsSelecting law who ms s → GoesOn law who ms go
         → FitsAction law who ms (from_seconds c a s go v)
     seconds_fit a s go v one all on =
         let open_one = with_open a s (to_wait (ordinal_of v)) in
-        either law who ms closed (int_lt (ordinal_of v) (pos 0)) (faults c Below) (go open_one) tt (on open_one (open_fits a s (to_wait (ordinal_of v)) one all tt))
+        either law who ms closed (int_lt (ordinal_of v) (pos 0)) (faults c Below) (go open_one) tt
+        (on open_one (open_fits a s (to_wait (ordinal_of v)) one all tt))
 
-    module _ (a : Alternative) (one : FitsAlternative law who ms a) (rest : List Alternative) (others : FitAlternatives law who ms rest) (s : Selecting) (all : FitsSelecting law who ms s)
+    module _ (a : Alternative) (one : FitsAlternative law who ms a) (rest : List Alternative) (others : FitAlternatives law who ms rest)
+        (s : Selecting) (all : FitsSelecting law who ms s)
         (k : Remainder) (left : FitsRemainder law who ms k) (go : Selecting → Action) (on : GoesOn law who ms go) where
       offered : (offer : Offer) → FitsOffer law who ms offer → FitsAction law who ms (go (with_open a s offer))
       offered offer fits = on (with_open a s offer) (open_fits a s offer one all fits)
@@ -174,21 +178,25 @@ module _ (law : Asked) (who : ℕ) (ms : List Mark) (closed : IsClosed law) wher
       pub receiver_fits : (channel : Spot) (d : Option DesigTree) → FitsTarget d → FitsAction law who ms (from_receiver c channel d a rest s k go)
       receiver_fits channel None fits = offered (to_receive channel None) tt
       receiver_fits channel (Some d) fits =
-          desig_fits law who ms closed c known d fits (offer_into channel a rest s k) (λ v. go (with_open a s (to_receive channel (Some v.spot)))) (one, others, all, left)
+          desig_fits law who ms closed c known d fits (offer_into channel a rest s k)
+          (λ v. go (with_open a s (to_receive channel (Some v.spot)))) (one, others, all, left)
           (λ v there. offered (to_receive channel (Some v.spot)) tt)
 
       comm_fits : (comm : CommTree) → FitsComm law.accept a.next comm → FitsAction law who ms (from_comm c comm a rest s k go)
       comm_fits (comm_accept x p) fits = offered (to_accept (accepting_of c a.next x p.line)) (accepted_fits a.next x p.line fits)
       comm_fits (comm_send d e p) fits =
           let message = perhaps_unless (names_any c.env (as_desig e)) e fits.1 in
-          desig_fits law who ms closed c known d fits.0 (offer_to (message_of c e) a rest s k) (λ channel. from_message c channel.spot (message_of c e) a rest s k go)
+          desig_fits law who ms closed c known d fits.0 (offer_to (message_of c e) a rest s k)
+          (λ channel. from_message c channel.spot (message_of c e) a rest s k go)
           (message, one, others, all, left) (λ channel there. message_fits channel.spot (message_of c e) message)
       comm_fits (comm_receive d v p) fits =
           let target = target_unless (names_any c.env (Some v)) v fits.1 in
-          desig_fits law who ms closed c known d fits.0 (offer_from (receiver_of c v) a rest s k) (λ channel. from_receiver c channel.spot (receiver_of c v) a rest s k go)
+          desig_fits law who ms closed c known d fits.0 (offer_from (receiver_of c v) a rest s k)
+          (λ channel. from_receiver c channel.spot (receiver_of c v) a rest s k go)
           (target, one, others, all, left) (λ channel there. receiver_fits channel.spot (receiver_of c v) target)
       comm_fits (timeout e p) fits =
-          expr_fits law who ms closed c known e fits (offer_wait a rest s k) (from_seconds c a s go) (one, others, all, left) (λ v given. seconds_fit a s go v one all on)
+          expr_fits law who ms closed c known e fits (offer_wait a rest s k) (from_seconds c a s go) (one, others, all, left)
+          (λ v given. seconds_fit a s go v one all on)
       comm_fits (terminate p) fits = offered to_end tt
 
       pub opened_fits : (v : Value) → FitsAction law who ms (from_opened c a rest s k go v)
@@ -196,14 +204,16 @@ module _ (law : Asked) (who : ℕ) (ms : List Mark) (closed : IsClosed law) wher
 
       pub guard_fits : (guard : Option ExprTree) → FitsPerhaps guard → FitsAction law who ms (from_guard c guard a rest s k go)
       guard_fits None fits = comm_fits a.comm one.2
-      guard_fits (Some e) fits = expr_fits law who ms closed c known e fits (open_if a rest s k) (from_opened c a rest s k go) (one, others, all, left) (λ v given. opened_fits v)
+      guard_fits (Some e) fits = expr_fits law who ms closed c known e fits (open_if a rest s k) (from_opened c a rest s k go)
+          (one, others, all, left) (λ v given. opened_fits v)
 
       replica_fits : (r : Option Replica) → FitsReplica law who ms r → FitsAction law who ms (from_replica c r a rest s k go)
       replica_fits None fits = guard_fits a.guard one.1
       replica_fits (Some r) fits = (known, fits, (one, others, all, left))
 
     pub alternatives_fit :
-        (rest : List Alternative) → FitAlternatives law who ms rest → (s : Selecting) → FitsSelecting law who ms s → (k : Remainder) → FitsRemainder law who ms k
+        (rest : List Alternative) → FitAlternatives law who ms rest → (s : Selecting) → FitsSelecting law who ms s →
+        (k : Remainder) → FitsRemainder law who ms k
         → FitsAction law who ms (from_alternatives c rest s k)
     alternatives_fit [] others s all k left = (known, all, left)
     alternatives_fit (a ∷ rest) others s all k left =

@@ -55,7 +55,8 @@ module _ (law : Asked) (who : ℕ) (ms : List Mark) where
   open_at_fits os None all = tt
   open_at_fits os (Some place) all = chosen_fits (communications os) place (communications_fit os all)
 
-  pub replica_behind : (r : Option Replica) (k : Remainder) → FitsReplica law who ms r → FitsRemainder law who ms k → FitsRemainder law who ms (behind_replica r k)
+  pub replica_behind : (r : Option Replica) (k : Remainder) → FitsReplica law who ms r → FitsRemainder law who ms k →
+      FitsRemainder law who ms (behind_replica r k)
   replica_behind None k fits left = left
   replica_behind (Some r) k fits left = (fits, left)
 

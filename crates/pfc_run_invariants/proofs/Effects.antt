@@ -138,8 +138,11 @@ module _ (law : Asked) (closed : IsClosed law) (program : FitsProgram law) (stab
       with_activity_fits law closed program (record c { store = with_room (without c.store a.number) (new_number c) values }) p _
       (record {
         activities = fits.activities;
-        store =
-            (new_values_fit g program.firsts b (all_passed g c p args) (all_pass law closed program c p ms args given), without_fits c.store a.number fits.store);
+        store = (
+          new_values_fit g program.firsts b (all_passed g c p args)
+              (all_pass law closed program c p ms args given),
+          without_fits c.store a.number fits.store,
+        );
         input = fits.input;
       })
       (record {
@@ -387,8 +390,10 @@ module _ (law : Asked) (closed : IsClosed law) (program : FitsProgram law) (stab
       (record { activities = fits.activities; store = fits.store; input = fits.input }) n.0 n.1
   effect_fits choice (inputs x t s k) n =
       read_fits x n.0 s k (item (simple_of t) c.input.bytes) n.1 (item_fits (simple_of t) c.input.bytes fits.input)
-  effect_fits choice (skips x k) n = skipped_fits x n.0 k (skipped c.input.whole_lines c.input.bytes) n.1 (line_fits c.input.whole_lines c.input.bytes fits.input)
-  effect_fits choice (asks_eof x u) n = it_holds law closed program c p x (ordinal (truth (at_end c.input.bytes))) u fits n.0 (truth_fits (at_end c.input.bytes)) n.1
+  effect_fits choice (skips x k) n =
+      skipped_fits x n.0 k (skipped c.input.whole_lines c.input.bytes) n.1 (line_fits c.input.whole_lines c.input.bytes fits.input)
+  effect_fits choice (asks_eof x u) n = it_holds law closed program c p x (ordinal (truth (at_end c.input.bytes))) u fits n.0
+      (truth_fits (at_end c.input.bytes)) n.1
   effect_fits choice (asks_eoln x u) n =
       it_holds law closed program c p x (ordinal (truth (at_line_end c.input.bytes))) u fits n.0 (truth_fits (at_line_end c.input.bytes)) n.1
   effect_fits choice (asks_clock x u) n =

@@ -49,7 +49,8 @@ abbrev pub Evaluates : Asked → ℕ → List Mark → (AwaitsValue → (Value �
 Evaluates law who ms from = (u : AwaitsValue) (go : Value → Action) → FitsAwaiting law who ms u → Goes law who ms go → FitsAction law who ms (from u go)
 
 abbrev pub Locates : Asked → ℕ → List Mark → (AwaitsLocation → (TypedSpot → Action) → Action) → Type 0
-Locates law who ms from = (goal : AwaitsLocation) (go : TypedSpot → Action) → FitsGoal law who ms goal → Arrives law who ms go → FitsAction law who ms (from goal go)
+Locates law who ms from = (goal : AwaitsLocation) (go : TypedSpot → Action) → FitsGoal law who ms goal →
+    Arrives law who ms go → FitsAction law who ms (from goal go)
 
 pub ordinal_fits : (v : Value) → FitsValue v → Fits (ordinal_of v)
 ordinal_fits (ordinal n) fits = fits
@@ -105,9 +106,12 @@ module _ (law : Asked) (who : ℕ) (ms : List Mark) (closed : IsClosed law) wher
         given (apply f t u) (finish_call c f t u go) waits (λ v fits. call_fits f t u go v fits waits on)
 
     name_fits :
-        (x : Text) (m : Option Meaning) → meaning_of (find c.env x) ≡ m → (u : AwaitsValue) (go : Value → Action) (variable : AwaitsLocation → (TypedSpot → Action) → Action)
-        (called : List Formal → Call → Action) (predeclared : Function → Action) → FitsMeaning m → FitsAwaiting law who ms u → Goes law who ms go → Locates law who ms variable
-        → ((formals : List Formal) (call : Call) → FitsCall law who ms call → FitsAction law who ms (called formals call)) → ((f : Function) → FitsAction law who ms (predeclared f))
+        (x : Text) (m : Option Meaning) → meaning_of (find c.env x) ≡ m →
+        (u : AwaitsValue) (go : Value → Action) (variable : AwaitsLocation → (TypedSpot → Action) → Action)
+        (called : List Formal → Call → Action) (predeclared : Function → Action) → FitsMeaning m → FitsAwaiting law who ms u →
+        Goes law who ms go → Locates law who ms variable
+        → ((formals : List Formal) (call : Call) → FitsCall law who ms call → FitsAction law who ms (called formals call)) →
+        ((f : Function) → FitsAction law who ms (predeclared f))
         → FitsAction law who ms (from_name c m u go variable called predeclared)
     name_fits x (Some (Constant t n)) is u go variable called predeclared fits waits on located made asks = on (ordinal n) fits
     name_fits x (Some (Variable t reference)) is u go variable called predeclared fits waits on located made asks =
@@ -209,7 +213,8 @@ module _ (law : Asked) (who : ℕ) (ms : List Mark) (closed : IsClosed law) wher
       variable_fits e fits goal go waits on = on (spot_in 0 0 None) (closed.outside who ms)
 
       pub args_fit :
-          (formals : List Formal) (args : ActualTrees) → FitActuals args → (given : List Argument) → FitArguments law who ms given → (call : Call) → FitsCall law who ms call
+          (formals : List Formal) (args : ActualTrees) → FitActuals args → (given : List Argument) → FitArguments law who ms given →
+          (call : Call) → FitsCall law who ms call
           → FitsAction law who ms (from_args c formals args given call)
       args_fit formals no_actuals fits given so_far call waits = (known, waits, so_far)
       args_fit [] (more_actuals a rest) fits given so_far call waits = (known, waits, so_far)
@@ -218,10 +223,12 @@ module _ (law : Asked) (who : ℕ) (ms : List Mark) (closed : IsClosed law) wher
           (from_actual c a (pass_value formals rest given call) (λ v. from_args c formals rest (given ++ by_value v ∷ []) call))
           (lent_fits a fits.0 (pass_variable formals rest given call) (λ s. from_args c formals rest (given ++ by_reference s.spot ∷ []) call)
           (fits.1, so_far, waits)
-          (λ s there. args_fit formals rest fits.1 (given ++ by_reference s.spot ∷ []) (all_push (FitsArgument law who ms) given (by_reference s.spot) so_far tt) call waits))
+          (λ s there. args_fit formals rest fits.1 (given ++ by_reference s.spot ∷ []) (all_push (FitsArgument law who ms) given
+          (by_reference s.spot) so_far tt) call waits))
           (actual_fits a fits.0 (pass_value formals rest given call) (λ v. from_args c formals rest (given ++ by_value v ∷ []) call)
           (fits.1, so_far, waits)
-          (λ v passed. args_fit formals rest fits.1 (given ++ by_value v ∷ []) (all_push (FitsArgument law who ms) given (by_value v) so_far passed) call waits))
+          (λ v passed. args_fit formals rest fits.1 (given ++ by_value v ∷ []) (all_push (FitsArgument law who ms) given
+          (by_value v) so_far passed) call waits))
 
       pub selectors_fit : (ss : SelectorTrees) → FitSelectors ss → (s : TypedSpot) → law.spot who ms s.spot.scope → Locates law who ms (from_selectors c s ss)
       selectors_fit no_selectors fits s there goal go waits on = on s there

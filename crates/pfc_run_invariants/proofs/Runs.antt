@@ -31,7 +31,8 @@ use Rattle.pfc_run_invariants.proofs.Effects.{effect_fits}
 -- ## Settling
 
 ended_fits :
-    (law : Asked) → IsStable law → (p : ℕ) (rows : List Stand) (activities : List Activity) → FitFrom law p activities → FitFrom law p (ended_children rows activities)
+    (law : Asked) → IsStable law → (p : ℕ) (rows : List Stand) (activities : List Activity) → FitFrom law p activities →
+    FitFrom law p (ended_children rows activities)
 ended_fits law stable p [] activities all = all
 ended_fits law stable p (stand ∷ rows) [] all = tt
 ended_fits law stable p (stand ∷ rows) (a ∷ activities) all = (by (may_end stand), ended_fits law stable (p + 1) rows activities all.1)

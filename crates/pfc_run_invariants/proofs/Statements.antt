@@ -83,7 +83,8 @@ module _ (law : Asked) (who : ℕ) (ms : List Mark) (closed : IsClosed law) wher
   module _ (c : Context) (known : FitsEnv law who ms c.env) where
     -- ## Assignments and output
 
-    assign_fits : (d : DesigTree) (e : ExprTree) (k : Remainder) → FitsDesig d → FitsExpr e → FitsRemainder law who ms k → FitsAction law who ms (from_assign c d e k)
+    assign_fits : (d : DesigTree) (e : ExprTree) (k : Remainder) → FitsDesig d → FitsExpr e → FitsRemainder law who ms k →
+        FitsAction law who ms (from_assign c d e k)
     assign_fits d e k target value left =
         desig_fits law who ms closed c known d target (assign_to e k) (λ s. from_expr c e (store_at s.spot k) (λ v. writes c s.spot v k)) (value, left)
         (λ s there. expr_fits law who ms closed c known e value (store_at s.spot k) (λ v. writes c s.spot v k) left (λ v given. (known, given, left)))
@@ -101,11 +102,13 @@ module _ (law : Asked) (who : ℕ) (ms : List Mark) (closed : IsClosed law) wher
         expr_fits law who ms closed c known e fits (show t k) (λ v. prints c (shown_as t v) k) left (λ v given. (known, left))
     string_fits (Some x) e k fits left = (known, left)
 
-    wide_fits : (x : Option Text) (e w : ExprTree) (k : Remainder) → FitsExpr e → FitsExpr w → FitsRemainder law who ms k → FitsAction law who ms (from_wide_string c x e w k)
+    wide_fits : (x : Option Text) (e w : ExprTree) (k : Remainder) → FitsExpr e → FitsExpr w → FitsRemainder law who ms k →
+        FitsAction law who ms (from_wide_string c x e w k)
     wide_fits None e w k fits width left =
         let t = expr_type c.env e in
         expr_fits law who ms closed c known e fits (show_wide t w k) (λ v. from_expr c w (pad (shown_as t v) k) (from_width c (shown_as t v) k)) (width, left)
-        (λ v given. expr_fits law who ms closed c known w width (pad (shown_as t v) k) (from_width c (shown_as t v) k) left (λ n wide. width_fits (shown_as t v) k n left))
+        (λ v given. expr_fits law who ms closed c known w width (pad (shown_as t v) k) (from_width c (shown_as t v) k) left
+        (λ n wide. width_fits (shown_as t v) k n left))
     wide_fits (Some x) e w k fits width left = expr_fits law who ms closed c known w width (pad x k) (from_width c x k) left (λ n wide. width_fits x k n left)
 
     written_fits : (a : ActualTree) (k : Remainder) → FitsActual a → FitsRemainder law who ms k → FitsAction law who ms (from_item c a k)
@@ -120,7 +123,8 @@ module _ (law : Asked) (who : ℕ) (ms : List Mark) (closed : IsClosed law) wher
 
     -- ## Input
 
-    input_fits : (d : Option DesigTree) (k : Remainder) (go : Action) → FitsTarget d → FitsRemainder law who ms k → FitsAction law who ms go → FitsAction law who ms (from_input c d k go)
+    input_fits : (d : Option DesigTree) (k : Remainder) (go : Action) → FitsTarget d → FitsRemainder law who ms k → FitsAction law who ms go →
+        FitsAction law who ms (from_input c d k go)
     input_fits None k go fits left on = on
     input_fits (Some d) k go fits left on =
         let t = desig_type c.env d in desig_fits law who ms closed c known d fits (input_to t k) (λ s. inputs c t s.spot k) left (λ s there. (known, left))
@@ -130,18 +134,22 @@ module _ (law : Asked) (who : ℕ) (ms : List Mark) (closed : IsClosed law) wher
         → FitsAction law who ms (from_reads c args skip k go)
     reads_fit no_actuals skip k go fits left on = either law who ms closed skip (skips c k) go (known, left) on
     reads_fit (more_actuals a rest) skip k go fits left on =
-        input_fits (as_desig (item_of a)) (read_on c.line rest skip k) (from_reads c rest skip k go) (named_fits (item_of a) (item_fits a fits.0)) (fits.1, left)
+        input_fits (as_desig (item_of a)) (read_on c.line rest skip k) (from_reads c rest skip k go)
+        (named_fits (item_of a) (item_fits a fits.0)) (fits.1, left)
         (reads_fit rest skip k go fits.1 left on)
 
     -- ## Predeclared procedures
 
     initial_fits :
-        (args : ActualTrees) (k : Remainder) (e : Option ExprTree) (go : Action) → FitActuals args → FitsRemainder law who ms k → FitsPerhaps e → FitsAction law who ms go
+        (args : ActualTrees) (k : Remainder) (e : Option ExprTree) (go : Action) → FitActuals args → FitsRemainder law who ms k →
+        FitsPerhaps e → FitsAction law who ms go
         → FitsAction law who ms (from_initial c args k e go)
     initial_fits args k None go fits left count on = on
     initial_fits args k (Some e) go fits left count on =
-        reference_fits law who ms closed c known args fits (initial_to e k) (λ s. from_expr c e (set_count s.spot k) (λ n. initials c s.spot (ordinal_of n) k)) (count, left)
-        (λ s there. expr_fits law who ms closed c known e count (set_count s.spot k) (λ n. initials c s.spot (ordinal_of n) k) left (λ n given. (known, ordinal_fits n given, left)))
+        reference_fits law who ms closed c known args fits (initial_to e k) (λ s. from_expr c e (set_count s.spot k)
+        (λ n. initials c s.spot (ordinal_of n) k)) (count, left)
+        (λ s there. expr_fits law who ms closed c known e count (set_count s.spot k) (λ n. initials c s.spot (ordinal_of n) k) left
+        (λ n given. (known, ordinal_fits n given, left)))
 
     pub delay_fits : (s : Spot) (e : Option ExprTree) (k : Remainder) → FitsPerhaps e → FitsRemainder law who ms k → FitsAction law who ms (from_delay c s e k)
     delay_fits s None k fits left = (known, refl, left)
@@ -155,13 +163,17 @@ module _ (law : Asked) (who : ℕ) (ms : List Mark) (closed : IsClosed law) wher
     procedure_fits (writer newline) args k go fits left on = writes_fit args newline k go fits left on
     procedure_fits initial args k go fits left on =
         initial_fits args k (expr_of (behind_first args)) go fits left (first_fits (behind_first args) (others_fit args fits)) on
-    procedure_fits wait args k go fits left on = reference_fits law who ms closed c known args fits (wait_at k) (λ s. waits c s.spot k) left (λ s there. (known, left))
-    procedure_fits signal args k go fits left on = reference_fits law who ms closed c known args fits (signal_at k) (λ s. signals c s.spot k) left (λ s there. (known, left))
+    procedure_fits wait args k go fits left on =
+        reference_fits law who ms closed c known args fits (wait_at k) (λ s. waits c s.spot k) left (λ s there. (known, left))
+    procedure_fits signal args k go fits left on =
+        reference_fits law who ms closed c known args fits (signal_at k) (λ s. signals c s.spot k) left (λ s there. (known, left))
     procedure_fits delay args k go fits left on =
         let rank = expr_of (behind_first args) in
         let given = first_fits (behind_first args) (others_fit args fits) in
-        reference_fits law who ms closed c known args fits (delay_at rank k) (λ s. from_delay c s.spot rank k) (given, left) (λ s there. delay_fits s.spot rank k given left)
-    procedure_fits resume args k go fits left on = reference_fits law who ms closed c known args fits (resume_at k) (λ s. resumes c s.spot k) left (λ s there. (known, there, left))
+        reference_fits law who ms closed c known args fits (delay_at rank k) (λ s. from_delay c s.spot rank k) (given, left)
+        (λ s there. delay_fits s.spot rank k given left)
+    procedure_fits resume args k go fits left on =
+        reference_fits law who ms closed c known args fits (resume_at k) (λ s. resumes c s.spot k) left (λ s there. (known, there, left))
     procedure_fits sleep args k go fits left on =
         argument_fits law who ms closed c known args fits (sleep_for k) (λ n. sleeps c (ordinal_of n) k) left (λ n given. (known, left))
     procedure_fits no_procedure args k go fits left on = on
@@ -169,55 +181,69 @@ module _ (law : Asked) (who : ℕ) (ms : List Mark) (closed : IsClosed law) wher
     -- ## Calls
 
     activation_fits :
-        (s : TypedSpot) (ss : SelectorTrees) (formals : List Formal) (args : ActualTrees) (k : Remainder) → FitSelectors ss × law.spot who ms s.spot.scope → FitActuals args
+        (s : TypedSpot) (ss : SelectorTrees) (formals : List Formal) (args : ActualTrees) (k : Remainder) → FitSelectors ss ×
+        law.spot who ms s.spot.scope → FitActuals args
         → FitsRemainder law who ms k → FitsAction law who ms (from_activation c s ss formals args k)
     activation_fits s ss formals args k reached fits left =
-        selectors_fit law who ms closed c known ss reached.0 s reached.1 (activate_with formals args k) (λ p. from_args c formals args [] (to_process p.spot k)) (fits, left)
+        selectors_fit law who ms closed c known ss reached.0 s reached.1 (activate_with formals args k)
+        (λ p. from_args c formals args [] (to_process p.spot k)) (fits, left)
         (λ p there. args_fit law who ms closed c known formals args fits [] tt (to_process p.spot k) left)
 
     entry_call_fits :
-        (s : TypedSpot) (ss : SelectorTrees) (entry : ℕ) (formals : List Formal) (args : ActualTrees) (k : Remainder) → FitSelectors ss × law.spot who ms s.spot.scope → FitActuals args
+        (s : TypedSpot) (ss : SelectorTrees) (entry : ℕ) (formals : List Formal) (args : ActualTrees) (k : Remainder) → FitSelectors ss ×
+        law.spot who ms s.spot.scope → FitActuals args
         → FitsRemainder law who ms k → FitsAction law who ms (from_entry_call c s ss entry formals args k)
     entry_call_fits s ss entry formals args k reached fits left =
-        selectors_fit law who ms closed c known ss reached.0 s reached.1 (enter_with entry formals args k) (λ p. from_args c formals args [] (to_entry p.spot entry k)) (fits, left)
+        selectors_fit law who ms closed c known ss reached.0 s reached.1 (enter_with entry formals args k)
+        (λ p. from_args c formals args [] (to_entry p.spot entry k)) (fits, left)
         (λ p there. args_fit law who ms closed c known formals args fits [] tt (to_entry p.spot entry k) left)
 
-    module _ (args : ActualTrees) (fits : FitActuals args) (k : Remainder) (left : FitsRemainder law who ms k) (go : Action) (on : FitsAction law who ms go) where
-      entry_fits : (n : ℕ) (s : TypedSpot) (ss : SelectorTrees) (m : Option Meaning) → FitSelectors ss × law.spot who ms s.spot.scope → FitsAction law who ms (from_entry c n s ss m args k go)
+    module _ (args : ActualTrees) (fits : FitActuals args) (k : Remainder) (left : FitsRemainder law who ms k)
+        (go : Action) (on : FitsAction law who ms go) where
+      entry_fits : (n : ℕ) (s : TypedSpot) (ss : SelectorTrees) (m : Option Meaning) → FitSelectors ss × law.spot who ms s.spot.scope →
+          FitsAction law who ms (from_entry c n s ss m args k go)
       entry_fits n s ss (Some (Entry entry)) reached = entry_call_fits s ss entry (entry_at c.env.state.blocks n entry) args k reached fits left
       entry_fits n s ss m reached = on
 
-      process_fits : (s : TypedSpot) (ss : SelectorTrees) (n : Option ℕ) → FitSelectors ss × law.spot who ms s.spot.scope → FitsAction law who ms (from_process c s ss n args k go)
+      process_fits : (s : TypedSpot) (ss : SelectorTrees) (n : Option ℕ) → FitSelectors ss × law.spot who ms s.spot.scope →
+          FitsAction law who ms (from_process c s ss n args k go)
       process_fits s ss None reached = on
       process_fits s ss (Some n) reached = activation_fits s ss (process_at c.env.state.blocks n).formals args k reached fits left
 
-      field_fits : (s : TypedSpot) (ss : SelectorTrees) (n : Option ℕ) (x : Text) → FitSelectors ss × law.spot who ms s.spot.scope → FitsAction law who ms (from_field c s ss n x args k go)
+      field_fits : (s : TypedSpot) (ss : SelectorTrees) (n : Option ℕ) (x : Text) → FitSelectors ss × law.spot who ms s.spot.scope →
+          FitsAction law who ms (from_field c s ss n x args k go)
       field_fits s ss None x reached = process_fits s ss (process_of_type c.env (selected c.env s.t ss)) reached
       field_fits s ss (Some n) x reached = entry_fits n s (before_last ss) (name_in_process c.env.state.blocks n x) (before_fits ss reached.0, reached.1)
 
       variable_call_fits :
-          (s : TypedSpot) (ss : SelectorTrees) (x : Option (Text × Place)) → FitSelectors ss × law.spot who ms s.spot.scope → FitsAction law who ms (from_called_variable c s ss x args k go)
+          (s : TypedSpot) (ss : SelectorTrees) (x : Option (Text × Place)) → FitSelectors ss × law.spot who ms s.spot.scope →
+          FitsAction law who ms (from_called_variable c s ss x args k go)
       variable_call_fits s ss None reached = process_fits s ss (process_of_type c.env (selected c.env s.t ss)) reached
       variable_call_fits s ss (Some x) reached = field_fits s ss (process_of_type c.env (selected c.env s.t (before_last ss))) x.0 reached
 
-      single_fits : (n : ℕ) (s : TypedSpot) (x : Option (Text × Place)) → law.spot who ms s.spot.scope → FitsAction law who ms (from_called_process c n s x args k go)
+      single_fits : (n : ℕ) (s : TypedSpot) (x : Option (Text × Place)) → law.spot who ms s.spot.scope →
+          FitsAction law who ms (from_called_process c n s x args k go)
       single_fits n s None there = activation_fits s no_selectors (process_at c.env.state.blocks n).formals args k (tt, there) fits left
       single_fits n s (Some x) there = entry_fits n s no_selectors (name_in_process c.env.state.blocks n x.0) (tt, there)
 
       exported_fits : (x y : Text) (n : ℕ) → meaning_of (find c.env x) ≡ Some (Module n) → (m : Option Meaning)
           → meaning_in (scope_at c.env.state.blocks.scopes (module_at c.env.state.blocks n).scope) y ≡ m → FitsAction law who ms (from_exported c n m args k go)
       exported_fits x y n is (Some (Sub p)) named =
-          let head : SubHead = sub_at c.env.state.blocks p in args_fit law who ms closed c known head.formals args fits [] tt (to_module n head.scope k) (closed.enters who ms c.env x y n p known is named, left)
+          let head : SubHead = sub_at c.env.state.blocks p in args_fit law who ms closed c known head.formals args fits [] tt (to_module n head.scope k)
+          (closed.enters who ms c.env x y n p known is named, left)
       exported_fits x y n is m named = on
 
-      module_fits : (z : Text) (n : ℕ) (x : Option (Text × Place)) → meaning_of (find c.env z) ≡ Some (Module n) → FitsAction law who ms (from_module c n x args k go)
+      module_fits : (z : Text) (n : ℕ) (x : Option (Text × Place)) → meaning_of (find c.env z) ≡ Some (Module n) →
+          FitsAction law who ms (from_module c n x args k go)
       module_fits z n None is = on
       module_fits z n (Some x) is = let b = c.env.state.blocks in exported_fits z x.0 n is (meaning_in (scope_at b.scopes (module_at b n).scope) x.0) refl
 
-      called_fits : (x : Text) (m : Option Meaning) → meaning_of (find c.env x) ≡ m → (s : TypedSpot) (ss : SelectorTrees) → FitSelectors ss × law.spot who ms s.spot.scope → FitsAction law who ms (from_called c m s ss args k go)
+      called_fits : (x : Text) (m : Option Meaning) → meaning_of (find c.env x) ≡ m → (s : TypedSpot) (ss : SelectorTrees) → FitSelectors ss ×
+          law.spot who ms s.spot.scope → FitsAction law who ms (from_called c m s ss args k go)
       called_fits x (Some (Predeclared n)) is s ss reached = procedure_fits (procedure_of n) args k go fits left on
       called_fits x (Some (Sub n)) is s ss reached =
-          let head : SubHead = sub_at c.env.state.blocks n in args_fit law who ms closed c known head.formals args fits [] tt (to_procedure head.scope k) (closed.calls who ms c.env x n known is, left)
+          let head : SubHead = sub_at c.env.state.blocks n in args_fit law who ms closed c known head.formals args fits [] tt (to_procedure head.scope k)
+          (closed.calls who ms c.env x n known is, left)
       called_fits x (Some (Module n)) is s ss reached = module_fits x n (last_field ss) is
       called_fits x (Some (Process n)) is s ss reached = single_fits n s (last_field ss) reached.1
       called_fits x (Some (Variable t reference)) is s ss reached = variable_call_fits s ss (last_field ss) reached
@@ -229,23 +255,28 @@ module _ (law : Asked) (who : ℕ) (ms : List Mark) (closed : IsClosed law) wher
 
       requeue_fits : (x : Text) (m : Option Meaning) → meaning_of (find c.env x) ≡ m → FitsAction law who ms (from_requeue c m args go)
       requeue_fits x (Some (Sub n)) is =
-          let head : SubHead = sub_at c.env.state.blocks n in args_fit law who ms closed c known head.formals args fits [] tt (to_requeue head.scope) (closed.requeues who ms c.env x n known is)
+          let head : SubHead = sub_at c.env.state.blocks n in args_fit law who ms closed c known head.formals args fits [] tt (to_requeue head.scope)
+          (closed.requeues who ms c.env x n known is)
       requeue_fits x m is = on
 
     -- ## Communication
 
-    pub sent_fits : (channel : Spot) (e : Option ExprTree) (k : Remainder) → FitsPerhaps e → FitsRemainder law who ms k → FitsAction law who ms (from_sent c channel e k)
+    pub sent_fits : (channel : Spot) (e : Option ExprTree) (k : Remainder) → FitsPerhaps e → FitsRemainder law who ms k →
+        FitsAction law who ms (from_sent c channel e k)
     sent_fits channel None k fits left = (known, (refl, tt, tt), left)
     sent_fits channel (Some e) k fits left =
-        expr_fits law who ms closed c known e fits (send_on channel k) (λ v. meets c (plain_open (to_send channel v)) k) left (λ v given. (known, (given, tt, tt), left))
+        expr_fits law who ms closed c known e fits (send_on channel k) (λ v. meets c (plain_open (to_send channel v)) k) left
+        (λ v given. (known, (given, tt, tt), left))
 
-    send_fits : (d : DesigTree) (e : ExprTree) (k : Remainder) → FitsDesig d → FitsExpr e → FitsRemainder law who ms k → FitsAction law who ms (from_send c d e k)
+    send_fits : (d : DesigTree) (e : ExprTree) (k : Remainder) → FitsDesig d → FitsExpr e → FitsRemainder law who ms k →
+        FitsAction law who ms (from_send c d e k)
     send_fits d e k reached fits left =
         let message = perhaps_unless (names_any c.env (as_desig e)) e fits in
         desig_fits law who ms closed c known d reached (send_to (message_of c e) k) (λ channel. from_sent c channel.spot (message_of c e) k) (message, left)
         (λ channel there. sent_fits channel.spot (message_of c e) k message left)
 
-    pub received_fits : (channel : Spot) (d : Option DesigTree) (k : Remainder) → FitsTarget d → FitsRemainder law who ms k → FitsAction law who ms (from_received c channel d k)
+    pub received_fits : (channel : Spot) (d : Option DesigTree) (k : Remainder) → FitsTarget d → FitsRemainder law who ms k →
+        FitsAction law who ms (from_received c channel d k)
     received_fits channel None k fits left = (known, (tt, tt, tt), left)
     received_fits channel (Some d) k fits left =
         desig_fits law who ms closed c known d fits (receive_into channel k) (λ v. meets c (plain_open (to_receive channel (Some v.spot))) k) left
@@ -254,7 +285,8 @@ module _ (law : Asked) (who : ℕ) (ms : List Mark) (closed : IsClosed law) wher
     receive_fits : (d v : DesigTree) (k : Remainder) → FitsDesig d → FitsDesig v → FitsRemainder law who ms k → FitsAction law who ms (from_receive c d v k)
     receive_fits d v k reached fits left =
         let target = target_unless (names_any c.env (Some v)) v fits in
-        desig_fits law who ms closed c known d reached (receive_from (receiver_of c v) k) (λ channel. from_received c channel.spot (receiver_of c v) k) (target, left)
+        desig_fits law who ms closed c known d reached (receive_from (receiver_of c v) k)
+        (λ channel. from_received c channel.spot (receiver_of c v) k) (target, left)
         (λ channel there. received_fits channel.spot (receiver_of c v) k target left)
 
     -- ## Loops
@@ -263,7 +295,8 @@ module _ (law : Asked) (who : ℕ) (ms : List Mark) (closed : IsClosed law) wher
     pass_begins f k fits left = (known, fits.0, ((fits.3, tt), (fits, left)))
 
     pub bounds_fit :
-        (f : Count) (k : Remainder) (go : Action) → Fits f.kept → Fits f.last → FitsStmt law.accept f.next f.pass → FitsRemainder law who ms k → FitsAction law who ms go
+        (f : Count) (k : Remainder) (go : Action) → Fits f.kept → Fits f.last → FitsStmt law.accept f.next f.pass →
+        FitsRemainder law who ms k → FitsAction law who ms go
         → FitsAction law who ms (from_bounds c f k go)
     bounds_fit f k go kept last pass left on = by (is_past f.down f.kept f.last) refl
       where
@@ -271,7 +304,8 @@ module _ (law : Asked) (who : ℕ) (ms : List Mark) (closed : IsClosed law) wher
         by true e = on
         by false e = pass_begins f k (kept, last, e, pass) left
 
-    pub pass_fits : (f : Count) (k : Remainder) (go : Action) → FitsCount law who ms f → FitsRemainder law who ms k → FitsAction law who ms go → FitsAction law who ms (from_pass c f k go)
+    pub pass_fits : (f : Count) (k : Remainder) (go : Action) → FitsCount law who ms f → FitsRemainder law who ms k → FitsAction law who ms go →
+        FitsAction law who ms (from_pass c f k go)
     pass_fits f k go fits left on = by (int_eq f.kept f.last) refl
       where
         by : (b : Bool) → int_eq f.kept f.last ≡ b → FitsAction law who ms (if b then go else turns c (next_pass (next_count f) k))
@@ -287,13 +321,15 @@ module _ (law : Asked) (who : ℕ) (ms : List Mark) (closed : IsClosed law) wher
 
   mutual
     pub stmt_fits :
-        (env : Env) → FitsEnv law who ms env → (n : ℕ) (s : StmtTree) → FitsStmt law.accept n s → (k : Remainder) → FitsRemainder law who ms k → (go : Action) → FitsAction law who ms go
+        (env : Env) → FitsEnv law who ms env → (n : ℕ) (s : StmtTree) → FitsStmt law.accept n s → (k : Remainder) → FitsRemainder law who ms k →
+        (go : Action) → FitsAction law who ms go
         → FitsAction law who ms (from_stmt env n s k go)
     stmt_fits env known n empty fits k left go on = on
     stmt_fits env known n (null p) fits k left go on = on
     stmt_fits env known n (block (body ss first last) p) fits k left go on = stmts_fit env known n ss fits k left go on
     stmt_fits env known n (if_then e s p) fits k left go on =
-        expr_fits law who ms closed (context env p.line) known e fits.0 (choose n s empty k) (λ v. if is_true (ordinal_of v) then from_stmt env n s k go else go)
+        expr_fits law who ms closed (context env p.line) known e fits.0 (choose n s empty k)
+        (λ v. if is_true (ordinal_of v) then from_stmt env n s k go else go)
         (fits.1, tt, left)
         (λ v given. either law who ms closed (is_true (ordinal_of v)) (from_stmt env n s k go) go (stmt_fits env known n s fits.1 k left go on) on)
     stmt_fits env known n (if_then_else e s t p) fits k left go on =
@@ -302,7 +338,8 @@ module _ (law : Asked) (who : ℕ) (ms : List Mark) (closed : IsClosed law) wher
         (λ v given. either law who ms closed (is_true (ordinal_of v)) (from_stmt env n s k go) (from_stmt env (n + scopes_in s) t k go)
         (stmt_fits env known n s fits.1 k left go on) (stmt_fits env known (n + scopes_in s) t fits.2 k left go on))
     stmt_fits env known n (case_of e arms last p) fits k left go on =
-        expr_fits law who ms closed (context env p.line) known e fits.0 (choose_arm n arms k) (λ v. from_arms (context env p.line) n (ordinal_of v) arms k go) (fits.1, left)
+        expr_fits law who ms closed (context env p.line) known e fits.0 (choose_arm n arms k)
+        (λ v. from_arms (context env p.line) n (ordinal_of v) arms k go) (fits.1, left)
         (λ v given. arms_fit (context env p.line) known n (ordinal_of v) arms fits.1 k left go on)
     stmt_fits env known n (while_do e s p) fits k left go on =
         let c = context env p.line in
@@ -315,7 +352,8 @@ module _ (law : Asked) (who : ℕ) (ms : List Mark) (closed : IsClosed law) wher
         let c = context env p.line in
         let test = from_until c n (repeat_until ss e p) k go in
         stmts_fit env known n ss fits.0 (until n ss e p k) (fits.0, fits.1, left) (from_expr c e (until_true n ss e p k) test)
-        (expr_fits law who ms closed c known e fits.1 (until_true n ss e p k) test (fits.0, fits.1, left) (λ v given. until_fits c known n (repeat_until ss e p) k go v fits left on))
+        (expr_fits law who ms closed c known e fits.1 (until_true n ss e p k) test (fits.0, fits.1, left)
+        (λ v given. until_fits c known n (repeat_until ss e p) k go v fits left on))
     stmt_fits env known n (repeat_forever ss p) fits k left go on =
         stmts_fit env known n ss fits (turn n (repeat_forever ss p) k) (fits, left) (turns (context env p.line) (again n (repeat_forever ss p) k))
         (known, ((fits, tt), left))
@@ -325,20 +363,24 @@ module _ (law : Asked) (who : ℕ) (ms : List Mark) (closed : IsClosed law) wher
         expr_fits law who ms closed c known a fits.0 (count_from n v down b s k)
         (λ from. from_expr c b (count_to n v (ordinal_of from) down s k) (λ last. from_bounds c (counting c n v from last down s) k go))
         (fits.1, fits.2, left)
-        (λ from first. expr_fits law who ms closed c known b fits.1 (count_to n v (ordinal_of from) down s k) (λ last. from_bounds c (counting c n v from last down s) k go)
+        (λ from first. expr_fits law who ms closed c known b fits.1 (count_to n v (ordinal_of from) down s k)
+        (λ last. from_bounds c (counting c n v from last down s) k go)
         (ordinal_fits from first, fits.2, left)
         (λ last second. bounds_fit c known (counting c n v from last down s) k go (ordinal_fits from first) (ordinal_fits last second) fits.2 left on))
     stmt_fits env known n (cobegin ss last p) fits k left go on =
         stmts_fit env known n ss fits (at_coend last.line k) left (joins (context env last.line) k) (known, left)
     stmt_fits env known n (accepting a p) fits k left go on =
         let c = context env p.line in (known, (accepted_fits law who ms closed c known n a p.line fits, tt, tt), left)
-    stmt_fits env known n (requeue x args p) fits k left go on = requeue_fits (context env p.line) known args fits k left go on x.0 (meaning_of (find env x.0)) refl
+    stmt_fits env known n (requeue x args p) fits k left go on =
+        requeue_fits (context env p.line) known args fits k left go on x.0 (meaning_of (find env x.0)) refl
     stmt_fits env known n (select pri alts p q) fits k left go on =
-        let c = context env p.line in alternatives_fit law who ms closed c known (alternatives c n alts) (all_fit law who ms closed c known n alts fits) (select_begun pri) (begun_fits law who ms closed pri) k left
+        let c = context env p.line in alternatives_fit law who ms closed c known (alternatives c n alts) (all_fit law who ms closed c known n alts fits)
+        (select_begun pri) (begun_fits law who ms closed pri) k left
     stmt_fits env known n (select_else pri alts ss at p q) fits k left go on =
         let c = context env p.line in
         let otherwise : Otherwise = record { next = n + alts_scopes alts; stmts = ss } in
-        alternatives_fit law who ms closed c known (alternatives c n alts) (all_fit law who ms closed c known n alts fits.0) (record (select_begun pri) { otherwise = Some otherwise })
+        alternatives_fit law who ms closed c known (alternatives c n alts) (all_fit law who ms closed c known n alts fits.0)
+        (record (select_begun pri) { otherwise = Some otherwise })
         (tt, fits.1) k left
     stmt_fits env known n (assign d e p q) fits k left go on = assign_fits (context env p.line) known d e k fits.0 fits.1 left
     stmt_fits env known n (send d e p q) fits k left go on = send_fits (context env p.line) known d e k fits.0 fits.1 left
@@ -346,7 +388,8 @@ module _ (law : Asked) (who : ℕ) (ms : List Mark) (closed : IsClosed law) wher
     stmt_fits env known n (call d args p) fits k left go on = call_fits (context env p.line) known args fits.1 k left go on d fits.0
 
     pub stmts_fit :
-        (env : Env) → FitsEnv law who ms env → (n : ℕ) (ss : StmtTrees) → FitStmts law.accept n ss → (k : Remainder) → FitsRemainder law who ms k → (go : Action) → FitsAction law who ms go
+        (env : Env) → FitsEnv law who ms env → (n : ℕ) (ss : StmtTrees) → FitStmts law.accept n ss → (k : Remainder) → FitsRemainder law who ms k →
+        (go : Action) → FitsAction law who ms go
         → FitsAction law who ms (from_stmts env n ss k go)
     stmts_fit env known n no_stmts fits k left go on = on
     stmts_fit env known n (more_stmts s ss) fits k left go on =
@@ -354,7 +397,8 @@ module _ (law : Asked) (who : ℕ) (ms : List Mark) (closed : IsClosed law) wher
         (from_stmts env (n + scopes_in s) ss k go) (stmts_fit env known (n + scopes_in s) ss fits.1 k left go on)
 
     pub arms_fit :
-        (c : Context) → FitsEnv law who ms c.env → (n : ℕ) (v : ℤ) (arms : ArmTrees) → FitArms law.accept n arms → (k : Remainder) → FitsRemainder law who ms k → (go : Action)
+        (c : Context) → FitsEnv law who ms c.env → (n : ℕ) (v : ℤ) (arms : ArmTrees) → FitArms law.accept n arms → (k : Remainder) →
+        FitsRemainder law who ms k → (go : Action)
         → FitsAction law who ms go → FitsAction law who ms (from_arms c n v arms k go)
     arms_fit c known n v no_arms fits k left go on = tt
     arms_fit c known n v (more_arms (arm ls s) arms) fits k left go on =

@@ -83,7 +83,8 @@ set_apart d (b ∷ activities) zero (suc q) a apart = refl
 set_apart d (b ∷ activities) (suc p) zero a apart = refl
 set_apart d (b ∷ activities) (suc p) (suc q) a apart = set_apart d activities p q a (λ same. apart (ap suc same))
 
-found_fits : (law : Asked) (bs : List Block) (i : ℕ) (other : Block) → AllByRecursion (FitsBlock law) bs → FitsBlock law other → FitsBlock law (found_block bs i other)
+found_fits : (law : Asked) (bs : List Block) (i : ℕ) (other : Block) → AllByRecursion (FitsBlock law) bs →
+    FitsBlock law other → FitsBlock law (found_block bs i other)
 found_fits law [] i other all one = one
 found_fits law (b ∷ bs) i other all one = by (b.scope == i) (found_fits law bs i other all.1 one)
   where

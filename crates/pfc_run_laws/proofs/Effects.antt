@@ -77,7 +77,8 @@ creates_keeps g c p x s args k =
     either_keeps c.output (is_unfinished (at c.table.rows n)) (Err Active) (unless_full n cells d) tt (full_keeps c.output n cells d refl)
 
 enters_keeps :
-    (g : Program) (c : Config) (p : ℕ) (x : Context) (s : Spot) (entry : ℕ) (args : List Argument) (k : Remainder) → Keeps c.output (enters g c p x s entry args k)
+    (g : Program) (c : Config) (p : ℕ) (x : Context) (s : Spot) (entry : ℕ) (args : List Argument) (k : Remainder) →
+    Keeps c.output (enters g c p x s entry args k)
 enters_keeps g c p x s entry args k =
     let q : ℕ = number_for g c p s in
     let values : List Value = all_passed g c p args in
@@ -122,7 +123,8 @@ ends_keeps g c p (a ∷ below) = ends_for_keeps g c p a below a.caller
 
 -- ## Input, draws and time
 
-read_keeps : (g : Program) (c : Config) (p : ℕ) (x : Context) (s : Spot) (k : Remainder) (read : Result Item RunFault) → Keeps c.output (read_in g c p x s k read)
+read_keeps : (g : Program) (c : Config) (p : ℕ) (x : Context) (s : Spot) (k : Remainder) (read : Result Item RunFault) →
+    Keeps c.output (read_in g c p x s k read)
 read_keeps g c p x s k (Ok i) = refl
 read_keeps g c p x s k (Err f) = tt
 
@@ -131,7 +133,8 @@ skipped_keeps g c p x k (Ok left) = refl
 skipped_keeps g c p x k (Err f) = tt
 
 drawn_keeps :
-    (g : Program) (c : Config) (p : ℕ) (x : Context) (u : AwaitsValue) (words : Lcg) (drawn : Result ℤ RunFault) → Keeps c.output (drawn_in g c p x u words drawn)
+    (g : Program) (c : Config) (p : ℕ) (x : Context) (u : AwaitsValue) (words : Lcg) (drawn : Result ℤ RunFault) →
+    Keeps c.output (drawn_in g c p x u words drawn)
 drawn_keeps g c p x u words (Ok n) = refl
 drawn_keeps g c p x u words (Err f) = tt
 
@@ -153,7 +156,8 @@ clocked_keeps g c p x u (Err f) = tt
 
 joined_keeps : (g : Program) (c : Config) (p : ℕ) (x : Context) (k : Remainder) → Keeps c.output (joined g c p x k)
 joined_keeps g c p x k =
-    either_keeps c.output (some_created c.table.rows) (Ok (with_table (goes_on g c p x k) (blocked (all_started c.table) p Coend []))) (Ok (goes_on g c p x k)) refl refl
+    either_keeps c.output (some_created c.table.rows)
+    (Ok (with_table (goes_on g c p x k) (blocked (all_started c.table) p Coend []))) (Ok (goes_on g c p x k)) refl refl
 
 initials_keeps : (g : Program) (c : Config) (p : ℕ) (x : Context) (s : Spot) (n : ℤ) (k : Remainder) → Keeps c.output (initials_at g c p x s n k)
 initials_keeps g c p x s (pos n) k = refl
@@ -168,11 +172,13 @@ scanned_all_keeps : (g : Program) (c : Config) (p : ℕ) (x : Context) (s : Scan
 scanned_all_keeps g c p x s k leave = refl
 scanned_all_keeps g c p x s k (own b) = refl
 
-scanned_to_keeps : (g : Program) (c : Config) (p : ℕ) (x : Context) (s : Scan) (k : Remainder) (found : Option Tried) → (scanned_to g c p x s k found).output ≡ c.output
+scanned_to_keeps : (g : Program) (c : Config) (p : ℕ) (x : Context) (s : Scan) (k : Remainder) (found : Option Tried) →
+    (scanned_to g c p x s k found).output ≡ c.output
 scanned_to_keeps g c p x s k None = scanned_all_keeps g c p x s k s.way
 scanned_to_keeps g c p x s k (Some w) = refl
 
-passed_by_keeps : (g : Program) (c : Config) (p : ℕ) (x : Context) (w : Tried) (k : Remainder) (m : ℕ) (way : Way) → (passed_by g c p x w k m way).output ≡ c.output
+passed_by_keeps : (g : Program) (c : Config) (p : ℕ) (x : Context) (w : Tried) (k : Remainder) (m : ℕ) (way : Way) →
+    (passed_by g c p x w k m way).output ≡ c.output
 passed_by_keeps g c p x w k m leave = refl
 passed_by_keeps g c p x w k m (own b) = refl
 

@@ -51,12 +51,14 @@ unfolding ran
 two_actions = refl
 
 -- program i; var a, b: integer; begin read(a, b); writeln(a*b, eof) end.
-product_read : ran (codes "program i; var a, b: integer; begin read(a, b); writeln(a*b, eof) end.") (codes " 6\n-7") 1 (by_turn 0) 100 ≡ shows (codes "-42true\n") Finished []
+product_read : ran (codes "program i; var a, b: integer; begin read(a, b); writeln(a*b, eof) end.") (codes " 6\n-7") 1
+    (by_turn 0) 100 ≡ shows (codes "-42true\n") Finished []
 unfolding ran
 product_read = refl
 
 -- program i; var a, b: integer; begin read(a, b); writeln(a*b, eof) end.
-no_number : ran (codes "program i; var a, b: integer; begin read(a, b); writeln(a*b, eof) end.") (codes "6 x") 1 (by_turn 0) 100 ≡ shows [] (Fault 0 1 NoInteger) []
+no_number : ran (codes "program i; var a, b: integer; begin read(a, b); writeln(a*b, eof) end.") (codes "6 x") 1
+    (by_turn 0) 100 ≡ shows [] (Fault 0 1 NoInteger) []
 unfolding ran
 no_number = refl
 
@@ -66,7 +68,9 @@ unfolding ran
 no_input = refl
 
 -- program c; var i, s: integer; begin for i := 1 to 10 do case i mod 3 of 0: s := s + i; 1, 2: s := s - 1 end; writeln(s:6, -7 div 2:4, -7 mod 2:4) end.
-sum_by_case : ran (codes "program c; var i, s: integer; begin for i := 1 to 10 do case i mod 3 of 0: s := s + i; 1, 2: s := s - 1 end; writeln(s:6, -7 div 2:4, -7 mod 2:4) end.") [] 1 (by_turn 0) 200 ≡ shows (codes "    11  -3  -1\n") Finished []
+sum_by_case : ran (codes
+    "program c; var i, s: integer; begin for i := 1 to 10 do case i mod 3 of 0: s := s + i; 1, 2: s := s - 1 end; writeln(s:6, -7 div 2:4, -7 mod 2:4) end.")
+    [] 1 (by_turn 0) 200 ≡ shows (codes "    11  -3  -1\n") Finished []
 unfolding ran
 sum_by_case = refl
 
@@ -91,12 +95,15 @@ unfolding ran
 behind_true = refl
 
 -- program f; begin writeln('ab':4, 'cd', '', true:5, 'x':0, 12:-1) end.
-wide : ran (codes "program f; begin writeln('ab':4, 'cd', '', true:5, 'x':0, 12:-1) end.") [] 1 (by_turn 0) 100 ≡ shows (codes "  abcd truex") (Fault 0 1 Width) []
+wide : ran (codes "program f; begin writeln('ab':4, 'cd', '', true:5, 'x':0, 12:-1) end.") [] 1 (by_turn 0) 100 ≡ shows
+    (codes "  abcd truex") (Fault 0 1 Width) []
 unfolding ran
 wide = refl
 
 -- program r; var c: char; n: integer; begin readln(n); write(n); read(c); write(c, eoln); read(c); write(ord(c)); readln; writeln(eof) end.
-lines_read : ran (codes "program r; var c: char; n: integer; begin readln(n); write(n); read(c); write(c, eoln); read(c); write(ord(c)); readln; writeln(eof) end.") (codes "12 rest\r\nq\r\n\n") 1 (by_turn 0) 100 ≡ shows (codes "12qtrue32true\n") Finished []
+lines_read : ran (codes
+    "program r; var c: char; n: integer; begin readln(n); write(n); read(c); write(c, eoln); read(c); write(ord(c)); readln; writeln(eof) end.")
+    (codes "12 rest\r\nq\r\n\n") 1 (by_turn 0) 100 ≡ shows (codes "12qtrue32true\n") Finished []
 unfolding ran
 lines_read = refl
 
@@ -106,17 +113,20 @@ unfolding ran
 both_operands = refl
 
 -- program k; var i, n: integer; begin n := 3; for i := 1 to n do begin n := 9; i := 7; write(i) end; writeln(i) end.
-count_kept : ran (codes "program k; var i, n: integer; begin n := 3; for i := 1 to n do begin n := 9; i := 7; write(i) end; writeln(i) end.") [] 1 (by_turn 0) 100 ≡ shows (codes "7777\n") Finished []
+count_kept : ran (codes "program k; var i, n: integer; begin n := 3; for i := 1 to n do begin n := 9; i := 7; write(i) end; writeln(i) end.") [] 1
+    (by_turn 0) 100 ≡ shows (codes "7777\n") Finished []
 unfolding ran
 count_kept = refl
 
 -- program m; var i: integer; begin for i := maxint - 1 to maxint do write(i, ' '); writeln(i = maxint) end.
-last_integer : ran (codes "program m; var i: integer; begin for i := maxint - 1 to maxint do write(i, ' '); writeln(i = maxint) end.") [] 1 (by_turn 0) 100 ≡ shows (codes "2147483646 2147483647 true\n") Finished []
+last_integer : ran (codes "program m; var i: integer; begin for i := maxint - 1 to maxint do write(i, ' '); writeln(i = maxint) end.") [] 1
+    (by_turn 0) 100 ≡ shows (codes "2147483646 2147483647 true\n") Finished []
 unfolding ran
 last_integer = refl
 
 -- program m; begin writeln(7 mod (-2), -7 mod 2, 7 div (-2), (-2147483647 - 1) mod (-1)); writeln((-2147483647 - 1) div (-1)) end.
-remainders : ran (codes "program m; begin writeln(7 mod (-2), -7 mod 2, 7 div (-2), (-2147483647 - 1) mod (-1)); writeln((-2147483647 - 1) div (-1)) end.") [] 1 (by_turn 0) 100 ≡ shows (codes "1-1-30\n") (Fault 0 1 Overflow) []
+remainders : ran (codes "program m; begin writeln(7 mod (-2), -7 mod 2, 7 div (-2), (-2147483647 - 1) mod (-1)); writeln((-2147483647 - 1) div (-1)) end.") [] 1
+    (by_turn 0) 100 ≡ shows (codes "1-1-30\n") (Fault 0 1 Overflow) []
 unfolding ran
 remainders = refl
 
@@ -131,7 +141,8 @@ unfolding ran
 named_constants = refl
 
 -- program n; begin writeln((-7) mod 2, sqr(-3)); writeln(abs(-maxint - 1)) end.
-negative_rest : ran (codes "program n; begin writeln((-7) mod 2, sqr(-3)); writeln(abs(-maxint - 1)) end.") [] 1 (by_turn 0) 100 ≡ shows (codes "-19\n") (Fault 0 1 Overflow) []
+negative_rest : ran (codes "program n; begin writeln((-7) mod 2, sqr(-3)); writeln(abs(-maxint - 1)) end.") [] 1 (by_turn 0) 100 ≡ shows
+    (codes "-19\n") (Fault 0 1 Overflow) []
 unfolding ran
 negative_rest = refl
 
@@ -146,12 +157,15 @@ unfolding ran
 counts_of_each_type = refl
 
 -- program t; var a: array[1..2, 0..1] of integer; i: integer; begin i := 1; a[i, i - 1] := 5; i := 2; a[i][1] := 7; writeln(a[1, 0], a[2, 1], a[1][1]) end.
-two_indices : ran (codes "program t; var a: array[1..2, 0..1] of integer; i: integer; begin i := 1; a[i, i - 1] := 5; i := 2; a[i][1] := 7; writeln(a[1, 0], a[2, 1], a[1][1]) end.") [] 1 (by_turn 0) 100 ≡ shows (codes "570\n") Finished []
+two_indices : ran (codes
+    "program t; var a: array[1..2, 0..1] of integer; i: integer; begin i := 1; a[i, i - 1] := 5; i := 2; a[i][1] := 7; writeln(a[1, 0], a[2, 1], a[1][1]) end.")
+    [] 1 (by_turn 0) 100 ≡ shows (codes "570\n") Finished []
 unfolding ran
 two_indices = refl
 
 -- program r; var i: integer; t: array[1..2] of integer; begin read(i, t[i]); writeln(t[2]) end.
-index_read : ran (codes "program r; var i: integer; t: array[1..2] of integer; begin read(i, t[i]); writeln(t[2]) end.") (codes "2 7") 1 (by_turn 0) 100 ≡ shows (codes "7\n") Finished []
+index_read : ran (codes "program r; var i: integer; t: array[1..2] of integer; begin read(i, t[i]); writeln(t[2]) end.") (codes "2 7") 1
+    (by_turn 0) 100 ≡ shows (codes "7\n") Finished []
 unfolding ran
 index_read = refl
 
@@ -181,7 +195,8 @@ unfolding ran
 sign_apart = refl
 
 -- program i; var a, b: integer; begin read(a, b); writeln(a*b, eof) end.
-returns : ran (codes "program i; var a, b: integer; begin read(a, b); writeln(a*b, eof) end.") (codes "\r\n6\r\n7\r\n") 1 (by_turn 0) 100 ≡ shows (codes "42false\n") Finished []
+returns : ran (codes "program i; var a, b: integer; begin read(a, b); writeln(a*b, eof) end.") (codes "\r\n6\r\n7\r\n") 1
+    (by_turn 0) 100 ≡ shows (codes "42false\n") Finished []
 unfolding ran
 returns = refl
 

@@ -8,52 +8,68 @@ use Rattle.pfc_sched.specs.Words.{stream}
 use Rattle.pfc_samples.specs.Shows.{ran, shows, stands}
 
 -- before its first action a process has the line of its body's `begin`
-created_at_its_begin : ran (codes "program a;\nprocess p;\nbegin\nend;\nbegin\ncobegin p coend;\ncobegin\np\ncoend\nend.\n") [] 1 (by_turn 0) 1 ≡ shows [] (Limit 1) (stands 0 (codes "ready") 6 ∷ stands 1 (codes "created") 3 ∷ [])
+created_at_its_begin : ran (codes "program a;\nprocess p;\nbegin\nend;\nbegin\ncobegin p coend;\ncobegin\np\ncoend\nend.\n") [] 1 (by_turn 0) 1 ≡ shows []
+    (Limit 1) (stands 0 (codes "ready") 6 ∷ stands 1 (codes "created") 3 ∷ [])
 unfolding ran
 created_at_its_begin = refl
 
 -- a process that is created again keeps the line of its last action
-created_again_at_its_old_line : ran (codes "program a;\nprocess p;\nbegin\nend;\nbegin\ncobegin p coend;\ncobegin\np\ncoend\nend.\n") [] 1 (by_turn 0) 4 ≡ shows [] (Limit 4) (stands 0 (codes "ready") 8 ∷ stands 1 (codes "created") 4 ∷ [])
+created_again_at_its_old_line : ran (codes "program a;\nprocess p;\nbegin\nend;\nbegin\ncobegin p coend;\ncobegin\np\ncoend\nend.\n") [] 1 (by_turn 0) 4 ≡ shows
+    [] (Limit 4) (stands 0 (codes "ready") 8 ∷ stands 1 (codes "created") 4 ∷ [])
 unfolding ran
 created_again_at_its_old_line = refl
 
 -- main's line is that of its own `begin`, also where initialising bodies come first
-main_before_its_first_action : ran (codes "program a;\nmonitor m;\nvar n: integer;\nbegin n := 1 end;\nbegin end.\n") [] 1 (by_list (9 ∷ []) 0) 1000 ≡ shows [] (Script 1 (NoProcess 9)) (stands 0 (codes "ready") 5 ∷ [])
+main_before_its_first_action : ran (codes "program a;\nmonitor m;\nvar n: integer;\nbegin n := 1 end;\nbegin end.\n") [] 1 (by_list (9 ∷ []) 0) 1000 ≡ shows []
+    (Script 1 (NoProcess 9)) (stands 0 (codes "ready") 5 ∷ [])
 unfolding ran
 main_before_its_first_action = refl
 
 -- the deciding action has the line of the select
-select_waits_at_its_line : ran (codes "program a;\nprocess s;\nentry e;\nbegin\nselect\naccept e\ndo null\nend\nend;\nprocess c;\nbegin s.e end;\nbegin\ncobegin s; c coend\nend.\n") [] 1 (by_turn 0) 4 ≡ shows [] (Limit 4) (stands 0 (codes "waiting at coend") 13 ∷ stands 1 (codes "waiting in a select") 5 ∷ stands 2 (codes "ready") 11 ∷ [])
+select_waits_at_its_line : ran
+    (codes "program a;\nprocess s;\nentry e;\nbegin\nselect\naccept e\ndo null\nend\nend;\nprocess c;\nbegin s.e end;\nbegin\ncobegin s; c coend\nend.\n") [] 1
+    (by_turn 0) 4 ≡ shows [] (Limit 4) (stands 0 (codes "waiting at coend") 13 ∷ stands 1 (codes "waiting in a select") 5 ∷ stands 2 (codes "ready") 11 ∷ [])
 unfolding ran
 select_waits_at_its_line = refl
 
 -- the end of an accept has the line of its `accept`
-accept_of_an_alternative_ends_at_its_accept : ran (codes "program a;\nprocess s;\nentry e;\nbegin\nselect\naccept e\ndo null\nend\nend;\nprocess c;\nbegin s.e end;\nbegin\ncobegin s; c coend\nend.\n") [] 1 (by_turn 0) 6 ≡ shows [] (Limit 6) (stands 0 (codes "waiting at coend") 13 ∷ stands 1 (codes "ready") 6 ∷ stands 2 (codes "ready") 11 ∷ [])
+accept_of_an_alternative_ends_at_its_accept : ran
+    (codes "program a;\nprocess s;\nentry e;\nbegin\nselect\naccept e\ndo null\nend\nend;\nprocess c;\nbegin s.e end;\nbegin\ncobegin s; c coend\nend.\n") [] 1
+    (by_turn 0) 6 ≡ shows [] (Limit 6) (stands 0 (codes "waiting at coend") 13 ∷ stands 1 (codes "ready") 6 ∷ stands 2 (codes "ready") 11 ∷ [])
 unfolding ran
 accept_of_an_alternative_ends_at_its_accept = refl
 
 -- where the caller waited before, too
-accept_of_an_alternative_begins_at_its_select : ran (codes "program a;\nprocess s;\nentry e;\nbegin\nselect\naccept e\ndo null\nend\nend;\nprocess c;\nbegin s.e end;\nbegin\ncobegin s; c coend\nend.\n") [] 1 (by_list (0 ∷ 0 ∷ 0 ∷ 2 ∷ 1 ∷ []) 0) 5 ≡ shows [] (Limit 5) (stands 0 (codes "waiting at coend") 13 ∷ stands 1 (codes "ready") 5 ∷ stands 2 (codes "in a rendezvous") 11 ∷ [])
+accept_of_an_alternative_begins_at_its_select : ran
+    (codes "program a;\nprocess s;\nentry e;\nbegin\nselect\naccept e\ndo null\nend\nend;\nprocess c;\nbegin s.e end;\nbegin\ncobegin s; c coend\nend.\n") [] 1
+    (by_list (0 ∷ 0 ∷ 0 ∷ 2 ∷ 1 ∷ []) 0) 5 ≡ shows [] (Limit 5) (stands 0 (codes "waiting at coend") 13 ∷ stands 1
+    (codes "ready") 5 ∷ stands 2 (codes "in a rendezvous") 11 ∷ [])
 unfolding ran
 accept_of_an_alternative_begins_at_its_select = refl
 
 -- expressions behind `until` have the line of `repeat`
-until_at_its_repeat : ran (codes "program a;\nvar n: integer;\nbegin\nrepeat\nnull\nuntil\nn = 0\nend.\n") [] 1 (by_turn 0) 1 ≡ shows [] (Limit 1) (stands 0 (codes "ready") 4 ∷ [])
+until_at_its_repeat : ran (codes "program a;\nvar n: integer;\nbegin\nrepeat\nnull\nuntil\nn = 0\nend.\n") [] 1 (by_turn 0) 1 ≡ shows []
+    (Limit 1) (stands 0 (codes "ready") 4 ∷ [])
 unfolding ran
 until_at_its_repeat = refl
 
 -- a guard may use a predeclared function of its procedure's own name
-guard_with_its_procedures_name : ran (codes "program a; resource r; export abs; var n: integer; guarded procedure abs when abs(n) = 0; begin write('g') end; end; begin r.abs end.") [] 1 (by_turn 0) 1000 ≡ shows (codes "g") Finished []
+guard_with_its_procedures_name : ran
+    (codes "program a; resource r; export abs; var n: integer; guarded procedure abs when abs(n) = 0; begin write('g') end; end; begin r.abs end.") [] 1
+    (by_turn 0) 1000 ≡ shows (codes "g") Finished []
 unfolding ran
 guard_with_its_procedures_name = refl
 
 -- an index is tested before the next one is evaluated
-first_index_before_the_second : ran (codes "program a; var t: array[1..2, 1..2] of integer; function f: integer; begin write('f'); f := 1 end; begin t[3, f] := 1 end.") [] 1 (by_turn 0) 1000 ≡ shows [] (Fault 0 1 Index) []
+first_index_before_the_second : ran
+    (codes "program a; var t: array[1..2, 1..2] of integer; function f: integer; begin write('f'); f := 1 end; begin t[3, f] := 1 end.") [] 1
+    (by_turn 0) 1000 ≡ shows [] (Fault 0 1 Index) []
 unfolding ran
 first_index_before_the_second = refl
 
 -- an index of the target is tested before the value is evaluated
-target_before_its_value : ran (codes "program a; var t: array[1..2] of integer; function f: integer; begin write('f'); f := 1 end; begin t[3] := f end.") [] 1 (by_turn 0) 1000 ≡ shows [] (Fault 0 1 Index) []
+target_before_its_value : ran (codes "program a; var t: array[1..2] of integer; function f: integer; begin write('f'); f := 1 end; begin t[3] := f end.") [] 1
+    (by_turn 0) 1000 ≡ shows [] (Fault 0 1 Index) []
 unfolding ran
 target_before_its_value = refl
 
@@ -62,7 +78,8 @@ empty_literal_is_an_action : ran (codes "program a; begin write('', 1); writeln 
 unfolding ran
 empty_literal_is_an_action = refl
 
-three_output_pieces : ran (codes "program a; begin write('', 1); writeln end.") [] 1 (by_turn 0) 3 ≡ shows (codes "1\n") (Limit 3) (stands 0 (codes "ready") 1 ∷ [])
+three_output_pieces : ran (codes "program a; begin write('', 1); writeln end.") [] 1 (by_turn 0) 3 ≡ shows (codes "1\n")
+    (Limit 3) (stands 0 (codes "ready") 1 ∷ [])
 unfolding ran
 three_output_pieces = refl
 
@@ -71,15 +88,19 @@ result_is_no_read : ran (codes "program a; var x: integer; function f: integer; 
 unfolding ran
 result_is_no_read = refl
 
-result_is_no_read_4 : ran (codes "program a; var x: integer; function f: integer; begin f := 5 end; begin x := f end.") [] 1 (by_turn 0) 4 ≡ shows [] (Limit 4) (stands 0 (codes "ready") 1 ∷ [])
+result_is_no_read_4 : ran (codes "program a; var x: integer; function f: integer; begin f := 5 end; begin x := f end.") [] 1 (by_turn 0) 4 ≡ shows []
+    (Limit 4) (stands 0 (codes "ready") 1 ∷ [])
 unfolding ran
 result_is_no_read_4 = refl
 
-and_evaluates_both : ran (codes "program a; function f: boolean; begin write('f'); f := false end; begin if f and f then write('x'); if not f or f then write('y') end.") [] 1 (by_turn 0) 1000 ≡ shows (codes "ffffy") Finished []
+and_evaluates_both : ran
+    (codes "program a; function f: boolean; begin write('f'); f := false end; begin if f and f then write('x'); if not f or f then write('y') end.") [] 1
+    (by_turn 0) 1000 ≡ shows (codes "ffffy") Finished []
 unfolding ran
 and_evaluates_both = refl
 
-empty_range_writes_nothing : ran (codes "program a; var i: integer; begin i := 7; for i := 2 to 1 do write('x'); writeln(i) end.") [] 1 (by_turn 0) 1000 ≡ shows (codes "7\n") Finished []
+empty_range_writes_nothing : ran (codes "program a; var i: integer; begin i := 7; for i := 2 to 1 do write('x'); writeln(i) end.") [] 1
+    (by_turn 0) 1000 ≡ shows (codes "7\n") Finished []
 unfolding ran
 empty_range_writes_nothing = refl
 
@@ -89,7 +110,8 @@ unfolding ran
 last_pass_takes_no_turn = refl
 
 -- what is assigned to the variable does not change the count
-assigned_in_its_for : ran (codes "program a; var i: integer; begin for i := 1 to 3 do begin write(i); i := 9 end end.") [] 1 (by_turn 0) 1000 ≡ shows (codes "123") Finished []
+assigned_in_its_for : ran (codes "program a; var i: integer; begin for i := 1 to 3 do begin write(i); i := 9 end end.") [] 1
+    (by_turn 0) 1000 ≡ shows (codes "123") Finished []
 unfolding ran
 assigned_in_its_for = refl
 
@@ -114,12 +136,14 @@ unfolding ran
 only_blanks = refl
 
 -- only a byte 13 directly before a byte 10 is dropped, once
-a_byte_13_that_stays : ran (codes "program a; var n: integer; begin read(n); writeln(n) end.") ((13 ∷ 13 ∷ []) ++ codes "\n5") 1 (by_turn 0) 1000 ≡ shows [] (Fault 0 1 NoInteger) []
+a_byte_13_that_stays : ran (codes "program a; var n: integer; begin read(n); writeln(n) end.") ((13 ∷ 13 ∷ []) ++ codes "\n5") 1
+    (by_turn 0) 1000 ≡ shows [] (Fault 0 1 NoInteger) []
 unfolding ran
 a_byte_13_that_stays = refl
 
 -- at the limit's number of actions
-deadlock_before_limit : ran (codes "program d; var s: semaphore; begin wait(s) end.") [] 1 (by_turn 0) 1 ≡ shows [] Deadlock (stands 0 (codes "waiting on a semaphore") 1 ∷ [])
+deadlock_before_limit : ran (codes "program d; var s: semaphore; begin wait(s) end.") [] 1 (by_turn 0) 1 ≡ shows [] Deadlock
+    (stands 0 (codes "waiting on a semaphore") 1 ∷ [])
 unfolding ran
 deadlock_before_limit = refl
 
@@ -131,11 +155,14 @@ fault_writes_nothing : ran (codes "program d; begin write(1:300) end.") [] 1 (by
 unfolding ran
 fault_writes_nothing = refl
 
-never_its_own_partner : ran (codes "program a; var c: channel of integer; x: integer; begin select c ! 1; or c ? x end end.") [] 1 (by_turn 0) 1000 ≡ shows [] Deadlock (stands 0 (codes "waiting in a select") 1 ∷ [])
+never_its_own_partner : ran (codes "program a; var c: channel of integer; x: integer; begin select c ! 1; or c ? x end end.") [] 1 (by_turn 0) 1000 ≡ shows
+    [] Deadlock (stands 0 (codes "waiting in a select") 1 ∷ [])
 unfolding ran
 never_its_own_partner = refl
 
-else_where_spreads_leave_nothing : ran (codes "program z; var c: array[1..2] of channel of integer; k, v: integer; begin select for k := 2 to 1 replicate c[k] ? v else write('e') end end.") [] 1 (by_turn 0) 1000 ≡ shows (codes "e") Finished []
+else_where_spreads_leave_nothing : ran
+    (codes "program z; var c: array[1..2] of channel of integer; k, v: integer; begin select for k := 2 to 1 replicate c[k] ? v else write('e') end end.") [] 1
+    (by_turn 0) 1000 ≡ shows (codes "e") Finished []
 unfolding ran
 else_where_spreads_leave_nothing = refl
 

@@ -8,17 +8,22 @@ use Rattle.pfc_sched.specs.Words.{stream}
 use Rattle.pfc_samples.specs.Shows.{ran, shows, stands}
 
 -- two processes read the same value, and one addition is lost
-lost_update : ran (codes "program a; var x: integer; process p; begin x := x + 1 end; process q; begin x := x + 1 end; begin cobegin p; q coend; writeln(x) end.") [] 1 (by_list (0 ∷ 0 ∷ 0 ∷ 1 ∷ 2 ∷ 1 ∷ 2 ∷ 1 ∷ 2 ∷ 0 ∷ 0 ∷ 0 ∷ 0 ∷ []) 0) 1000 ≡ shows (codes "1\n") Finished []
+lost_update : ran (codes
+    "program a; var x: integer; process p; begin x := x + 1 end; process q; begin x := x + 1 end; begin cobegin p; q coend; writeln(x) end.") [] 1
+    (by_list (0 ∷ 0 ∷ 0 ∷ 1 ∷ 2 ∷ 1 ∷ 2 ∷ 1 ∷ 2 ∷ 0 ∷ 0 ∷ 0 ∷ 0 ∷ []) 0) 1000 ≡ shows (codes "1\n") Finished []
 unfolding ran
 lost_update = refl
 
 -- each goes on while it is ready
-no_lost_update : ran (codes "program a; var x: integer; process p; begin x := x + 1 end; process q; begin x := x + 1 end; begin cobegin p; q coend; writeln(x) end.") [] 1 (by_turn 0) 1000 ≡ shows (codes "2\n") Finished []
+no_lost_update : ran (codes
+    "program a; var x: integer; process p; begin x := x + 1 end; process q; begin x := x + 1 end; begin cobegin p; q coend; writeln(x) end.") [] 1
+    (by_turn 0) 1000 ≡ shows (codes "2\n") Finished []
 unfolding ran
 no_lost_update = refl
 
 -- nobody signals
-deadlock_of_main : ran (codes "program d; var s: semaphore; begin initial(s,0); wait(s) end.") [] 1 (by_turn 0) 1000 ≡ shows [] Deadlock (stands 0 (codes "waiting on a semaphore") 1 ∷ [])
+deadlock_of_main : ran (codes "program d; var s: semaphore; begin initial(s,0); wait(s) end.") [] 1 (by_turn 0) 1000 ≡ shows [] Deadlock
+    (stands 0 (codes "waiting on a semaphore") 1 ∷ [])
 unfolding ran
 deadlock_of_main = refl
 
@@ -51,7 +56,8 @@ hand_over_of_a_monitor : ran (codes "program m;\nmonitor k;\n  export a, b, c;\n
 unfolding ran
 hand_over_of_a_monitor = refl
 
-delay_of_main : ran (codes "program m; monitor k; export a; var q: condition; procedure a; begin delay(q) end; end; begin k.a end.") [] 1 (by_turn 0) 1000 ≡ shows [] Deadlock (stands 0 (codes "waiting on a condition") 1 ∷ [])
+delay_of_main : ran (codes "program m; monitor k; export a; var q: condition; procedure a; begin delay(q) end; end; begin k.a end.") [] 1
+    (by_turn 0) 1000 ≡ shows [] Deadlock (stands 0 (codes "waiting on a condition") 1 ∷ [])
 unfolding ran
 delay_of_main = refl
 
@@ -107,11 +113,13 @@ rendezvous_2 : ran (codes "program v; process s; entry sq(n: integer; var r: int
 unfolding ran
 rendezvous_2 = refl
 
-all_closed : ran (codes "program s; var c: channel of integer; x: integer; begin select when false => c ? x end end.") [] 1 (by_turn 0) 1000 ≡ shows [] (Fault 0 1 Closed) []
+all_closed : ran (codes "program s; var c: channel of integer; x: integer; begin select when false => c ? x end end.") [] 1
+    (by_turn 0) 1000 ≡ shows [] (Fault 0 1 Closed) []
 unfolding ran
 all_closed = refl
 
-call_of_an_idle_process : ran (codes "program e; process p; entry a; begin accept a end; begin p.a end.") [] 1 (by_turn 0) 1000 ≡ shows [] (Fault 0 1 NotActive) []
+call_of_an_idle_process : ran (codes "program e; process p; entry a; begin accept a end; begin p.a end.") [] 1
+    (by_turn 0) 1000 ≡ shows [] (Fault 0 1 NotActive) []
 unfolding ran
 call_of_an_idle_process = refl
 
@@ -127,12 +135,16 @@ recursion_of_a_function : ran (codes "program f; function fac(n: integer): integ
 unfolding ran
 recursion_of_a_function = refl
 
-sleepers : ran (codes "program t; process a; begin sleep(2); write('a') end; process b; begin sleep(1); write('b') end; begin cobegin a; b coend; writeln(clock) end.") [] 1 (by_turn 0) 1000 ≡ shows (codes "ba2\n") Finished []
+sleepers : ran (codes
+    "program t; process a; begin sleep(2); write('a') end; process b; begin sleep(1); write('b') end; begin cobegin a; b coend; writeln(clock) end.") [] 1
+    (by_turn 0) 1000 ≡ shows (codes "ba2\n") Finished []
 unfolding ran
 sleepers = refl
 
 -- the same for every seed
-sleepers_3 : ran (codes "program t; process a; begin sleep(2); write('a') end; process b; begin sleep(1); write('b') end; begin cobegin a; b coend; writeln(clock) end.") [] 1 (by_words (stream 3 1)) 1000 ≡ shows (codes "ba2\n") Finished []
+sleepers_3 : ran (codes
+    "program t; process a; begin sleep(2); write('a') end; process b; begin sleep(1); write('b') end; begin cobegin a; b coend; writeln(clock) end.") [] 1
+    (by_words (stream 3 1)) 1000 ≡ shows (codes "ba2\n") Finished []
 unfolding ran
 sleepers_3 = refl
 
@@ -168,7 +180,9 @@ replicated_alternatives_2 : ran (codes "program q;\nvar c: array[1..3] of channe
 unfolding ran
 replicated_alternatives_2 = refl
 
-spread_without_values : ran (codes "program z; var c: array[1..2] of channel of integer; k, v: integer; begin select for k := 2 to 1 replicate c[k] ? v end end.") [] 1 (by_turn 0) 1000 ≡ shows [] (Fault 0 1 Closed) []
+spread_without_values : ran
+    (codes "program z; var c: array[1..2] of channel of integer; k, v: integer; begin select for k := 2 to 1 replicate c[k] ? v end end.") [] 1
+    (by_turn 0) 1000 ≡ shows [] (Fault 0 1 Closed) []
 unfolding ran
 spread_without_values = refl
 

@@ -42,5 +42,13 @@ whole_tree (Some t) = where_whole t (first_fault t)
 
 -- the tree of a text in which no rule is broken; None where the text has a fault
 unfoldable pub program_in : List ℕ → Option ProgramTree
-unfolding pure bind stop stop_deep peek branch choose take_as many_turns many_onto many some_of list_of end_turns end_onto list_end while_turns while_onto many_while finish names_behind names constant_behind constant_reader range var_behind var_with channel_behind array_behind record_behind type_with type_at const_item_behind const_items type_item_behind type_items var_item_behind var_items group_behind group formals selector_behind desig_behind desig_with actual_with actuals_with paren_behind applied_behind plain_factor factor_with multiplier_behind term_with summand_behind simple_behind simple_with expr_from expr_with no_expr factor_at expr_at test_before for_head accept_head labels spread_behind replication guard alt_head requeue_behind action_behind comm_behind message message_or_wait comm_plain stmts_with body_behind body_with block_behind if_behind arm_with case_behind while_behind repeat_behind for_behind cobegin_behind accept_behind accepting_behind comm_with alt_with select_behind pri_behind stmt_second stmt_with stmt_at procedure_head function_head guarded_head sub_behind export_behind ending module_behind entry_behind type_word process_behind block_with part_with parts_at params program_behind program_at whole_at read_tokens
+unfolding pure bind stop stop_deep peek branch choose take_as many_turns many_onto many some_of list_of end_turns end_onto list_end while_turns while_onto
+    many_while finish names_behind names constant_behind constant_reader range var_behind var_with channel_behind array_behind record_behind type_with type_at
+    const_item_behind const_items type_item_behind type_items var_item_behind var_items group_behind group formals selector_behind desig_behind desig_with
+    actual_with actuals_with paren_behind applied_behind plain_factor factor_with multiplier_behind term_with summand_behind simple_behind simple_with expr_from
+    expr_with no_expr factor_at expr_at test_before for_head accept_head labels spread_behind replication guard alt_head requeue_behind action_behind
+    comm_behind message message_or_wait comm_plain stmts_with body_behind body_with block_behind if_behind arm_with case_behind while_behind repeat_behind
+    for_behind cobegin_behind accept_behind accepting_behind comm_with alt_with select_behind pri_behind stmt_second stmt_with stmt_at procedure_head
+    function_head guarded_head sub_behind export_behind ending module_behind entry_behind type_word process_behind block_with part_with parts_at params
+    program_behind program_at whole_at read_tokens
 program_in text = whole_tree (tree_in (cut text))

@@ -23,7 +23,8 @@ IsFree closer body = (before after : List ℕ) → body ≢ before ++ (closer ++
 free_tail : (closer : List ℕ) (b : ℕ) (body : List ℕ) → IsFree closer (b ∷ body) → IsFree closer body
 free_tail closer b body free before after e = free (b ∷ before) after (ap (λ x. b ∷ x) e)
 
-brace_body : (body other left behind : List ℕ) → body ++ (125 ∷ left) ≡ other ++ (125 ∷ behind) → IsFree (125 ∷ []) body → IsFree (125 ∷ []) other → body ≡ other
+brace_body : (body other left behind : List ℕ) → body ++ (125 ∷ left) ≡ other ++ (125 ∷ behind) →
+    IsFree (125 ∷ []) body → IsFree (125 ∷ []) other → body ≡ other
 brace_body [] [] left behind e f g = refl
 brace_body [] (c ∷ other) left behind e f g = let same : c ≡ 125 = cc in absurd (g [] other (ap (λ x. x ∷ other) same))
 brace_body (b ∷ body) [] left behind e f g = let same : b ≡ 125 = cc in absurd (f [] body (ap (λ x. x ∷ body) same))
@@ -38,7 +39,8 @@ two c d rest p q = cc
 no_shift : (c : ℕ) (left behind : List ℕ) → 42 ∷ (41 ∷ left) ≡ c ∷ (42 ∷ behind) → ⊥
 no_shift c left behind e = let same : ◌≡◌ {A = ℕ} 41 42 = cc in absurd (omega arith)
 
-star_body : (body other left behind : List ℕ) → body ++ (42 ∷ (41 ∷ left)) ≡ other ++ (42 ∷ (41 ∷ behind)) → IsFree (42 ∷ (41 ∷ [])) body → IsFree (42 ∷ (41 ∷ [])) other → body ≡ other
+star_body : (body other left behind : List ℕ) → body ++ (42 ∷ (41 ∷ left)) ≡ other ++ (42 ∷ (41 ∷ behind)) → IsFree (42 ∷ (41 ∷ [])) body →
+    IsFree (42 ∷ (41 ∷ [])) other → body ≡ other
 star_body [] [] left behind e f g = refl
 star_body [] (c ∷ []) left behind e f g = absurd (no_shift c left (41 ∷ behind) e)
 star_body [] (c ∷ d ∷ other) left behind e f g =
@@ -72,7 +74,8 @@ brace_found : (at : ℕ) (text : List ℕ) (n : ℕ) → brace_close at text ≡
 brace_found at [] n h = cc
 brace_found at (b ∷ text) n h = go (brace_found (at + 1) text n) (b == 125) refl h
   where
-    go : (brace_close (at + 1) text ≡ Some n → FoundAt (125 ∷ []) text (at + 1) n) → (t : Bool) → (b == 125) ≡ t → cond t (Some (at + 1)) (brace_close (at + 1) text) ≡ Some n
+    go : (brace_close (at + 1) text ≡ Some n → FoundAt (125 ∷ []) text (at + 1) n) → (t : Bool) → (b == 125) ≡ t →
+        cond t (Some (at + 1)) (brace_close (at + 1) text) ≡ Some n
         → FoundAt (125 ∷ []) (b ∷ text) at n
     go later true e h =
         let same : at + 1 ≡ n = cc in
@@ -118,7 +121,8 @@ star_found at text n h = go (star_found_by false at text n h)
     go (inl f) = f
     go (inr f) = absurd (let e : false ≡ true = f.1 in cc)
 
-star_finds : (is_after_star : Bool) (at : ℕ) (body after : List ℕ) → FindsBy (star_close is_after_star at (body ++ (42 ∷ (41 ∷ after)))) (at + (length body + 2))
+star_finds : (is_after_star : Bool) (at : ℕ) (body after : List ℕ) →
+    FindsBy (star_close is_after_star at (body ++ (42 ∷ (41 ∷ after)))) (at + (length body + 2))
 star_finds true at [] after = record { place = (at + 1) + 1; is = refl; least = omega arith }
 star_finds false at [] after = record { place = (at + 1) + 1; is = refl; least = omega arith }
 star_finds is_after_star at (b ∷ body) after = go (star_finds (b == 42) (at + 1) body after) (is_after_star && b == 41)
@@ -144,18 +148,21 @@ stars : Closes (codes "(*") (codes "*)") (star_close false 0)
 stars = record { found = star_found 0; finds = star_finds false 0; body = star_body; wide = omega arith }
 
 -- what is found is a comment
-closed_at : (opener closer : List ℕ) (close : List ℕ → Option ℕ) → Closes opener closer close → (text : List ℕ) (n : ℕ) → close text ≡ Some n → IsClosed opener closer (opener ++ take n text)
+closed_at : (opener closer : List ℕ) (close : List ℕ → Option ℕ) → Closes opener closer close → (text : List ℕ) (n : ℕ) → close text ≡ Some n →
+    IsClosed opener closer (opener ++ take n text)
 closed_at opener closer close k text n h =
     let f = k.found text n h in
     let width : length (f.body ++ closer) ≡ n = length-append f.body closer ∙ (let p = f.place in omega arith) in
     let front : take n text ≡ f.body ++ closer =
-    ap (take n) (f.is ∙ sym (append_assoc f.body closer f.after)) ∙ ap (λ m. take m ((f.body ++ closer) ++ f.after)) (sym width) ∙ take-append_seam (f.body ++ closer) f.after in
+    ap (take n) (f.is ∙ sym (append_assoc f.body closer f.after)) ∙ ap (λ m. take m ((f.body ++ closer) ++ f.after)) (sym width) ∙
+    take-append_seam (f.body ++ closer) f.after in
     record { body = f.body; is = ap (λ x. opener ++ x) front; next = free f.body f.after f.is f.place }
   where
     free : (body rest : List ℕ) → text ≡ body ++ (closer ++ rest) → n ≡ 0 + (length body + length closer) → IsFree closer body
     free body rest is place before after e =
         let cut : text ≡ before ++ (closer ++ (after ++ (closer ++ rest))) =
-        is ∙ ap (λ x. x ++ (closer ++ rest)) e ∙ append_assoc before (closer ++ after) (closer ++ rest) ∙ ap (λ x. before ++ x) (append_assoc closer after (closer ++ rest)) in
+        is ∙ ap (λ x. x ++ (closer ++ rest)) e ∙ append_assoc before (closer ++ after) (closer ++ rest) ∙
+        ap (λ x. before ++ x) (append_assoc closer after (closer ++ rest)) in
         let g = k.finds before (after ++ (closer ++ rest)) in
         let same : Some n ≡ Some g.place = sym h ∙ ap close cut ∙ g.is in
         let at : n ≡ g.place = cc in
@@ -166,14 +173,16 @@ closed_at opener closer close k text n h =
         absurd (omega arith)
 
 -- a comment that begins here is the one that is found
-closed_same : (opener closer : List ℕ) (close : List ℕ → Option ℕ) → Closes opener closer close → (rest piece left : List ℕ) → opener ++ rest ≡ piece ++ left → (c : IsClosed opener closer piece)
+closed_same : (opener closer : List ℕ) (close : List ℕ → Option ℕ) → Closes opener closer close → (rest piece left : List ℕ) →
+    opener ++ rest ≡ piece ++ left → (c : IsClosed opener closer piece)
     → rest ≡ c.body ++ (closer ++ left)
 closed_same opener closer close k rest piece left cut c =
     append_cancel_left opener rest (c.body ++ (closer ++ left))
     (cut ∙ ap (λ p. p ++ left) c.is ∙ append_assoc opener (c.body ++ closer) left ∙ ap (λ x. opener ++ x) (append_assoc c.body closer left))
 
 -- two comments that begin one text are one
-closed_one : (opener closer : List ℕ) (close : List ℕ → Option ℕ) → Closes opener closer close → (text piece other behind left : List ℕ) → opener ++ text ≡ piece ++ behind → opener ++ text ≡ other ++ left
+closed_one : (opener closer : List ℕ) (close : List ℕ → Option ℕ) → Closes opener closer close → (text piece other behind left : List ℕ) →
+    opener ++ text ≡ piece ++ behind → opener ++ text ≡ other ++ left
     → IsClosed opener closer piece → IsClosed opener closer other → piece ≡ other
 closed_one opener closer close k text piece other behind left a b c d =
     let e = closed_same opener closer close k text piece behind a c in
@@ -183,7 +192,8 @@ closed_one opener closer close k text piece other behind left a b c d =
 
 -- what can begin a text that opens such a comment: a comment of this opener
 abbrev OnlyClosed : First → List ℕ → List ℕ → List ℕ → Type 0
-OnlyClosed f opener closer text = (other left : List ℕ) (r : Reading) → text ≡ other ++ left → Sort f other r → (opens_comment text ≡ true → IsComment other) → IsClosed opener closer other
+OnlyClosed f opener closer text = (other left : List ℕ) (r : Reading) → text ≡ other ++ left → Sort f other r →
+    (opens_comment text ≡ true → IsComment other) → IsClosed opener closer other
 
 -- the comment of so many bytes is the longest piece
 closed_next : (b : ℕ) (more closer : List ℕ) (close : List ℕ → Option ℕ) → Closes (b ∷ more) closer close → (f : First) (text : List ℕ) (n : ℕ) → first_of b ≡ f
@@ -197,10 +207,12 @@ closed_next b more closer close k f text n first h kind only =
     let whole : length ((b ∷ more) ++ text) ≡ length (b ∷ more) + length text = length-append (b ∷ more) text in
     let within : length (b ∷ more) + n ≤ length ((b ∷ more) ++ text) = omega arith in
     let front : take (length (b ∷ more) + n) ((b ∷ more) ++ text) ≡ (b ∷ more) ++ take n text = take-append-add (b ∷ more) text n in
-    let piece : IsClosed (b ∷ more) closer (take (length (b ∷ more) + n) ((b ∷ more) ++ text)) = subst (IsClosed (b ∷ more) closer) (sym front) (closed_at (b ∷ more) closer close k text n h) in
+    let piece : IsClosed (b ∷ more) closer (take (length (b ∷ more) + n) ((b ∷ more) ++ text)) =
+    subst (IsClosed (b ∷ more) closer) (sym front) (closed_at (b ∷ more) closer close k text n h) in
     next_by f b (more ++ text) (length (b ∷ more) + n) Gap first (omega arith) within (comment (kind _ piece) refl) (λ _. kind _ piece)
     (λ other left r cut sort opened.
-    let same = closed_one (b ∷ more) closer close k text _ other _ left (sym (take-append-drop (length (b ∷ more) + n) ((b ∷ more) ++ text))) cut piece (only other left r cut sort opened) in
+    let same = closed_one (b ∷ more) closer close k text _ other _ left (sym (take-append-drop (length (b ∷ more) + n) ((b ∷ more) ++ text))) cut
+    piece (only other left r cut sort opened) in
     let size : length other ≡ length (b ∷ more) + n = ap length (sym same) ∙ length-take-le (length (b ∷ more) + n) ((b ∷ more) ++ text) within in
     omega arith)
 
@@ -240,23 +252,27 @@ two_bytes [] b c h k = absurd (omega arith)
 two_bytes (x ∷ []) b c h k = absurd (omega arith)
 two_bytes (x ∷ y ∷ text) b c h k = cc
 
-pub brace_next : (text : List ℕ) (n : ℕ) → slice_index text 0 ≡ 123 → brace_close 0 (drop 1 text) ≡ Some n → IsNextPiece text (record { length = 1 + n; reading = Gap })
+pub brace_next : (text : List ℕ) (n : ℕ) → slice_index text 0 ≡ 123 → brace_close 0 (drop 1 text) ≡ Some n →
+    IsNextPiece text (record { length = 1 + n; reading = Gap })
 brace_next text n h found =
     subst (λ t. IsNextPiece t (record { length = 1 + n; reading = Gap })) (sym (one_byte text 122 h))
     (closed_next 123 [] (codes "}") (brace_close 0) braces Brace (drop 1 text) n refl found (λ p c. inl c) (brace_only (drop 1 text)))
 
 pub brace_none : (text : List ℕ) → slice_index text 0 ≡ 123 → brace_close 0 (drop 1 text) ≡ None → NothingBegins text
 brace_none text h found =
-    subst NothingBegins (sym (one_byte text 122 h)) (closed_none 123 [] (codes "}") (brace_close 0) braces Brace (drop 1 text) refl found (brace_only (drop 1 text)))
+    subst NothingBegins (sym (one_byte text 122 h)) (closed_none 123 [] (codes "}") (brace_close 0) braces Brace
+    (drop 1 text) refl found (brace_only (drop 1 text)))
 
-pub star_next : (text : List ℕ) (n : ℕ) → slice_index text 0 ≡ 40 → slice_index text 1 ≡ 42 → star_close false 0 (drop 2 text) ≡ Some n → IsNextPiece text (record { length = 2 + n; reading = Gap })
+pub star_next : (text : List ℕ) (n : ℕ) → slice_index text 0 ≡ 40 → slice_index text 1 ≡ 42 → star_close false 0 (drop 2 text) ≡ Some n →
+    IsNextPiece text (record { length = 2 + n; reading = Gap })
 star_next text n h k found =
     subst (λ t. IsNextPiece t (record { length = 2 + n; reading = Gap })) (sym (two_bytes text 39 41 h k))
     (closed_next 40 (42 ∷ []) (codes "*)") (star_close false 0) stars Mark (drop 2 text) n refl found (λ p c. inr c) (star_only (drop 2 text)))
 
 pub star_none : (text : List ℕ) → slice_index text 0 ≡ 40 → slice_index text 1 ≡ 42 → star_close false 0 (drop 2 text) ≡ None → NothingBegins text
 star_none text h k found =
-    subst NothingBegins (sym (two_bytes text 39 41 h k)) (closed_none 40 (42 ∷ []) (codes "*)") (star_close false 0) stars Mark (drop 2 text) refl found (star_only (drop 2 text)))
+    subst NothingBegins (sym (two_bytes text 39 41 h k)) (closed_none 40 (42 ∷ []) (codes "*)") (star_close false 0) stars Mark
+    (drop 2 text) refl found (star_only (drop 2 text)))
 
 -- what is found is within the text
 found_within : (closer text : List ℕ) (n : ℕ) → FoundAt closer text 0 n → n ≤ length text

@@ -20,10 +20,12 @@ name_code : (long : Bool) (x : List ℕ) (c : ℕ) → Refused c ≡ cond long (
 name_code true x c e = of_code c 106 e (long_name refl)
 name_code false x c e = absurd (let no : Refused c ≡ Token (Name x) = e in cc)
 
-word_code : (n : Option ℕ) (is_real : Bool) (piece : List ℕ) (c : ℕ) → bytes_eq (codes "real") (str_to_ascii_lowercase piece) ≡ is_real → Refused c ≡ numbered_reading n piece → IsScanCode c
+word_code : (n : Option ℕ) (is_real : Bool) (piece : List ℕ) (c : ℕ) → bytes_eq (codes "real") (str_to_ascii_lowercase piece) ≡ is_real →
+    Refused c ≡ numbered_reading n piece → IsScanCode c
 word_code (Some n) r piece c q e = absurd (let no : Refused c ≡ Token (Word n) = e in cc)
 word_code None true piece c q e = of_code c 105 (e ∙ ap (λ t. cond t (Refused 105) (name_reading piece)) q) (real_number refl)
-word_code None false piece c q e = name_code (nat_lt 63 (length piece)) (str_to_ascii_lowercase piece) c (e ∙ ap (λ t. cond t (Refused 105) (name_reading piece)) q)
+word_code None false piece c q e = name_code (nat_lt 63 (length piece)) (str_to_ascii_lowercase piece) c (e ∙
+    ap (λ t. cond t (Refused 105) (name_reading piece)) q)
 
 number_code : (large : Bool) (k : Kind) (c : ℕ) → Refused c ≡ cond large (Refused 104) (Token k) → IsScanCode c
 number_code true k c e = of_code c 104 e (large_number refl)
@@ -55,7 +57,8 @@ cut_code place text cutting r (ended h e) q = absurd (let no : tokens [] place �
 cut_code place text cutting r (skipped piece rest h cut) q = cut_code (after place piece) rest cutting r cut q
 cut_code place text cutting r (taken piece rest kind left h cut e) q = cut_code (after place piece) rest left r cut (left_refused _ left r (sym q ∙ e))
 cut_code place text cutting r (barred piece rest code h e) q = refused_code r _ (sym q ∙ e) (reading_code piece code h.begins.reads)
-cut_code place text cutting r (stuck some none e) q = refused_code r _ (sym q ∙ e) (cause_code (opens_comment text) (starts_with (λ a b. a == b) text (codes "'")))
+cut_code place text cutting r (stuck some none e) q =
+    refused_code r _ (sym q ∙ e) (cause_code (opens_comment text) (starts_with (λ a b. a == b) text (codes "'")))
 
 pub fault_code : (text : List ℕ) (r : Refusal) → IsCutFrom (record { line = 1; column = 1 }) text (refusal r) → IsScanCode r.code
 fault_code text r cut = cut_code _ text (refusal r) r cut refl

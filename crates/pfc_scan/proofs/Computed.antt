@@ -88,7 +88,8 @@ brace_is : (text : List ℕ) (o : Option ℕ) → slice_index text 0 ≡ 123 →
 brace_is text None h e = brace_none text h e
 brace_is text (Some n) h e = brace_next text n h e
 
-star_is : (text : List ℕ) (o : Option ℕ) → slice_index text 0 ≡ 40 → slice_index text 1 ≡ 42 → star_close false 0 (drop 2 text) ≡ o → IsNext text (comment_piece 2 o)
+star_is : (text : List ℕ) (o : Option ℕ) → slice_index text 0 ≡ 40 → slice_index text 1 ≡ 42 →
+    star_close false 0 (drop 2 text) ≡ o → IsNext text (comment_piece 2 o)
 star_is text None h k e = star_none text h k e
 star_is text (Some n) h k e = star_next text n h k e
 

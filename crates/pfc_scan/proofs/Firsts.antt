@@ -76,19 +76,23 @@ pub record Sorted (piece : List ℕ) (reading : Reading) : Type 0 where
   pub is : piece ≡ byte ∷ bytes
   pub sort : Sort (first_of byte) piece reading
 
-sorted_by : (piece : List ℕ) (reading : Reading) (b : ℕ) (bytes : List ℕ) (f : First) → piece ≡ b ∷ bytes → first_of b ≡ f → Sort f piece reading → Sorted piece reading
+sorted_by : (piece : List ℕ) (reading : Reading) (b : ℕ) (bytes : List ℕ) (f : First) → piece ≡ b ∷ bytes → first_of b ≡ f →
+    Sort f piece reading → Sorted piece reading
 sorted_by piece reading b bytes f is first s = record { byte = b; bytes = bytes; is = is; sort = subst (λ g. Sort g piece reading) (sym first) s }
 
 sorted_word : (piece : List ℕ) (reading : Reading) → IsWord piece → reading ≡ word_reading piece → Sorted piece reading
 sorted_word [] reading h r = cc
-sorted_word (b ∷ bytes) reading h r = sorted_by (b ∷ bytes) reading b bytes Letter refl (letter-first b (and_left (is_letter b) (list_all is_name_part bytes) h)) (h, r)
+sorted_word (b ∷ bytes) reading h r =
+    sorted_by (b ∷ bytes) reading b bytes Letter refl (letter-first b (and_left (is_letter b) (list_all is_name_part bytes) h)) (h, r)
 
 sorted_number : (piece : List ℕ) (reading : Reading) → IsNumber piece → reading ≡ number_reading piece → Sorted piece reading
 sorted_number [] reading h r = cc
-sorted_number (b ∷ bytes) reading h r = sorted_by (b ∷ bytes) reading b bytes Digit refl (digit-first b (and_left (is_ascii_digit b) (list_all is_ascii_digit bytes) h)) (inl (h, r))
+sorted_number (b ∷ bytes) reading h r =
+    sorted_by (b ∷ bytes) reading b bytes Digit refl (digit-first b (and_left (is_ascii_digit b) (list_all is_ascii_digit bytes) h)) (inl (h, r))
 
 -- a number in front makes the first byte a Digit
-sorted_real : (whole more piece : List ℕ) (reading : Reading) → IsNumber whole → piece ≡ whole ++ more → IsReal piece → reading ≡ Refused 105 → Sorted piece reading
+sorted_real : (whole more piece : List ℕ) (reading : Reading) → IsNumber whole → piece ≡ whole ++ more → IsReal piece →
+    reading ≡ Refused 105 → Sorted piece reading
 sorted_real [] more piece reading n e h r = cc
 sorted_real (b ∷ whole) more piece reading n e h r =
     sorted_by piece reading b (whole ++ more) Digit e (digit-first b (and_left (is_ascii_digit b) (list_all is_ascii_digit whole) n)) (inr (h, r))
@@ -107,12 +111,14 @@ sorted piece reading (word h r) = sorted_word piece reading h r
 sorted piece reading (number h r) = sorted_number piece reading h r
 sorted piece reading (real (fraction whole digits n d is) r) = sorted_real whole (46 ∷ digits) piece reading n is (fraction whole digits n d is) r
 sorted piece reading (real (scaled whole scale n s is) r) = sorted_real whole scale piece reading n is (scaled whole scale n s is) r
-sorted piece reading (real (both whole digits scale n d s is) r) = sorted_real whole (46 ∷ (digits ++ scale)) piece reading n is (both whole digits scale n d s is) r
+sorted piece reading (real (both whole digits scale n d s is) r) =
+    sorted_real whole (46 ∷ (digits ++ scale)) piece reading n is (both whole digits scale n d s is) r
 sorted piece reading (literal bytes h r) = sorted_by piece reading 39 _ Quote h.is refl (bytes, h, r)
 sorted piece reading (sign n h r) = sorted_sign piece reading n h r (sign-shape piece n h)
 
 -- the kind of a piece that begins with this byte
-pub sort_at : (f : First) (b : ℕ) (bytes piece rest : List ℕ) (reading : Reading) → first_of b ≡ f → b ∷ bytes ≡ piece ++ rest → Reads piece reading → Sort f piece reading
+pub sort_at : (f : First) (b : ℕ) (bytes piece rest : List ℕ) (reading : Reading) → first_of b ≡ f → b ∷ bytes ≡ piece ++ rest →
+    Reads piece reading → Sort f piece reading
 sort_at f b bytes piece rest reading first cut h =
     let s = sorted piece reading h in
     let e : b ∷ bytes ≡ (s.byte ∷ s.bytes) ++ rest = cut ∙ ap (λ p. p ++ rest) s.is in

@@ -56,17 +56,20 @@ next_by f b rest n r first some within reads opened most = record {
   within = within;
   longest = record {
     begins = record { cut = sym (take-append-drop n (b ∷ rest)); reads = reads; opened = opened };
-    longest = λ other left s begins. rw (length-take-le n (b ∷ rest) within) (most other left s begins.cut (sort_at f b rest other left s first begins.cut begins.reads) begins.opened);
+    longest = λ other left s begins. rw (length-take-le n (b ∷ rest) within)
+        (most other left s begins.cut (sort_at f b rest other left s first begins.cut begins.reads) begins.opened);
   };
 }
 
 -- a piece that is no comment, where none is opened
 pub next_plain : (f : First) (b : ℕ) (rest : List ℕ) (n : ℕ) (r : Reading) → first_of b ≡ f → is_plain f ≡ true → 0 < n → n ≤ length (b ∷ rest)
     → Reads (take n (b ∷ rest)) r → AtMost f (b ∷ rest) n → IsNextPiece (b ∷ rest) (record { length = n; reading = r })
-next_plain f b rest n r first plain some within reads most = next_by f b rest n r first some within reads (λ h. absurd (plain-opens f b rest first plain h)) most
+next_plain f b rest n r first plain some within reads most =
+    next_by f b rest n r first some within reads (λ h. absurd (plain-opens f b rest first plain h)) most
 
 pub nothing_by : (f : First) (b : ℕ) (rest : List ℕ) → first_of b ≡ f
-    → ((other left : List ℕ) (r : Reading) → b ∷ rest ≡ other ++ left → Sort f other r → (opens_comment (b ∷ rest) ≡ true → IsComment other) → ⊥) → NothingBegins (b ∷ rest)
+    → ((other left : List ℕ) (r : Reading) → b ∷ rest ≡ other ++ left → Sort f other r → (opens_comment (b ∷ rest) ≡ true → IsComment other) → ⊥) →
+    NothingBegins (b ∷ rest)
 nothing_by f b rest first none other left r begins = none other left r begins.cut (sort_at f b rest other left r first begins.cut begins.reads) begins.opened
 
 -- ---- white space
@@ -100,4 +103,5 @@ word_next (b ∷ rest) r h within is =
     let first : is_name_part b ≡ true = or_left _ _ (or_left _ _ h) in
     let some : 0 < prefix_len is_name_part (b ∷ rest) = rw first (omega arith) in
     next_plain Letter b rest (prefix_len is_name_part (b ∷ rest)) r (letter-first b h) refl some within (word (word_front (b ∷ rest) h) is)
-    (λ other left s cut sort opened. subst (λ t. length other ≤ prefix_len is_name_part t) (sym cut) (prefix-least is_name_part other left (word-parts other sort.0)))
+    (λ other left s cut sort opened. subst (λ t. length other ≤ prefix_len is_name_part t) (sym cut)
+    (prefix-least is_name_part other left (word-parts other sort.0)))

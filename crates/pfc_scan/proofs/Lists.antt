@@ -26,7 +26,8 @@ prefix-least q (b ∷ front) rest h =
     rw here (omega arith)
 
 -- and just as long where the next byte does not pass
-pub prefix-exact : (q : ℕ → Bool) (front : List ℕ) (c : ℕ) (rest : List ℕ) → list_all q front ≡ true → q c ≡ false → prefix_len q (front ++ (c ∷ rest)) ≡ length front
+pub prefix-exact : (q : ℕ → Bool) (front : List ℕ) (c : ℕ) (rest : List ℕ) → list_all q front ≡ true → q c ≡ false →
+    prefix_len q (front ++ (c ∷ rest)) ≡ length front
 prefix-exact q [] c rest h stop = rw stop refl
 prefix-exact q (b ∷ front) c rest h stop =
     let here : q b ≡ true = and_left (q b) (list_all q front) h in

@@ -35,11 +35,13 @@ sign_is (b ∷ c ∷ d ∷ rest) left text n cut h = let s : is_sign_shaped (b �
 double-long : (text : List ℕ) → 1 < length text → double_number text ≡ sign_number (slice_index text 0 ∷ (slice_index text 1 ∷ []))
 double-long text h = sym (cond_below 1 (length text) (sign_number (slice_index text 0 ∷ (slice_index text 1 ∷ []))) None h)
 
-pub sign_double : (text : List ℕ) (n : ℕ) → first_of (slice_index text 0) ≡ Mark → opens_comment text ≡ false → double_number text ≡ Some n → IsNextPiece text (record { length = 2; reading = Token (Sign n) })
+pub sign_double : (text : List ℕ) (n : ℕ) → first_of (slice_index text 0) ≡ Mark → opens_comment text ≡ false → double_number text ≡ Some n →
+    IsNextPiece text (record { length = 2; reading = Token (Sign n) })
 sign_double [] n first closed is = cc
 sign_double (b ∷ []) n first closed is = cc
 sign_double (b ∷ c ∷ rest) n first closed is =
-    next_by Mark b (c ∷ rest) 2 (Token (Sign n)) first (omega arith) (omega arith) (sign n (sym (double-long (b ∷ c ∷ rest) (omega arith)) ∙ is) refl) (no_comment (b ∷ c ∷ rest) _ closed)
+    next_by Mark b (c ∷ rest) 2 (Token (Sign n)) first (omega arith) (omega arith) (sign n (sym (double-long (b ∷ c ∷ rest) (omega arith)) ∙
+    is) refl) (no_comment (b ∷ c ∷ rest) _ closed)
     (λ other left r cut sort opened. short other left (only_sign (b ∷ c ∷ rest) other left r closed cut sort) cut)
   where
     short : (other left : List ℕ) → ((n : ℕ) × IsSign n other) → b ∷ c ∷ rest ≡ other ++ left → length other ≤ 2

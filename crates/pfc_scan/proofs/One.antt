@@ -50,8 +50,10 @@ number_or_real : (piece : List ℕ) → IsNumber piece → IsReal piece → ⊥
 number_or_real piece n r =
     let g = goes_on piece r in
     let least : length piece ≤ prefix_len is_ascii_digit (piece ++ []) = prefix-least is_ascii_digit piece [] (number_all piece n) in
-    let exact : prefix_len is_ascii_digit (g.whole ++ (g.byte ∷ g.more)) ≡ length g.whole = prefix-exact is_ascii_digit g.whole g.byte g.more (number_all g.whole g.number) g.stops in
-    let nothing : prefix_len is_ascii_digit (piece ++ []) ≡ prefix_len is_ascii_digit (g.whole ++ (g.byte ∷ g.more)) = ap (prefix_len is_ascii_digit) (append-nil piece ∙ g.is) in
+    let exact : prefix_len is_ascii_digit (g.whole ++ (g.byte ∷ g.more)) ≡ length g.whole =
+    prefix-exact is_ascii_digit g.whole g.byte g.more (number_all g.whole g.number) g.stops in
+    let nothing : prefix_len is_ascii_digit (piece ++ []) ≡ prefix_len is_ascii_digit (g.whole ++ (g.byte ∷ g.more)) =
+    ap (prefix_len is_ascii_digit) (append-nil piece ∙ g.is) in
     let long : length piece ≡ length g.whole + length (g.byte ∷ g.more) = ap length g.is ∙ length-append g.whole (g.byte ∷ g.more) in
     absurd (omega arith)
 
@@ -136,7 +138,8 @@ pub record SameStep (piece other rest left : List ℕ) (r s : Reading) : Type 0 
   pub same_rest : rest ≡ left
   pub same_reading : r ≡ s
 
-pub one_step : (text piece other rest left : List ℕ) (r s : Reading) → BeginsLongest text piece rest r → BeginsLongest text other left s → SameStep piece other rest left r s
+pub one_step : (text piece other rest left : List ℕ) (r s : Reading) → BeginsLongest text piece rest r →
+    BeginsLongest text other left s → SameStep piece other rest left r s
 one_step text piece other rest left r s h k =
     let e : piece ++ rest ≡ other ++ left = sym h.begins.cut ∙ k.begins.cut in
     let a : length other ≤ length piece = h.longest other left s k.begins in
@@ -150,7 +153,8 @@ one_step text piece other rest left r s h k =
 
 -- ---- a text has one cutting
 
-along : (place : Place) (piece other rest left : List ℕ) (c : Cutting) → piece ≡ other → rest ≡ left → IsCutFrom (after place other) left c → IsCutFrom (after place piece) rest c
+along : (place : Place) (piece other rest left : List ℕ) (c : Cutting) → piece ≡ other → rest ≡ left →
+    IsCutFrom (after place other) left c → IsCutFrom (after place piece) rest c
 along place piece other rest left c p r h = subst (λ x. IsCutFrom (after place x) rest c) (sym p) (subst (λ x. IsCutFrom (after place other) x c) (sym r) h)
 
 pub one_cut : {place : Place} {text : List ℕ} {c d : Cutting} → IsCutFrom place text c → IsCutFrom place text d → c ≡ d

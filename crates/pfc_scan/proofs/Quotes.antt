@@ -56,7 +56,8 @@ Finds : List ℕ → Type 0
 Finds text = (n : ℕ) → quote_close false text ≡ Some n → ClosedBy text n
 
 -- at a byte that is no quote
-found_byte : (b : ℕ) (text : List ℕ) (u : Bool) (n : ℕ) → (b == 39) ≡ false → (b == 10) ≡ u → cond u None (option_map suc (quote_close false text)) ≡ Some n → Finds text → ClosedBy (b ∷ text) n
+found_byte : (b : ℕ) (text : List ℕ) (u : Bool) (n : ℕ) → (b == 39) ≡ false → (b == 10) ≡ u →
+    cond u None (option_map suc (quote_close false text)) ≡ Some n → Finds text → ClosedBy (b ∷ text) n
 unfolding Finds
 found_byte b text true n e f h later = cc
 found_byte b text false n e f h later = go (quote_close false text) refl h
@@ -71,7 +72,8 @@ unfolding Finds
 found_quote [] n h later = let same : 1 ≡ n = cc in subst (ClosedBy (39 ∷ [])) same (last_quote [])
 found_quote (c ∷ text) n h later = go (c == 39) refl (quote_close false text) refl h
   where
-    go : (t : Bool) → (c == 39) ≡ t → (o : Option ℕ) → quote_close false text ≡ o → option_map suc (cond t (Some (unwrap_or (option_map suc o) 0)) (Some 0)) ≡ Some n → ClosedBy (39 ∷ (c ∷ text)) n
+    go : (t : Bool) → (c == 39) ≡ t → (o : Option ℕ) → quote_close false text ≡ o →
+        option_map suc (cond t (Some (unwrap_or (option_map suc o) 0)) (Some 0)) ≡ Some n → ClosedBy (39 ∷ (c ∷ text)) n
     go false e o g k = let same : 1 ≡ n = cc in subst (ClosedBy (39 ∷ (c ∷ text))) same (last_quote (c ∷ text))
     go true e None g k = let same : 1 ≡ n = cc in subst (ClosedBy (39 ∷ (c ∷ text))) same (last_quote (c ∷ text))
     go true e (Some m) g k =
@@ -81,7 +83,8 @@ found_quote (c ∷ text) n h later = go (c == 39) refl (quote_close false text) 
 found_by : (b : ℕ) (text : List ℕ) (n : ℕ) → Finds text → Finds (drop 1 text) → quote_close false (b ∷ text) ≡ Some n → ClosedBy (b ∷ text) n
 found_by b text n one two h = go (b == 39) refl h
   where
-    go : (t : Bool) → (b == 39) ≡ t → cond t (option_map suc (quote_close true text)) (cond (b == 10) None (option_map suc (quote_close false text))) ≡ Some n → ClosedBy (b ∷ text) n
+    go : (t : Bool) → (b == 39) ≡ t → cond t (option_map suc (quote_close true text)) (cond (b == 10) None (option_map suc (quote_close false text))) ≡ Some n →
+        ClosedBy (b ∷ text) n
     go true e k = subst (λ c. ClosedBy (c ∷ text) n) (sym (eqb-true b 39 e)) (found_quote text n k two)
     go false e k = found_byte b text (b == 10) n e refl k one
 
@@ -124,7 +127,8 @@ finds_quote (b ∷ bytes) after h = go (finds_quote bytes after parts.1) (b == 3
     parts = and_parts (not (b == 10)) (is_one_line bytes) h
 
     go : FoundUpTo (quote_close false (quoted bytes ++ (39 ∷ after))) (length (quoted bytes) + 1) → (t : Bool) → (b == 39) ≡ t
-        → FoundUpTo (quote_close false (cond t (39 ∷ (39 ∷ quoted bytes)) (b ∷ quoted bytes) ++ (39 ∷ after))) (length (cond t (39 ∷ (39 ∷ quoted bytes)) (b ∷ quoted bytes)) + 1)
+        → FoundUpTo (quote_close false (cond t (39 ∷ (39 ∷ quoted bytes)) (b ∷ quoted bytes) ++ (39 ∷ after)))
+        (length (cond t (39 ∷ (39 ∷ quoted bytes)) (b ∷ quoted bytes)) + 1)
     go later true e = record {
       place = suc (suc later.place);
       is = ap (λ o. option_map suc (Some (unwrap_or (option_map suc o) 0))) later.is;
@@ -149,7 +153,8 @@ unquoted-quoted (b ∷ bytes) = go (unquoted-quoted bytes) (b == 39) refl
 -- ---- the piece that a quote begins
 
 -- a literal that begins a text is found there
-literal_fits : (bytes other left text : List ℕ) → IsLiteral bytes other → 39 ∷ text ≡ other ++ left → FoundUpTo (quote_close false text) (length (quoted bytes) + 1)
+literal_fits : (bytes other left text : List ℕ) → IsLiteral bytes other → 39 ∷ text ≡ other ++ left →
+    FoundUpTo (quote_close false text) (length (quoted bytes) + 1)
 literal_fits bytes other left text l cut =
     let e : 39 ∷ text ≡ 39 ∷ ((quoted bytes ++ (39 ∷ [])) ++ left) = cut ∙ ap (λ p. p ++ left) l.is in
     let f : text ≡ quoted bytes ++ (39 ∷ left) = (let g : text ≡ (quoted bytes ++ (39 ∷ [])) ++ left = cc in g) ∙ append_assoc (quoted bytes) (39 ∷ []) left in
@@ -174,11 +179,13 @@ literal_front text n h =
     let c = quote_found text n h in
     let place : n ≡ suc (length (quoted c.bytes)) = c.place in
     let inner : n - 1 ≡ length (quoted c.bytes) = omega arith in
-    let bytes : take (n - 1) text ≡ quoted c.bytes = ap (λ k. take k text) inner ∙ ap (take (length (quoted c.bytes))) c.is ∙ take-append_seam (quoted c.bytes) (39 ∷ c.after) in
+    let bytes : take (n - 1) text ≡ quoted c.bytes = ap (λ k. take k text) inner ∙ ap (take (length (quoted c.bytes))) c.is ∙
+    take-append_seam (quoted c.bytes) (39 ∷ c.after) in
     let cut : text ≡ (quoted c.bytes ++ (39 ∷ [])) ++ c.after = c.is ∙ sym (append_assoc (quoted c.bytes) (39 ∷ []) c.after) in
     let size : length (quoted c.bytes ++ (39 ∷ [])) ≡ length (quoted c.bytes) + 1 = length-append (quoted c.bytes) (39 ∷ []) in
     let outer : n ≡ length (quoted c.bytes ++ (39 ∷ [])) = omega arith in
-    let front : take n text ≡ quoted c.bytes ++ (39 ∷ []) = ap (λ k. take k text) outer ∙ ap (take (length (quoted c.bytes ++ (39 ∷ [])))) cut ∙ take-append_seam (quoted c.bytes ++ (39 ∷ [])) c.after in
+    let front : take n text ≡ quoted c.bytes ++ (39 ∷ []) = ap (λ k. take k text) outer ∙ ap (take (length (quoted c.bytes ++ (39 ∷ [])))) cut ∙
+    take-append_seam (quoted c.bytes ++ (39 ∷ [])) c.after in
     let one : 1 + n ≡ suc n = omega arith in (
       c.bytes,
       record {
@@ -187,12 +194,14 @@ literal_front text n h =
       },
     )
 
-literal_at : (text bytes : List ℕ) (n : ℕ) → quote_close false text ≡ Some n → bytes ≡ unquoted false (take (n - 1) text) → IsNextPiece (39 ∷ text) (record { length = 1 + n; reading = Token (Literal bytes) })
+literal_at : (text bytes : List ℕ) (n : ℕ) → quote_close false text ≡ Some n → bytes ≡ unquoted false (take (n - 1) text) →
+    IsNextPiece (39 ∷ text) (record { length = 1 + n; reading = Token (Literal bytes) })
 literal_at text bytes n h is =
     let f = literal_front text n h in
     let within = (quote_within text n h).1 in
     let same : f.0 ≡ bytes = f.1.same ∙ sym is in
-    next_plain Quote 39 text (1 + n) (Token (Literal bytes)) refl refl (omega arith) (omega arith) (literal bytes (subst (λ b. IsLiteral b (take (1 + n) (39 ∷ text))) same f.1.literal) refl)
+    next_plain Quote 39 text (1 + n) (Token (Literal bytes)) refl refl (omega arith) (omega arith)
+    (literal bytes (subst (λ b. IsLiteral b (take (1 + n) (39 ∷ text))) same f.1.literal) refl)
     (λ other left r cut sort opened. most other left sort.0 sort.1 cut)
   where
     most : (other left others : List ℕ) → IsLiteral others other → 39 ∷ text ≡ other ++ left → length other ≤ 1 + n
@@ -212,10 +221,12 @@ literal_not text h =
     let e : None ≡ Some far.place = sym h ∙ far.is in
     absurd (cc))
 
-pub literal_next : (text bytes : List ℕ) (n : ℕ) → slice_index text 0 ≡ 39 → quote_close false (drop 1 text) ≡ Some n → bytes ≡ unquoted false (take (n - 1) (drop 1 text))
+pub literal_next : (text bytes : List ℕ) (n : ℕ) → slice_index text 0 ≡ 39 → quote_close false (drop 1 text) ≡ Some n →
+    bytes ≡ unquoted false (take (n - 1) (drop 1 text))
     → IsNextPiece text (record { length = 1 + n; reading = Token (Literal bytes) })
 literal_next text bytes n h found is =
-    subst (λ t. IsNextPiece t (record { length = 1 + n; reading = Token (Literal bytes) })) (sym (one_byte text 38 h)) (literal_at (drop 1 text) bytes n found is)
+    subst (λ t. IsNextPiece t (record { length = 1 + n; reading = Token (Literal bytes) })) (sym (one_byte text 38 h))
+    (literal_at (drop 1 text) bytes n found is)
 
 pub literal_none : (text : List ℕ) → slice_index text 0 ≡ 39 → quote_close false (drop 1 text) ≡ None → NothingBegins text
 literal_none text h none = subst NothingBegins (sym (one_byte text 38 h)) (literal_not (drop 1 text) none)
@@ -234,20 +245,26 @@ closed_or-suc : (closed : Option ℕ) (at : ℕ) (o : Option ℕ) → closed_or 
 closed_or-suc closed at None = refl
 closed_or-suc closed at (Some n) = ap Some (omega arith)
 
-first_quote : (closed : Option ℕ) (at b : ℕ) (text : List ℕ) → b ≡ 39 → closed_or closed at (quote_close false (b ∷ text)) ≡ closed_or (Some (at + 1)) (at + 1) (quote_close true text)
+first_quote : (closed : Option ℕ) (at b : ℕ) (text : List ℕ) → b ≡ 39 →
+    closed_or closed at (quote_close false (b ∷ text)) ≡ closed_or (Some (at + 1)) (at + 1) (quote_close true text)
 first_quote closed at b text e =
     let q = after_quote text in
-    ap (λ c. closed_or closed at (quote_close false (c ∷ text))) e ∙ closed_or-suc closed at (quote_close true text) ∙ ap (closed_or closed (at + 1)) q.is ∙ sym (ap (closed_or (Some (at + 1)) (at + 1)) q.is)
+    ap (λ c. closed_or closed at (quote_close false (c ∷ text))) e ∙ closed_or-suc closed at (quote_close true text) ∙ ap (closed_or closed (at + 1)) q.is ∙
+    sym (ap (closed_or (Some (at + 1)) (at + 1)) q.is)
 
-second_quote : (closed : Option ℕ) (at b : ℕ) (text : List ℕ) → b ≡ 39 → closed ≡ Some at → closed_or closed at (quote_close true (b ∷ text)) ≡ closed_or closed (at + 1) (quote_close false text)
-second_quote closed at b text e f = ap (λ c. closed_or closed at (quote_close true (c ∷ text))) e ∙ go (quote_close false text) ∙ ap (λ c. closed_or c (at + 1) (quote_close false text)) (sym f)
+second_quote : (closed : Option ℕ) (at b : ℕ) (text : List ℕ) → b ≡ 39 → closed ≡ Some at →
+    closed_or closed at (quote_close true (b ∷ text)) ≡ closed_or closed (at + 1) (quote_close false text)
+second_quote closed at b text e f = ap (λ c. closed_or closed at (quote_close true (c ∷ text))) e ∙ go (quote_close false text) ∙
+    ap (λ c. closed_or c (at + 1) (quote_close false text)) (sym f)
   where
     go : (o : Option ℕ) → Some (at + unwrap_or (option_map suc o) 0) ≡ closed_or (Some at) (at + 1) o
     go None = ap Some (omega arith)
     go (Some n) = ap Some (omega arith)
 
-other_byte : (closed : Option ℕ) (at b : ℕ) (text : List ℕ) → b ≢ 39 → b ≢ 10 → closed_or closed at (quote_close false (b ∷ text)) ≡ closed_or closed (at + 1) (quote_close false text)
-other_byte closed at b text e f = ap (closed_or closed at) (cond-false _ _ _ (not_eqb b 39 e) ∙ cond-false _ _ _ (not_eqb b 10 f)) ∙ closed_or-suc closed at (quote_close false text)
+other_byte : (closed : Option ℕ) (at b : ℕ) (text : List ℕ) → b ≢ 39 → b ≢ 10 →
+    closed_or closed at (quote_close false (b ∷ text)) ≡ closed_or closed (at + 1) (quote_close false text)
+other_byte closed at b text e f = ap (closed_or closed at) (cond-false _ _ _ (not_eqb b 39 e) ∙ cond-false _ _ _ (not_eqb b 10 f)) ∙
+    closed_or-suc closed at (quote_close false text)
 
 -- at a place of the text: what is found before it and what is found from it on give the answer
 pub record Searched (text : List ℕ) (closed : Option ℕ) (is_after_quote : Bool) (at : ℕ) : Type 0 where
@@ -268,7 +285,8 @@ further (Some n) at h = (h.0, (let m : n ≤ at = h.1 in omega arith))
 
 module _ (text : List ℕ) (closed : Option ℕ) (is_after_quote : Bool) (at : ℕ) (here : at < length text) (s : Searched text closed is_after_quote at) where
   next_is : (t : Bool) → is_after_quote ≡ t → closed_or closed at (quote_close t (get_or text at 0 ∷ drop (at + 1) text)) ≡ quote_close false text
-  next_is t e = ap (λ x. closed_or closed at (quote_close t x)) (sym (at_place text at here)) ∙ ap (λ t. closed_or closed at (quote_close t (drop at text))) (sym e) ∙ s.rest
+  next_is t e = ap (λ x. closed_or closed at (quote_close t x)) (sym (at_place text at here)) ∙
+      ap (λ t. closed_or closed at (quote_close t (drop at text))) (sym e) ∙ s.rest
 
   -- the second quote of two
   pub searched_second : is_after_quote ≡ true → get_or text at 0 ≡ 39 → Searched text closed false (at + 1)

@@ -29,7 +29,8 @@ fraction-least (d ∷ ds) left n =
     let least : length (d ∷ ds) ≤ digits_len ((d ∷ ds) ++ left) = prefix-least is_ascii_digit (d ∷ ds) left n in
     rw e (omega arith)
 
-fraction-exact : (digits : List ℕ) (c : ℕ) (left : List ℕ) → IsNumber digits → is_ascii_digit c ≡ false → fraction_len (46 ∷ (digits ++ (c ∷ left))) ≡ 1 + length digits
+fraction-exact : (digits : List ℕ) (c : ℕ) (left : List ℕ) → IsNumber digits → is_ascii_digit c ≡ false →
+    fraction_len (46 ∷ (digits ++ (c ∷ left))) ≡ 1 + length digits
 fraction-exact [] c left n stop = cc
 fraction-exact (d ∷ ds) c left n stop =
     let e : fraction_len (46 ∷ ((d ∷ ds) ++ (c ∷ left))) ≡ 1 + digits_len ((d ∷ ds) ++ (c ∷ left)) = cond-true _ _ _ (and_parts (is_ascii_digit d) _ n).0 in
@@ -42,14 +43,16 @@ power-signed : (b : ℕ) (bytes left : List ℕ) → (b == 43 || b == 45) ≡ tr
 power-signed b [] left s n = cc
 power-signed b (d ∷ ds) left s n =
     let first : is_ascii_digit d ≡ true = (and_parts (is_ascii_digit d) _ n).0 in
-    let e : power_len (b ∷ ((d ∷ ds) ++ left)) ≡ 1 + digits_len ((d ∷ ds) ++ left) = cond-false _ _ _ (sign_no_digit b s) ∙ cond-true _ _ _ (and_from _ _ s first) in
+    let e : power_len (b ∷ ((d ∷ ds) ++ left)) ≡ 1 + digits_len ((d ∷ ds) ++ left) = cond-false _ _ _ (sign_no_digit b s) ∙
+    cond-true _ _ _ (and_from _ _ s first) in
     let least : length (d ∷ ds) ≤ digits_len ((d ∷ ds) ++ left) = prefix-least is_ascii_digit (d ∷ ds) left n in
     rw e (omega arith)
 
 power-least : (b : ℕ) (bytes left : List ℕ) → is_power (b ∷ bytes) ≡ true → suc (length bytes) ≤ power_len (b ∷ (bytes ++ left))
 power-least b bytes left h =
     elim (or_cases _ _ h) [
-      | inl n ↦ (let e : power_len (b ∷ (bytes ++ left)) ≡ digits_len (b ∷ (bytes ++ left)) = cond-true _ _ _ (and_parts (is_ascii_digit b) _ n).0 in rw e (prefix-least is_ascii_digit (b ∷ bytes) left n))
+      | inl n ↦ (let e : power_len (b ∷ (bytes ++ left)) ≡ digits_len (b ∷ (bytes ++ left)) =
+          cond-true _ _ _ (and_parts (is_ascii_digit b) _ n).0 in rw e (prefix-least is_ascii_digit (b ∷ bytes) left n))
       | inr s ↦ power-signed b bytes left (and_parts _ _ s).0 (and_parts _ _ s).1
     ]
 
@@ -124,12 +127,15 @@ pub record RealFits (piece text : List ℕ) : Type 0 where
   pub some : 0 < real_len (drop (digits_len text) text)
   pub most : length piece ≤ digits_len text + real_len (drop (digits_len text) text)
 
-tail_fits : (whole tail left text : List ℕ) (c : ℕ) (more : List ℕ) → IsNumber whole → tail ≡ c ∷ more → is_ascii_digit c ≡ false → text ≡ (whole ++ tail) ++ left → TailFits tail left → RealFits (whole ++ tail) text
+tail_fits : (whole tail left text : List ℕ) (c : ℕ) (more : List ℕ) → IsNumber whole → tail ≡ c ∷ more → is_ascii_digit c ≡ false →
+    text ≡ (whole ++ tail) ++ left → TailFits tail left → RealFits (whole ++ tail) text
 tail_fits whole tail left text c more n is stop cut fits =
     let seam : text ≡ whole ++ (tail ++ left) = cut ∙ append_assoc whole tail left in
     let next : tail ++ left ≡ c ∷ (more ++ left) = ap (λ x. x ++ left) is in
-    let digits : digits_len text ≡ length whole = ap digits_len (seam ∙ ap (λ x. whole ++ x) next) ∙ prefix-exact is_ascii_digit whole c (more ++ left) (number_all whole n) stop in
-    let behind : drop (digits_len text) text ≡ tail ++ left = ap (λ k. drop k text) digits ∙ ap (drop (length whole)) seam ∙ drop-append_seam whole (tail ++ left) in
+    let digits : digits_len text ≡ length whole = ap digits_len (seam ∙ ap (λ x. whole ++ x) next) ∙
+    prefix-exact is_ascii_digit whole c (more ++ left) (number_all whole n) stop in
+    let behind : drop (digits_len text) text ≡ tail ++ left = ap (λ k. drop k text) digits ∙ ap (drop (length whole)) seam ∙
+    drop-append_seam whole (tail ++ left) in
     let found : real_len (drop (digits_len text) text) ≡ real_len (tail ++ left) = ap real_len behind in
     let long : length (whole ++ tail) ≡ length whole + length tail = length-append whole tail in
     let some : 0 < length tail = fits.0 in
@@ -138,10 +144,12 @@ tail_fits whole tail left text c more n is stop cut fits =
 
 pub real_fits : (piece left text : List ℕ) → IsReal piece → text ≡ piece ++ left → RealFits piece text
 real_fits piece left text (fraction whole digits n d is) cut =
-    subst (λ p. RealFits p text) (sym is) (tail_fits whole (46 ∷ digits) left text 46 digits n refl refl (cut ∙ ap (λ p. p ++ left) is) (fraction-fits digits left d))
+    subst (λ p. RealFits p text) (sym is) (tail_fits whole (46 ∷ digits) left text 46 digits n refl refl (cut ∙
+    ap (λ p. p ++ left) is) (fraction-fits digits left d))
 real_fits piece left text (scaled whole scale n s is) cut =
     let b = begins_scale scale s in
-    subst (λ p. RealFits p text) (sym is) (tail_fits whole scale left text b.byte b.power n b.is b.no_digit (cut ∙ ap (λ p. p ++ left) is) (scale-fits scale left s))
+    subst (λ p. RealFits p text) (sym is) (tail_fits whole scale left text b.byte b.power n b.is b.no_digit (cut ∙
+    ap (λ p. p ++ left) is) (scale-fits scale left s))
 real_fits piece left text (both whole digits scale n d s is) cut =
     subst (λ p. RealFits p text) (sym is)
     (tail_fits whole (46 ∷ (digits ++ scale)) left text 46 (digits ++ scale) n refl refl (cut ∙ ap (λ p. p ++ left) is) (both-fit digits scale left d s))
@@ -214,7 +222,8 @@ scale_front (b ∷ rest) h =
     positive : (n : ℕ) → 0 < cond (n == 0) 0 (1 + n) → 0 < n
     positive n h = grind (arith, nat_tests)
 
-real_of : (piece whole front back : List ℕ) (f s : ℕ) → IsNumber whole → piece ≡ whole ++ (take f front ++ take s back) → (0 < f → IsFraction (take f front)) → (0 < s → is_scale (take s back) ≡ true) → 0 < f + s → IsReal piece
+real_of : (piece whole front back : List ℕ) (f s : ℕ) → IsNumber whole → piece ≡ whole ++ (take f front ++ take s back) → (0 < f → IsFraction (take f front)) →
+    (0 < s → is_scale (take s back) ≡ true) → 0 < f + s → IsReal piece
 real_of piece whole front back zero zero n is a b some = absurd (omega arith)
 real_of piece whole front back zero (suc s) n is a b some = scaled whole (take (suc s) back) n (b (omega arith)) is
 real_of piece whole front back (suc f) zero n is a b some =
@@ -225,25 +234,30 @@ real_of piece whole front back (suc f) (suc s) n is a b some =
     both whole x.digits (take (suc s) back) n x.number (b (omega arith)) (is ∙ ap (λ y. whole ++ (y ++ take (suc s) back)) x.is)
 
 -- where something is found behind the digits, the whole is a real literal
-pub real_front : (text : List ℕ) → is_ascii_digit (slice_index text 0) ≡ true → 0 < real_len (drop (digits_len text) text) → IsReal (take (digits_len text + real_len (drop (digits_len text) text)) text)
+pub real_front : (text : List ℕ) → is_ascii_digit (slice_index text 0) ≡ true → 0 < real_len (drop (digits_len text) text) →
+    IsReal (take (digits_len text + real_len (drop (digits_len text) text)) text)
 real_front text first some =
     let behind = drop (digits_len text) text in
     let last = drop (fraction_len behind) behind in
     let whole = take (digits_len text) text in
     let cut : take (digits_len text + real_len behind) text ≡ whole ++ (take (fraction_len behind) behind ++ take (scale_len last) last) =
     take-add (digits_len text) (real_len behind) text ∙ ap (λ x. whole ++ x) (take-add (fraction_len behind) (scale_len last) behind) in
-    real_of (take (digits_len text + real_len behind) text) whole behind last (fraction_len behind) (scale_len last) (number_front text first) cut (fraction_front behind) (scale_front last) some
+    real_of (take (digits_len text + real_len behind) text) whole behind last (fraction_len behind) (scale_len last) (number_front text first) cut
+    (fraction_front behind) (scale_front last) some
 
 -- ---- the piece that digits begin
 
-pub number_next : (text : List ℕ) (tail : ℕ) (r : Reading) → is_ascii_digit (slice_index text 0) ≡ true → tail ≡ real_len (drop (digits_len text) text) → digits_len text + tail ≤ length text
-    → (tail ≡ 0 → r ≡ number_reading (take (digits_len text) text)) → (0 < tail → r ≡ Refused 105) → IsNextPiece text (record { length = digits_len text + tail; reading = r })
+pub number_next : (text : List ℕ) (tail : ℕ) (r : Reading) → is_ascii_digit (slice_index text 0) ≡ true →
+    tail ≡ real_len (drop (digits_len text) text) → digits_len text + tail ≤ length text
+    → (tail ≡ 0 → r ≡ number_reading (take (digits_len text) text)) → (0 < tail → r ≡ Refused 105) →
+    IsNextPiece text (record { length = digits_len text + tail; reading = r })
 number_next [] tail r h is within plain other = cc
 number_next (b ∷ rest) tail r h is within plain other =
     let some : 0 < digits_len (b ∷ rest) = rw h (omega arith) in
     next_plain Digit b rest (digits_len (b ∷ rest) + tail) r (digit-first b h) refl (omega arith) within (reads tail is plain other) most
   where
-    reads : (tail : ℕ) → tail ≡ real_len (drop (digits_len (b ∷ rest)) (b ∷ rest)) → (tail ≡ 0 → r ≡ number_reading (take (digits_len (b ∷ rest)) (b ∷ rest))) → (0 < tail → r ≡ Refused 105)
+    reads : (tail : ℕ) → tail ≡ real_len (drop (digits_len (b ∷ rest)) (b ∷ rest)) →
+        (tail ≡ 0 → r ≡ number_reading (take (digits_len (b ∷ rest)) (b ∷ rest))) → (0 < tail → r ≡ Refused 105)
         → Reads (take (digits_len (b ∷ rest) + tail) (b ∷ rest)) r
     reads zero is plain other =
         let none : digits_len (b ∷ rest) + 0 ≡ digits_len (b ∷ rest) = omega arith in
@@ -252,6 +266,7 @@ number_next (b ∷ rest) tail r h is within plain other =
 
     most : AtMost Digit (b ∷ rest) (digits_len (b ∷ rest) + tail)
     most other left s cut (inl n) opened =
-        let least : length other ≤ digits_len (b ∷ rest) = subst (λ t. length other ≤ digits_len t) (sym cut) (prefix-least is_ascii_digit other left (number_all other n.0)) in
+        let least : length other ≤ digits_len (b ∷ rest) =
+        subst (λ t. length other ≤ digits_len t) (sym cut) (prefix-least is_ascii_digit other left (number_all other n.0)) in
         omega arith
     most other left s cut (inr n) opened = let fits = real_fits other left (b ∷ rest) n.0 cut in rw is fits.most

@@ -25,5 +25,7 @@ pub by_letter : (number : ℕ) (words : List (List ℕ)) (letter : ℕ) (piece :
     → ((rest : List ℕ) → found_from number words (letter ∷ rest) ≡ found_from 0 reserved_words (letter ∷ rest))
     → found_from number words (str_to_ascii_lowercase piece) ≡ word_number (str_to_ascii_lowercase piece)
 by_letter number words letter piece h is all =
-    let lower : str_to_ascii_lowercase piece ≡ letter ∷ str_to_ascii_lowercase (drop 1 piece) = lower-cons piece h ∙ ap (λ b. b ∷ str_to_ascii_lowercase (drop 1 piece)) (sym is) in
-    ap (found_from number words) lower ∙ all (str_to_ascii_lowercase (drop 1 piece)) ∙ ap (found_from 0 reserved_words) (sym lower) ∙ found_from-all (str_to_ascii_lowercase piece)
+    let lower : str_to_ascii_lowercase piece ≡ letter ∷ str_to_ascii_lowercase (drop 1 piece) = lower-cons piece h ∙
+    ap (λ b. b ∷ str_to_ascii_lowercase (drop 1 piece)) (sym is) in
+    ap (found_from number words) lower ∙ all (str_to_ascii_lowercase (drop 1 piece)) ∙ ap (found_from 0 reserved_words) (sym lower) ∙
+    found_from-all (str_to_ascii_lowercase piece)

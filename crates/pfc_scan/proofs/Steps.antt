@@ -47,14 +47,16 @@ pub cut_done : (text : List ℕ) (ts : List Token) (place : Place) (rest : List 
 cut_done text ts place rest e s = subst (λ x. IsCut text (tokens x place)) (append-nil ts) (s.cut (tokens [] place) (ended (is_nil rest e) refl))
 
 module _ (text : List ℕ) (ts : List Token) (place : Place) (rest : List ℕ) (s : CutSoFar text ts place rest) where
-  pub cut_barred : (piece left : List ℕ) (code : ℕ) → BeginsLongest rest piece left (reading.Refused code) → IsCut text (refusal (record { code = code; place = place }))
+  pub cut_barred : (piece left : List ℕ) (code : ℕ) → BeginsLongest rest piece left (reading.Refused code) →
+      IsCut text (refusal (record { code = code; place = place }))
   cut_barred piece left code b = s.cut (refusal (record { code = code; place = place })) (barred piece left code b refl)
 
   pub cut_stuck : 0 < length rest → NothingBegins rest → IsCut text (refusal (record { code = cause_of rest; place = place }))
   cut_stuck some none = s.cut (refusal (record { code = cause_of rest; place = place })) (stuck (not_empty rest some) none refl)
 
   -- behind a piece of `n` bytes
-  module _ (n : ℕ) (within : n ≤ length rest) (next : Place) (at : next ≡ after place (take n rest)) (lines : next.line ≤ place.line + n) (columns : next.column ≤ place.column + n) where
+  module _ (n : ℕ) (within : n ≤ length rest) (next : Place) (at : next ≡ after place (take n rest)) (lines : next.line ≤ place.line + n)
+      (columns : next.column ≤ place.column + n) where
     left_is : length (drop n rest) + n ≡ length rest
     left_is = let l : length (drop n rest) ≡ length rest - n = length-drop n rest in omega arith
 
@@ -66,11 +68,14 @@ module _ (text : List ℕ) (ts : List Token) (place : Place) (rest : List ℕ) (
       count = (let l = s.count in let m = left_is in omega arith);
     }
 
-    pub cut_taken : (kind : Kind) → 0 < n → BeginsLongest rest (take n rest) (drop n rest) (reading.Token kind) → CutSoFar text (ts ++ (record { kind = kind; place = place } ∷ [])) next (drop n rest)
+    pub cut_taken : (kind : Kind) → 0 < n → BeginsLongest rest (take n rest) (drop n rest) (reading.Token kind) →
+        CutSoFar text (ts ++ (record { kind = kind; place = place } ∷ [])) next (drop n rest)
     cut_taken kind some b = record {
       cut = λ c k. subst (IsCut text) (with_tokens-push ts (record { kind = kind; place = place }) c)
-          (s.cut (with_token (record { kind = kind; place = place }) c) (taken (take n rest) (drop n rest) kind c b (subst (λ p. IsCutFrom p (drop n rest) c) at k) refl));
+          (s.cut (with_token (record { kind = kind; place = place }) c) (taken (take n rest) (drop n rest) kind c b
+          (subst (λ p. IsCutFrom p (drop n rest) c) at k) refl));
       lines = (let l = s.lines in let m = left_is in omega arith);
       columns = (let l = s.columns in let m = left_is in omega arith);
-      count = (let l = s.count in let m = left_is in let k : length (ts ++ (record { kind = kind; place = place } ∷ [])) ≡ length ts + 1 = length-append ts (record { kind = kind; place = place } ∷ []) in omega arith);
+      count = (let l = s.count in let m = left_is in let k : length (ts ++ (record { kind = kind; place = place } ∷ [])) ≡ length ts + 1 =
+          length-append ts (record { kind = kind; place = place } ∷ []) in omega arith);
     }

@@ -15,17 +15,21 @@ digit_is : (b : ℕ) → is_ascii_digit b ≡ true → digit_value b ≡ b - 48
 digit_is b h = grind (arith, nat_tests)
 
 -- with one more digit
-pub value_more : (digits : List ℕ) (i value : ℕ) → i < length digits → IsNumber digits → value ≡ digits_value 10 (take i digits) → value * 10 + (get_or digits i 0 - 48) ≡ digits_value 10 (take (i + 1) digits)
+pub value_more : (digits : List ℕ) (i value : ℕ) → i < length digits → IsNumber digits → value ≡ digits_value 10 (take i digits) →
+    value * 10 + (get_or digits i 0 - 48) ≡ digits_value 10 (take (i + 1) digits)
 value_more digits i value h n is =
-    let digit : digit_value (get_or digits i 0) ≡ get_or digits i 0 - 48 = digit_is (get_or digits i 0) (passes-at is_ascii_digit digits i h (number_all digits n)) in
-    let more : digits_value 10 (take (i + 1) digits) ≡ digits_value 10 (take i digits) * 10 + digit_value (get_or digits i 0) = digits_value_more 10 digits i h in
+    let digit : digit_value (get_or digits i 0) ≡ get_or digits i 0 - 48 =
+    digit_is (get_or digits i 0) (passes-at is_ascii_digit digits i h (number_all digits n)) in
+    let more : digits_value 10 (take (i + 1) digits) ≡ digits_value 10 (take i digits) * 10 + digit_value (get_or digits i 0) =
+    digits_value_more 10 digits i h in
     sym (more ∙ ap (λ v. v * 10 + digit_value (get_or digits i 0)) (sym is) ∙ ap (λ d. value * 10 + d) digit)
 
 large_is : (v : ℕ) → 2147483647 < v → nat_lt 2147483647 v ≡ true
 large_is v h = grind (arith, nat_tests)
 
 -- a value that is too large stays so
-pub too_large : (digits : List ℕ) (i value : ℕ) → i < length digits → IsNumber digits → value ≡ digits_value 10 (take i digits) → 2147483647 < value * 10 + (get_or digits i 0 - 48)
+pub too_large : (digits : List ℕ) (i value : ℕ) → i < length digits → IsNumber digits → value ≡ digits_value 10 (take i digits) →
+    2147483647 < value * 10 + (get_or digits i 0 - 48)
     → number_reading digits ≡ Refused 104
 too_large digits i value h n is large =
     let more = value_more digits i value h n is in

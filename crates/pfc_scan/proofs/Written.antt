@@ -53,12 +53,23 @@ after-append place [] b = refl
 after-append place (c ∷ a) b = after-append (after_byte place c) a b
 
 -- a gap in front
-gap_before : (place : Place) (ts : List Token) (end : Place) (text piece rest : List ℕ) → text ≡ piece ++ rest → IsWhite piece ⊎ IsComment piece → IsWritten (after place piece) ts end rest → IsWritten place ts end text
+gap_before : (place : Place) (ts : List Token) (end : Place) (text piece rest : List ℕ) → text ≡ piece ++ rest → IsWhite piece ⊎ IsComment piece →
+    IsWritten (after place piece) ts end rest → IsWritten place ts end text
 gap_before place [] end text piece rest cut gap w = (more piece rest cut gap w.0, w.1 ∙ sym (ap (after place) cut ∙ after-append place piece rest))
-gap_before place (t ∷ ts) end text piece rest cut gap w =
-    (piece ++ w.0, w.1, w.2, cut ∙ ap (λ x. piece ++ x) w.3 ∙ sym (append_assoc piece w.0 (w.1 ++ w.2)), more piece w.0 refl gap w.4, w.5 ∙ sym (after-append place piece w.0), w.6, w.7)
+gap_before place (t ∷ ts) end text piece rest cut gap w = (
+  piece ++ w.0,
+  w.1,
+  w.2,
+  cut ∙ ap (λ x. piece ++ x) w.3 ∙ sym (append_assoc piece w.0 (w.1 ++ w.2)),
+  more piece w.0 refl gap w.4,
+  w.5 ∙
+      sym (after-append place piece w.0),
+  w.6,
+  w.7,
+)
 
-token_before : (place : Place) (kind : Kind) (ts : List Token) (end : Place) (text piece rest : List ℕ) → text ≡ piece ++ rest → Reads piece (reading.Token kind) → IsWritten (after place piece) ts end rest
+token_before : (place : Place) (kind : Kind) (ts : List Token) (end : Place) (text piece rest : List ℕ) → text ≡ piece ++ rest →
+    Reads piece (reading.Token kind) → IsWritten (after place piece) ts end rest
     → IsWritten place (record { kind = kind; place = place } ∷ ts) end text
 token_before place kind ts end text piece rest cut reads w = ([], piece, rest, cut, nothing refl, refl, reads, w)
 
@@ -66,12 +77,15 @@ nothing_left : (place : Place) (ts : List Token) (end : Place) (text : List ℕ)
 nothing_left place [] end text e h = (nothing e, (let same : place ≡ end = cc in sym same) ∙ sym (ap (after place) e))
 nothing_left place (t ∷ ts) end text e h = absurd (let same : [] ≡ t ∷ ts = cc in cc)
 
-pub written : {place : Place} {text : List ℕ} {c : Cutting} → IsCutFrom place text c → (ts : List Token) (end : Place) → c ≡ tokens ts end → IsWritten place ts end text
+pub written : {place : Place} {text : List ℕ} {c : Cutting} → IsCutFrom place text c → (ts : List Token) (end : Place) →
+    c ≡ tokens ts end → IsWritten place ts end text
 written {place} {text} (ended e x) ts end h = nothing_left place ts end text e (sym x ∙ h)
-written {place} {text} (skipped piece rest b k) ts end h = gap_before place ts end text piece rest b.begins.cut (gap_is piece b.begins.reads) (written k ts end h)
+written {place} {text} (skipped piece rest b k) ts end h =
+    gap_before place ts end text piece rest b.begins.cut (gap_is piece b.begins.reads) (written k ts end h)
 written {place} {text} (taken piece rest kind left b k x) ts end h = go left ts (sym x ∙ h) (written k)
   where
-    go : (l : Cutting) (ts : List Token) → with_token (record { kind = kind; place = place }) l ≡ tokens ts end → ((us : List Token) (e : Place) → l ≡ tokens us e → IsWritten (after place piece) us e rest) → IsWritten place ts end text
+    go : (l : Cutting) (ts : List Token) → with_token (record { kind = kind; place = place }) l ≡ tokens ts end →
+        ((us : List Token) (e : Place) → l ≡ tokens us e → IsWritten (after place piece) us e rest) → IsWritten place ts end text
     go (tokens us e) ts h later =
         let same : record { kind = kind; place = place } ∷ us ≡ ts = cc in
         let last : e ≡ end = cc in

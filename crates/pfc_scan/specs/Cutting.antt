@@ -67,7 +67,8 @@ pub data IsCutFrom : Place → List ℕ → Cutting → Type 0 where
   ended : {place : Place} {text : List ℕ} {cutting : Cutting} → text ≡ [] → cutting ≡ tokens [] place → IsCutFrom place text cutting
   skipped : {place : Place} {text : List ℕ} {cutting : Cutting} (piece rest : List ℕ) → BeginsLongest text piece rest reading.Gap
       → IsCutFrom (after place piece) rest cutting → IsCutFrom place text cutting
-  taken : {place : Place} {text : List ℕ} {cutting : Cutting} (piece rest : List ℕ) (kind : Kind) (left : Cutting) → BeginsLongest text piece rest (reading.Token kind)
+  taken : {place : Place} {text : List ℕ} {cutting : Cutting} (piece rest : List ℕ) (kind : Kind) (left : Cutting) →
+      BeginsLongest text piece rest (reading.Token kind)
       → IsCutFrom (after place piece) rest left → cutting ≡ with_token (record { kind = kind; place = place }) left → IsCutFrom place text cutting
   barred : {place : Place} {text : List ℕ} {cutting : Cutting} (piece rest : List ℕ) (code : ℕ) → BeginsLongest text piece rest (reading.Refused code)
       → cutting ≡ refusal (record { code = code; place = place }) → IsCutFrom place text cutting
@@ -89,4 +90,5 @@ pub data IsBlank : List ℕ → Type 0 where
 abbrev pub IsWritten : Place → List Token → Place → List ℕ → Type 0
 IsWritten place [] end text = IsBlank text × (end ≡ after place text)
 IsWritten place (t ∷ ts) end text =
-    (blank piece rest : List ℕ) × (text ≡ blank ++ (piece ++ rest)) × IsBlank blank × (t.place ≡ after place blank) × Reads piece (reading.Token t.kind) × IsWritten (after t.place piece) ts end rest
+    (blank piece rest : List ℕ) × (text ≡ blank ++ (piece ++ rest)) × IsBlank blank × (t.place ≡ after place blank) × Reads piece (reading.Token t.kind) ×
+    IsWritten (after t.place piece) ts end rest

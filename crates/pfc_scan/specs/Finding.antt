@@ -14,7 +14,8 @@ use Rattle.pfc_scan.specs.Cutting.{BeginsLongest, NothingBegins}
 
 -- what a first byte can begin
 abbrev pub first_of : ℕ → First
-first_of b = if is_white b then Blank else (if b == 123 then Brace else (if b == 39 then Quote else (if is_letter b then Letter else (if is_ascii_digit b then Digit else Mark))))
+first_of b = if is_white b then
+    Blank else (if b == 123 then Brace else (if b == 39 then Quote else (if is_letter b then Letter else (if is_ascii_digit b then Digit else Mark))))
 
 -- the piece is the longest that begins the text
 pub record IsNextPiece (text : List ℕ) (p : Piece) : Type 0 where
@@ -78,7 +79,8 @@ fraction_len text = if slice_index text 0 == 46 && is_ascii_digit (slice_index t
 abbrev pub power_len : List ℕ → ℕ
 power_len text =
     if is_ascii_digit (slice_index text 0) then prefix_len is_ascii_digit text
-    else (if (slice_index text 0 == 43 || slice_index text 0 == 45) && is_ascii_digit (slice_index text 1) then 1 + prefix_len is_ascii_digit (drop 1 text) else 0)
+    else (if (slice_index text 0 == 43 || slice_index text 0 == 45) && is_ascii_digit (slice_index text 1) then
+    1 + prefix_len is_ascii_digit (drop 1 text) else 0)
 
 abbrev pub scale_len : List ℕ → ℕ
 scale_len text = if slice_index text 0 == 69 || slice_index text 0 == 101 then (if power_len (drop 1 text) == 0 then 0 else 1 + power_len (drop 1 text)) else 0

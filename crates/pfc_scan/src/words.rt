@@ -75,7 +75,8 @@ fn is_same(word: &[u8], piece: &[u8]) -> bool
 
 /// The reserved words that begin with a letter, in their order, and the number of the first.
 fn words_by_letter(letter: u8) -> (u8, &'static [&'static [u8]])
-    ensures all { (rest : List ℕ) → found_from result.0 (map (λ w. str_to_ascii_lowercase w.now) result.1.now) (letter ∷ rest) ≡ found_from 0 reserved_words (letter ∷ rest) }
+    ensures all { (rest : List ℕ) → found_from result.0 (map (λ w. str_to_ascii_lowercase w.now) result.1.now)
+        (letter ∷ rest) ≡ found_from 0 reserved_words (letter ∷ rest) }
     ensures few { result.0 + length result.1.now ≤ 46 }
 {
     match letter {

@@ -24,7 +24,8 @@ abbrev pub BeginsItem : List ℕ → Type 0
 BeginsItem [] = Unit {0}
 BeginsItem (b ∷ rest) = is_blank b ≡ false
 
-begins_by : (t : Bool) (b : ℕ) (rest : List ℕ) → is_blank b ≡ t → BeginsItem (drop (blanks_before rest) rest) → BeginsItem (drop (cond t (suc (blanks_before rest)) 0) (b ∷ rest))
+begins_by : (t : Bool) (b : ℕ) (rest : List ℕ) → is_blank b ≡ t → BeginsItem (drop (blanks_before rest) rest) →
+    BeginsItem (drop (cond t (suc (blanks_before rest)) 0) (b ∷ rest))
 begins_by true b rest e h = h
 begins_by false b rest e h = e
 
@@ -38,12 +39,14 @@ item_first b rest e = ap (λ t. cond t (items_of rest) (put_before b (goes_on re
 
 put_at : (t : Bool) (b c : ℕ) (rest : List ℕ) → is_blank c ≡ t
     → (is_blank c ≡ false → items_of (c ∷ rest) ≡ take (suc (bytes_before_blank rest)) (c ∷ rest) ∷ items_of (drop (suc (bytes_before_blank rest)) (c ∷ rest)))
-    → put_before b (not t) (items_of (c ∷ rest)) ≡ take (suc (cond t 0 (suc (bytes_before_blank rest)))) (b ∷ c ∷ rest) ∷ items_of (drop (suc (cond t 0 (suc (bytes_before_blank rest)))) (b ∷ c ∷ rest))
+    → put_before b (not t) (items_of (c ∷ rest)) ≡ take (suc (cond t 0 (suc (bytes_before_blank rest)))) (b ∷ c ∷ rest) ∷ items_of
+    (drop (suc (cond t 0 (suc (bytes_before_blank rest)))) (b ∷ c ∷ rest))
 put_at true b c rest e h = refl
 put_at false b c rest e h = ap (λ items. put_before b true items) (h e)
 
 -- the first item ends before the first blank
-pub cut_behind : (b : ℕ) (rest : List ℕ) → is_blank b ≡ false → items_of (b ∷ rest) ≡ take (suc (bytes_before_blank rest)) (b ∷ rest) ∷ items_of (drop (suc (bytes_before_blank rest)) (b ∷ rest))
+pub cut_behind : (b : ℕ) (rest : List ℕ) → is_blank b ≡ false → items_of (b ∷ rest) ≡ take (suc (bytes_before_blank rest)) (b ∷ rest) ∷ items_of
+    (drop (suc (bytes_before_blank rest)) (b ∷ rest))
 cut_behind b [] e = item_first b [] e
 cut_behind b (c ∷ rest) e = item_first b (c ∷ rest) e ∙ put_at (is_blank c) b c rest refl (cut_behind c rest)
 
@@ -67,11 +70,13 @@ none_left bs h = sym (skipped bs) ∙ ap items_of (empty (drop (blanks_before bs
     empty (x ∷ xs) e = absurd (omega arith)
 
 -- the same for lists that equal these
-pub cut_from : (bs rest item after : List ℕ) → rest ≡ drop (blanks_before bs) bs → 0 < length rest → item ≡ take (bytes_before_blank rest) rest → after ≡ drop (bytes_before_blank rest) rest → IsCutAt bs item after
+pub cut_from : (bs rest item after : List ℕ) → rest ≡ drop (blanks_before bs) bs → 0 < length rest → item ≡ take (bytes_before_blank rest) rest →
+    after ≡ drop (bytes_before_blank rest) rest → IsCutAt bs item after
 cut_from bs rest item after e some f g =
     let here = cut_here rest some (subst BeginsItem (sym e) (begins_item bs)) in
     record {
-      items = sym (skipped bs) ∙ ap items_of (sym e) ∙ here.items ∙ ap (λ x. x ∷ items_of (drop (bytes_before_blank rest) rest)) (sym f) ∙ ap (λ x. item ∷ items_of x) (sym g);
+      items = sym (skipped bs) ∙ ap items_of (sym e) ∙ here.items ∙
+          ap (λ x. x ∷ items_of (drop (bytes_before_blank rest) rest)) (sym f) ∙ ap (λ x. item ∷ items_of x) (sym g);
       shorter = less (length rest) (ap length e ∙ length-drop (blanks_before bs) bs) (subst (λ (x : List ℕ). length x < length rest) (sym g) here.shorter);
     }
   where

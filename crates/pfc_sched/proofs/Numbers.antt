@@ -27,13 +27,16 @@ digit : (b : ℕ) → is_ascii_digit b ≡ true → digit_value b ≡ b - 48
 digit b e = grind (arith, nat_tests)
 
 -- the same where the value passes it with the digit at a place
-pub past_at : (item : List ℕ) (i v : ℕ) → i < length item → 48 ≤ get_or item i 0 → 4294967295 < v * 10 + (get_or item i 0 - 48) → None ≡ number_behind v (drop i item)
+pub past_at : (item : List ℕ) (i v : ℕ) → i < length item → 48 ≤ get_or item i 0 →
+    4294967295 < v * 10 + (get_or item i 0 - 48) → None ≡ number_behind v (drop i item)
 past_at item i v h d big = rw (drop-cons item i 0) (sym (at_digit (get_or item i 0) (drop (suc i) item) d big))
   where
     at_digit : (b : ℕ) (rest : List ℕ) → 48 ≤ b → 4294967295 < v * 10 + (b - 48) → number_behind v (b ∷ rest) ≡ None
     at_digit b rest le big = by_digit (is_ascii_digit b) refl
       where
-        by_digit : (t : Bool) → is_ascii_digit b ≡ t → cond ((t && list_all is_ascii_digit rest) && nat_le (digits_value_after 10 (v * 10 + digit_value b) rest) 4294967295) (Some (digits_value_after 10 (v * 10 + digit_value b) rest)) None ≡ None
+        by_digit : (t : Bool) → is_ascii_digit b ≡ t →
+            cond ((t && list_all is_ascii_digit rest) && nat_le (digits_value_after 10 (v * 10 + digit_value b) rest) 4294967295)
+            (Some (digits_value_after 10 (v * 10 + digit_value b) rest)) None ≡ None
         by_digit false e = refl
         by_digit true e = past_greatest (v * 10 + digit_value b) rest (let same : digit_value b ≡ b - 48 = digit b e in omega arith)
 

@@ -40,8 +40,15 @@ all_more i stand rest (n ∷ ns) h = (one_more i stand rest n h.0, all_more i st
 at_test : (t : Bool) (i : ℕ) (stand : Stand) (rest : List Stand) → is_ready stand ≡ t → AreReadyRows (i + 1) rest (ready_from (i + 1) rest)
     → AreReadyRows i (stand ∷ rest) (cond t (i ∷ ready_from (i + 1) rest) (ready_from (i + 1) rest))
 at_test true i stand rest e h =
-    let first : i - i ≡ 0 = omega arith in
-    (record { from = omega arith; within = omega arith; ready = ap (λ k. is_ready (at (stand ∷ rest) k)) first ∙ e }, all_more i stand rest (ready_from (i + 1) rest) h)
+    let first : i - i ≡ 0 = omega arith in (
+      record {
+        from = omega arith;
+        within = omega arith;
+        ready = ap (λ k. is_ready (at (stand ∷ rest) k)) first ∙
+            e;
+      },
+      all_more i stand rest (ready_from (i + 1) rest) h,
+    )
 at_test false i stand rest e h = all_more i stand rest (ready_from (i + 1) rest) h
 
 -- each number that is found is that of a ready process
@@ -62,7 +69,8 @@ by_place rows [] k lt h = absurd (omega arith)
 by_place rows (n ∷ ns) zero lt h = from_row rows n h.0
 by_place rows (n ∷ ns) (suc k) lt h = by_place rows ns k (omega arith) h.1
 
-or_first : (rows : List Stand) (ns : List ℕ) (last : ℕ) (other : ℕ) → AreReadyRows 0 rows ns → IsReadyAt rows other → IsReadyAt rows (unwrap_or (at_or_after last ns) other)
+or_first : (rows : List Stand) (ns : List ℕ) (last : ℕ) (other : ℕ) → AreReadyRows 0 rows ns → IsReadyAt rows other →
+    IsReadyAt rows (unwrap_or (at_or_after last ns) other)
 or_first rows [] last other h o = o
 or_first rows (n ∷ ns) last other h o = at_turn (nat_le last n) (or_first rows ns last other h.1 o)
   where
@@ -80,7 +88,8 @@ named_ready : (rows : List Stand) (o : Option ℕ) (q : ℕ) → named o rows �
 named_ready rows None q e = absurd cc
 named_ready rows (Some p) q e = in_table (nat_lt p (length rows)) (is_ready (at rows p)) refl refl e
   where
-    in_table : (s t : Bool) → nat_lt p (length rows) ≡ s → is_ready (at rows p) ≡ t → cond s (cond t (Process p) (NotReady p)) (NoProcess p) ≡ Process q → IsReadyAt rows q
+    in_table : (s t : Bool) → nat_lt p (length rows) ≡ s → is_ready (at rows p) ≡ t →
+        cond s (cond t (Process p) (NotReady p)) (NoProcess p) ≡ Process q → IsReadyAt rows q
     in_table true true lt ready same = to_named rows q p same (grind (arith, nat_tests), ready)
     in_table true false lt ready same = absurd cc
     in_table false t lt ready same = absurd cc

@@ -6,4 +6,5 @@ use Rattle.std.specs.Str.Parse.{digits_value_after}
 
 -- the number where these bytes follow digits of this value
 abbrev pub number_behind : ℕ → List ℕ → Option ℕ
-number_behind value bytes = if list_all is_ascii_digit bytes && nat_le (digits_value_after 10 value bytes) 4294967295 then Some (digits_value_after 10 value bytes) else None
+number_behind value bytes = if list_all is_ascii_digit bytes && nat_le (digits_value_after 10 value bytes) 4294967295 then
+    Some (digits_value_after 10 value bytes) else None

@@ -60,4 +60,5 @@ TakesInOrder = (numbers : List ℕ) (tables : List (List Stand)) → run_of_pick
 
 -- the picks of a run, recorded as a script, give the same picks over the same standings
 abbrev pub Replays : Type 0
-Replays = (p : Picking) (tables : List (List Stand)) → ArePlain (run_of_picks p tables) → run_of_picks (by_list (recorded (run_of_picks p tables)) 0) tables ≡ run_of_picks p tables
+Replays = (p : Picking) (tables : List (List Stand)) → ArePlain (run_of_picks p tables) →
+    run_of_picks (by_list (recorded (run_of_picks p tables)) 0) tables ≡ run_of_picks p tables

@@ -63,7 +63,8 @@ pub ruleset begun = (begun_none, begun_some)
 
 -- ## All alternatives
 
-alternatives_more : (c : Context) (n : ℕ) (a : AltTree) (others : AltTrees) → alternatives c n (more_alts a others) ≡ spread_alt c n a ++ alternatives c (n + alt_scopes a) others
+alternatives_more : (c : Context) (n : ℕ) (a : AltTree) (others : AltTrees) →
+    alternatives c n (more_alts a others) ≡ spread_alt c n a ++ alternatives c (n + alt_scopes a) others
 alternatives_more c n (alt None guard comm ss) others = refl
 alternatives_more c n (alt (Some s) guard comm ss) others = refl
 

@@ -7,7 +7,8 @@ use Rattle.pfc_tree.specs.views.Stmts.{alt_view, comm_view, stmts_view, comm_ste
 use Rattle.pfc_pending.specs.Selects.{guard_of, comm_of, behind_of}
 use Rattle.pfc_select_steps.specs.Gone.{spread_of}
 
-alt_view-out : (a : Alt) → alt_view a ≡ alt (out-Alt a).spread (option_map expr_view (out-Alt a).guard) (comm_view (out-Alt a).comm) (stmts_view (out-Alt a).rest.items)
+alt_view-out : (a : Alt) → alt_view a ≡ alt (out-Alt a).spread (option_map expr_view (out-Alt a).guard)
+    (comm_view (out-Alt a).comm) (stmts_view (out-Alt a).rest.items)
 alt_view-out a = fold_out-Alt CommTree StmtTree AcceptTree AltTree BodyTree ArmTree comm_step stmt_step accept_step alt_step body_step arm_step a
 
 pub spread_of-out : (a : Alt) → spread_of (alt_view a) ≡ (out-Alt a).spread

@@ -22,19 +22,22 @@ pub send_step :
     (c : Context) (d : DesigTree) (e : ExprTree) (m : Option ExprTree) (a : Alternative) (rest : List Alternative) (s : Selecting) (k : Remainder)
     → m ≡ message_of c e
     → from_desig c d (offer_to m a rest s k) (from_location c (offer_to m a rest s k))
-    ≡ from_desig c d (offer_to (message_of c e) a rest s k) (λ channel. from_message c channel.spot (message_of c e) a rest s k (λ t. from_alternatives c rest t k))
+    ≡ from_desig c d (offer_to (message_of c e) a rest s k)
+    (λ channel. from_message c channel.spot (message_of c e) a rest s k (λ t. from_alternatives c rest t k))
 send_step c d e m a rest s k is = ap (λ x. from_desig c d (offer_to x a rest s k) (from_location c (offer_to x a rest s k))) is
 
 pub receive_step :
     (c : Context) (d v : DesigTree) (m : Option DesigTree) (a : Alternative) (rest : List Alternative) (s : Selecting) (k : Remainder)
     → m ≡ receiver_of c v
     → from_desig c d (offer_from m a rest s k) (from_location c (offer_from m a rest s k))
-    ≡ from_desig c d (offer_from (receiver_of c v) a rest s k) (λ channel. from_receiver c channel.spot (receiver_of c v) a rest s k (λ t. from_alternatives c rest t k))
+    ≡ from_desig c d (offer_from (receiver_of c v) a rest s k) (λ channel. from_receiver c channel.spot
+    (receiver_of c v) a rest s k (λ t. from_alternatives c rest t k))
 receive_step c d v m a rest s k is = ap (λ x. from_desig c d (offer_from x a rest s k) (from_location c (offer_from x a rest s k))) is
 
 pub timeout_step :
     (c : Context) (e : ExprTree) (a : Alternative) (rest : List Alternative) (s : Selecting) (k : Remainder)
-    → from_expr c e (offer_wait a rest s k) (from_value c (offer_wait a rest s k)) ≡ from_expr c e (offer_wait a rest s k) (from_seconds c a s (λ t. from_alternatives c rest t k))
+    → from_expr c e (offer_wait a rest s k) (from_value c (offer_wait a rest s k)) ≡ from_expr c e (offer_wait a rest s k)
+    (from_seconds c a s (λ t. from_alternatives c rest t k))
 timeout_step c e a rest s k = refl
 
 pub ruleset communication = timeout_step

@@ -30,7 +30,9 @@ pub fn begin<'t>(
     line: u32,
     site: Site<'t, '_>,
 ) -> Result<At<'t>, Memory>
-    ensures { IfOk result (λ a. (t : Tables) (w : Waiting) → ahead t (context (env_view site.entry.env) line) w a ≡ from_alternatives (context (env_view site.entry.env) line) (alternatives.alternatives (context (env_view site.entry.env) line) n (alts_view alts.now.items)) (record (select_begun pri) { otherwise = option_map otherwise_view otherwise.entry }) (remainder_of w)) }
+    ensures { IfOk result (λ a. (t : Tables) (w : Waiting) → ahead t (context (env_view site.entry.env) line) w a ≡ from_alternatives
+        (context (env_view site.entry.env) line) (alternatives.alternatives (context (env_view site.entry.env) line) n (alts_view alts.now.items))
+        (record (select_begun pri) { otherwise = option_map otherwise_view otherwise.entry }) (remainder_of w)) }
 {
     let all = listed(n, alts, line, site)?;
     let select = Selecting {
@@ -78,7 +80,8 @@ fn spread<'t>(
     line: u32,
     site: Site<'t, '_>,
 ) -> Result<(), Memory>
-    ensures { OnOk result (alternatives_view all.new.items ≡ alternatives_view all.old.items ++ spread_alt (context (env_view site.entry.env) line) next (alt_view alt.now)) }
+    ensures { OnOk result (alternatives_view all.new.items ≡ alternatives_view all.old.items ++ spread_alt
+        (context (env_view site.entry.env) line) next (alt_view alt.now)) }
 {
     let one = Alternative {
         replica: None,
@@ -97,7 +100,8 @@ fn spread_one<'t>(
     line: u32,
     site: Site<'t, '_>,
 ) -> Result<(), Memory>
-    ensures { OnOk result (alternatives_view all.new.items ≡ alternatives_view all.old.items ++ spread_by (context (env_view site.entry.env) line) (alternative_view one.entry) spread.now) }
+    ensures { OnOk result (alternatives_view all.new.items ≡ alternatives_view all.old.items ++ spread_by (context (env_view site.entry.env) line)
+        (alternative_view one.entry) spread.now) }
 {
     match spread {
         Some(s) => replicate(all, one, s, line, site),
@@ -116,7 +120,8 @@ fn replicate<'t>(
     line: u32,
     site: Site<'t, '_>,
 ) -> Result<(), Memory>
-    ensures { OnOk result (alternatives_view all.new.items ≡ alternatives_view all.old.items ++ map (with_replica (alternative_view one.entry)) (alternatives.replicas (context (env_view site.entry.env) line) s.now)) }
+    ensures { OnOk result (alternatives_view all.new.items ≡ alternatives_view all.old.items ++ map (with_replica (alternative_view one.entry))
+        (alternatives.replicas (context (env_view site.entry.env) line) s.now)) }
 {
     let at = site.variable(&s.name);
     match spread_values(s, site.env) {
@@ -133,7 +138,8 @@ fn between<'t>(
     low: i32,
     high: i32,
 ) -> Result<(), Memory>
-    ensures { OnOk result (alternatives_view all.new.items ≡ alternatives_view all.old.items ++ map (with_replica (alternative_view one.entry)) (alternatives.replicas_between (spot_view at).spot line low high)) }
+    ensures { OnOk result (alternatives_view all.new.items ≡ alternatives_view all.old.items ++ map (with_replica (alternative_view one.entry))
+        (alternatives.replicas_between (spot_view at).spot line low high)) }
 {
     if low <= high {
         repeat(all, one, at, line, low, value_count(low, high))
@@ -152,7 +158,8 @@ fn repeat<'t>(
     count: u64,
 ) -> Result<(), Memory>
     requires { count ≤ 2 ^ 32 }
-    ensures { OnOk result (alternatives_view all.new.items ≡ alternatives_view all.old.items ++ map (with_replica (alternative_view one.entry)) (alternatives.replicas_from (spot_view at).spot line low count)) }
+    ensures { OnOk result (alternatives_view all.new.items ≡ alternatives_view all.old.items ++ map (with_replica (alternative_view one.entry))
+        (alternatives.replicas_from (spot_view at).spot line low count)) }
 {
     for k in 0..count {
         let replica = Replica {
@@ -173,7 +180,8 @@ fn add<'t>(
     one: Alternative<'t>,
     replica: Replica,
 ) -> Result<(), Memory>
-    ensures { OnOk result (alternatives_view all.new.items ≡ alternatives_view all.old.items ++ with_replica (alternative_view one.entry) (replica_view replica) ∷ []) }
+    ensures { OnOk result (alternatives_view all.new.items ≡ alternatives_view all.old.items ++ with_replica
+        (alternative_view one.entry) (replica_view replica) ∷ []) }
 {
     all.push(Alternative {
         replica: Some(replica),

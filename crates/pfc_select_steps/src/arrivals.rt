@@ -17,7 +17,8 @@ use pfc_values::is_true;
 
 /// The replica of an alternative is written: its guard comes next, on the line of the select.
 pub fn go_through<'t>(line: u32, choosing: Box<Choosing<'t>>) -> Begun<'t>
-    ensures { (t : Tables) (env : Known) (w : Waiting) → begun_ahead t env w result ≡ from_remainder env (remainder_of (over t w (pending.GoThrough line choosing.entry))) }
+    ensures { (t : Tables) (env : Known) (w : Waiting) →
+        begun_ahead t env w result ≡ from_remainder env (remainder_of (over t w (pending.GoThrough line choosing.entry))) }
 {
     Begun {
         line,
@@ -27,7 +28,8 @@ pub fn go_through<'t>(line: u32, choosing: Box<Choosing<'t>>) -> Begun<'t>
 
 /// The guard of an alternative: the alternative is open where it is true.
 pub fn open_if<'t>(choosing: Box<Choosing<'t>>, v: &Value) -> Step<'t>
-    ensures { (t : Tables) (c : Context) (w : Waiting) → step_ahead t c w result ≡ from_value c (awaits_of (over t w (pending.OpenIf choosing.entry))) (value_view v.now) }
+    ensures { (t : Tables) (c : Context) (w : Waiting) →
+        step_ahead t c w result ≡ from_value c (awaits_of (over t w (pending.OpenIf choosing.entry))) (value_view v.now) }
 {
     if is_true(v.ordinal()) {
         Step::On(At::Opened(choosing))
@@ -43,8 +45,10 @@ pub fn offer_value<'t>(
     mut choosing: Box<Choosing<'t>>,
     v: Value,
 ) -> Result<Step<'t>, (Spot, Box<Choosing<'t>>, Value)>
-    ensures ok { IfOk result (λ step. (t : Tables) (c : Context) (w : Waiting) → step_ahead t c w step ≡ from_value c (awaits_of (over t w (pending.OfferValue channel choosing.entry))) (value_view v)) }
-    ensures waits { IfErr result (λ b. (t : Tables) (w : Waiting) → over t w (pending.OfferValue b.0 b.1) ≡ over t w (pending.OfferValue channel choosing.entry)) }
+    ensures ok { IfOk result (λ step. (t : Tables) (c : Context) (w : Waiting) →
+        step_ahead t c w step ≡ from_value c (awaits_of (over t w (pending.OfferValue channel choosing.entry))) (value_view v)) }
+    ensures waits { IfErr result (λ b. (t : Tables) (w : Waiting) →
+        over t w (pending.OfferValue b.0 b.1) ≡ over t w (pending.OfferValue channel choosing.entry)) }
     ensures value { IfErr result (λ b. b.2 ≡ v) }
 {
     match reserve(&mut choosing) {
@@ -60,7 +64,8 @@ pub fn offer_wait<'t>(
     mut choosing: Box<Choosing<'t>>,
     v: &Value,
 ) -> Result<Step<'t>, Box<Choosing<'t>>>
-    ensures ok { IfOk result (λ step. (t : Tables) (c : Context) (w : Waiting) → step_ahead t c w step ≡ from_value c (awaits_of (over t w (pending.OfferWait choosing.entry))) (value_view v.now)) }
+    ensures ok { IfOk result (λ step. (t : Tables) (c : Context) (w : Waiting) →
+        step_ahead t c w step ≡ from_value c (awaits_of (over t w (pending.OfferWait choosing.entry))) (value_view v.now)) }
     ensures waits { IfErr result (λ b. (t : Tables) (w : Waiting) → over t w (pending.OfferWait b) ≡ over t w (pending.OfferWait choosing.entry)) }
 {
     let seconds = v.ordinal();

@@ -24,7 +24,8 @@ pub fn reach_to<'t>(
     message: Option<&'t Expr>,
     mut choosing: Box<Choosing<'t>>,
 ) -> Result<Step<'t>, (TypedSpot, Goal<'t>)>
-    ensures ok { IfOk result (λ step. (t : Tables) (c : Context) (w : Waiting) → step_ahead t c w step ≡ from_location c (goal_over w (goal.OfferTo message.entry choosing.entry)) (typed_spot_view spot)) }
+    ensures ok { IfOk result (λ step. (t : Tables) (c : Context) (w : Waiting) →
+        step_ahead t c w step ≡ from_location c (goal_over w (goal.OfferTo message.entry choosing.entry)) (typed_spot_view spot)) }
     ensures spot { IfErr result (λ b. b.0 ≡ spot) }
     ensures goal { IfErr result (λ b. (w : Waiting) → goal_over w b.1 ≡ goal_over w (goal.OfferTo message.entry choosing.entry)) }
 {
@@ -46,7 +47,8 @@ pub fn reach_from<'t>(
     mut choosing: Box<Choosing<'t>>,
     site: Site<'t, '_>,
 ) -> Result<Step<'t>, (TypedSpot, Goal<'t>)>
-    ensures ok { IfOk result (λ step. (t : Tables) (line : ℕ) (w : Waiting) → step_ahead t (context (env_view site.entry.env) line) w step ≡ from_location (context (env_view site.entry.env) line) (goal_over w (goal.OfferFrom receiver.entry choosing.entry)) (typed_spot_view spot)) }
+    ensures ok { IfOk result (λ step. (t : Tables) (line : ℕ) (w : Waiting) → step_ahead t (context (env_view site.entry.env) line) w step ≡ from_location
+        (context (env_view site.entry.env) line) (goal_over w (goal.OfferFrom receiver.entry choosing.entry)) (typed_spot_view spot)) }
     ensures spot { IfErr result (λ b. b.0 ≡ spot) }
     ensures goal { IfErr result (λ b. (w : Waiting) → goal_over w b.1 ≡ goal_over w (goal.OfferFrom receiver.entry choosing.entry)) }
 {
@@ -67,7 +69,8 @@ pub fn reach_into<'t>(
     channel: Spot,
     mut choosing: Box<Choosing<'t>>,
 ) -> Result<Step<'t>, (TypedSpot, Goal<'t>)>
-    ensures ok { IfOk result (λ step. (t : Tables) (c : Context) (w : Waiting) → step_ahead t c w step ≡ from_location c (goal_over w (goal.OfferInto channel choosing.entry)) (typed_spot_view spot)) }
+    ensures ok { IfOk result (λ step. (t : Tables) (c : Context) (w : Waiting) →
+        step_ahead t c w step ≡ from_location c (goal_over w (goal.OfferInto channel choosing.entry)) (typed_spot_view spot)) }
     ensures spot { IfErr result (λ b. b.0 ≡ spot) }
     ensures goal { IfErr result (λ b. (w : Waiting) → goal_over w b.1 ≡ goal_over w (goal.OfferInto channel choosing.entry)) }
 {

@@ -61,7 +61,8 @@ fn found_open<'t>(choosing: Box<Choosing<'t>>) -> Selecting<'t>
 
 /// The alternative at hand: a replicated one writes its variable before its guard, on the line of the select.
 pub fn replicated<'t>(choosing: Box<Choosing<'t>>, line: u32, alloc: Global) -> Step<'t>
-    ensures { (t : Tables) (env : Known) (w : Waiting) → step_ahead t (context env line) w result ≡ ahead t (context env line) w (at.Replicated choosing.entry) }
+    ensures { (t : Tables) (env : Known) (w : Waiting) →
+        step_ahead t (context env line) w result ≡ ahead t (context env line) w (at.Replicated choosing.entry) }
 {
     match choosing.current.replica {
         Some(replica) => {
@@ -103,7 +104,8 @@ pub fn opened<'t>(
     choosing: Box<Choosing<'t>>,
     site: Site<'t, '_>,
 ) -> Result<Step<'t>, Box<Choosing<'t>>>
-    ensures ok { IfOk result (λ step. (t : Tables) (line : ℕ) (w : Waiting) → step_ahead t (context (env_view site.entry.env) line) w step ≡ ahead t (context (env_view site.entry.env) line) w (at.Opened choosing.entry)) }
+    ensures ok { IfOk result (λ step. (t : Tables) (line : ℕ) (w : Waiting) → step_ahead t (context (env_view site.entry.env) line) w step ≡ ahead t
+        (context (env_view site.entry.env) line) w (at.Opened choosing.entry)) }
     ensures err { IfErr result (λ b. (t : Tables) (c : Context) (w : Waiting) → ahead t c w (at.Opened b) ≡ ahead t c w (at.Opened choosing.entry)) }
 {
     let alt = choosing.current.alt;
@@ -116,7 +118,8 @@ fn offered<'t>(
     choosing: Box<Choosing<'t>>,
     site: Site<'t, '_>,
 ) -> Result<Step<'t>, Box<Choosing<'t>>>
-    ensures ok { IfOk result (λ step. (t : Tables) (line : ℕ) (w : Waiting) → step_ahead t (context (env_view site.entry.env) line) w step ≡ comm_ahead (context (env_view site.entry.env) line) w choosing.entry.value (comm_view comm.now)) }
+    ensures ok { IfOk result (λ step. (t : Tables) (line : ℕ) (w : Waiting) → step_ahead t (context (env_view site.entry.env) line) w step ≡ comm_ahead
+        (context (env_view site.entry.env) line) w choosing.entry.value (comm_view comm.now)) }
     ensures err { IfErr result (λ b. (t : Tables) (c : Context) (w : Waiting) → ahead t c w (at.Opened b) ≡ ahead t c w (at.Opened choosing.entry)) }
 {
     match comm {
@@ -135,7 +138,9 @@ fn offer_accept<'t>(
     line: u32,
     site: Site<'t, '_>,
 ) -> Result<Step<'t>, Box<Choosing<'t>>>
-    ensures ok { IfOk result (λ step. (t : Tables) (at : ℕ) (w : Waiting) → step_ahead t (context (env_view site.entry.env) at) w step ≡ open_ahead (context (env_view site.entry.env) at) w choosing.entry.value (to_accept (alternatives.accepting_of (context (env_view site.entry.env) at) choosing.entry.value.current.next (accept_view a.now) line))) }
+    ensures ok { IfOk result (λ step. (t : Tables) (at : ℕ) (w : Waiting) → step_ahead t (context (env_view site.entry.env) at) w step ≡ open_ahead
+        (context (env_view site.entry.env) at) w choosing.entry.value
+        (to_accept (alternatives.accepting_of (context (env_view site.entry.env) at) choosing.entry.value.current.next (accept_view a.now) line))) }
     ensures err { IfErr result (λ b. (t : Tables) (c : Context) (w : Waiting) → ahead t c w (at.Opened b) ≡ ahead t c w (at.Opened choosing.entry)) }
 {
     let accepting = accepting(choosing.current.next, a, line, site.env);
@@ -148,7 +153,8 @@ fn offer_now<'t>(
     mut choosing: Box<Choosing<'t>>,
     offer: Offer<'t>,
 ) -> Result<Step<'t>, Box<Choosing<'t>>>
-    ensures ok { IfOk result (λ step. (t : Tables) (c : Context) (w : Waiting) → step_ahead t c w step ≡ open_ahead c w choosing.entry.value (offer_view offer.entry)) }
+    ensures ok { IfOk result (λ step. (t : Tables) (c : Context) (w : Waiting) →
+        step_ahead t c w step ≡ open_ahead c w choosing.entry.value (offer_view offer.entry)) }
     ensures err { IfErr result (λ b. (t : Tables) (c : Context) (w : Waiting) → ahead t c w (at.Opened b) ≡ ahead t c w (at.Opened choosing.entry)) }
 {
     match reserve(&mut choosing) {
@@ -164,7 +170,8 @@ fn offer_send<'t>(
     e: &'t Expr,
     site: Site<'t, '_>,
 ) -> Step<'t>
-    ensures { (t : Tables) (line : ℕ) (w : Waiting) → step_ahead t (context (env_view site.entry.env) line) w result ≡ send_ahead (context (env_view site.entry.env) line) w choosing.entry.value (desig_view d.now) (expr_view e.now) }
+    ensures { (t : Tables) (line : ℕ) (w : Waiting) → step_ahead t (context (env_view site.entry.env) line) w result ≡ send_ahead
+        (context (env_view site.entry.env) line) w choosing.entry.value (desig_view d.now) (expr_view e.now) }
 {
     let goal = Goal::OfferTo(message_of(e, site.env), choosing);
     Step::On(part(d, goal, site))
@@ -177,7 +184,8 @@ fn offer_receive<'t>(
     v: &'t Desig,
     site: Site<'t, '_>,
 ) -> Step<'t>
-    ensures { (t : Tables) (line : ℕ) (w : Waiting) → step_ahead t (context (env_view site.entry.env) line) w result ≡ receive_ahead (context (env_view site.entry.env) line) w choosing.entry.value (desig_view d.now) (desig_view v.now) }
+    ensures { (t : Tables) (line : ℕ) (w : Waiting) → step_ahead t (context (env_view site.entry.env) line) w result ≡ receive_ahead
+        (context (env_view site.entry.env) line) w choosing.entry.value (desig_view d.now) (desig_view v.now) }
 {
     let goal = Goal::OfferFrom(receiver_of(v, site.env), choosing);
     Step::On(part(d, goal, site))

@@ -18,7 +18,8 @@ use Rattle.pfc_semantics.specs.Seen.{SeenValue, more_seen, number, list, seen, s
 use Rattle.pfc_semantics.proofs.Tables.{built_form, built_none, built_below, built_length}
 
 -- of a type that is made of something
-pub initial_form : (forms : Forms) (t : TypeId) (form : TypeForm) → form_of forms t ≡ Some form → initial forms t ≡ first_form (all_first (take t.place forms)) form
+pub initial_form : (forms : Forms) (t : TypeId) (form : TypeForm) → form_of forms t ≡ Some form →
+    initial forms t ≡ first_form (all_first (take t.place forms)) form
 initial_form forms t form e = built_form Value first_next forms t form (ordinal (pos 0)) e
 
 -- of one that is made of nothing
@@ -26,7 +27,8 @@ pub initial_none : (forms : Forms) (t : TypeId) → form_of forms t ≡ None →
 initial_none forms t e = built_none Value first_next forms t.place (ordinal (pos 0)) (λ (v : Value). v ≡ ordinal (pos 0)) e (λ before. refl) refl
 
 -- a part has its entry before the whole, or none
-pub part_before : (forms : Forms) (whole t : TypeId) → t.place < whole.place → whole.place ≤ length forms → initial forms t ≡ first_of (all_first (take whole.place forms)) t
+pub part_before : (forms : Forms) (whole t : TypeId) → t.place < whole.place → whole.place ≤ length forms →
+    initial forms t ≡ first_of (all_first (take whole.place forms)) t
 part_before forms whole t below within = sym (built_below Value first_next forms whole.place t.place (ordinal (pos 0)) below within)
 
 pub part_past : (forms : Forms) (whole t : TypeId) → whole.place ≤ t.place → first_of (all_first (take whole.place forms)) t ≡ ordinal (pos 0)
@@ -39,7 +41,8 @@ pub copies_seen : (n : ℕ) (v : Value) → seen_parts (copies n v) ≡ list_see
 copies_seen zero v = refl
 copies_seen (suc n) v = ap (λ vs. more_seen (seen v) vs) (copies_seen n v)
 
-pub fields_seen : (before : List Value) (fields : FieldList) → seen_parts (first_fields before fields) ≡ list_seen (map (λ f. seen (first_of before f.1)) fields)
+pub fields_seen : (before : List Value) (fields : FieldList) →
+    seen_parts (first_fields before fields) ≡ list_seen (map (λ f. seen (first_of before f.1)) fields)
 fields_seen before [] = refl
 fields_seen before (f ∷ fields) = ap (λ vs. more_seen (seen (first_of before f.1)) vs) (fields_seen before fields)
 

@@ -43,14 +43,16 @@ module _ (A : Type 0) (next : List A → Option TypeForm → A) where
       ∙ built_behind made forms n f d there
 
   -- so is the entry of a table from nothing
-  pub built_at : (forms : Forms) (n : ℕ) (f : Option TypeForm) (d : A) → slice_get forms n ≡ Some f → get_or (built next [] forms) n d ≡ next (built next [] (take n forms)) f
+  pub built_at : (forms : Forms) (n : ℕ) (f : Option TypeForm) (d : A) → slice_get forms n ≡ Some f →
+      get_or (built next [] forms) n d ≡ next (built next [] (take n forms)) f
   built_at forms n f d there = ap (λ k. get_or (built next [] forms) k d) (omega arith) ∙ built_behind [] forms n f d there
 
   -- an entry is read in the whole as in what is built up to a place behind it
   pub built_below : (forms : Forms) (n k : ℕ) (d : A) → k < n → n ≤ length forms → get_or (built next [] (take n forms)) k d ≡ get_or (built next [] forms) k d
   built_below forms n k d below within =
       sym (built_kept (built next [] (take n forms)) (drop n forms) k d (omega (arith, below, within, built_length [] (take n forms), length-take n forms)))
-      ∙ ap (λ l. get_or l k d) (sym (fold-append (λ b f. b ++ next b f ∷ []) [] (take n forms) (drop n forms)) ∙ ap (λ l. built next [] l) (take-append-drop n forms))
+      ∙ ap (λ l. get_or l k d) (sym (fold-append (λ b f. b ++ next b f ∷ []) [] (take n forms) (drop n forms)) ∙
+      ap (λ l. built next [] l) (take-append-drop n forms))
 
 -- ## What a type is made of
 
@@ -66,11 +68,13 @@ form_within forms n form e = slice_get_within forms n (Some form) (form_there fo
 
 module _ (A : Type 0) (next : List A → Option TypeForm → A) where
   -- the entry of a type that is made of something
-  pub built_form : (forms : Forms) (t : TypeId) (form : TypeForm) (d : A) → form_of forms t ≡ Some form → get_or (built next [] forms) t.place d ≡ next (built next [] (take t.place forms)) (Some form)
+  pub built_form : (forms : Forms) (t : TypeId) (form : TypeForm) (d : A) → form_of forms t ≡ Some form →
+      get_or (built next [] forms) t.place d ≡ next (built next [] (take t.place forms)) (Some form)
   built_form forms t form d e = built_at A next forms t.place (Some form) d (form_there forms t.place form e)
 
   -- the entry of a type that is made of nothing, and of a place that is none in the table
-  pub built_none : (forms : Forms) (n : ℕ) (d : A) (P : A → Type 0) → get_or forms n None ≡ None → ((before : List A) → P (next before None)) → P d → P (get_or (built next [] forms) n d)
+  pub built_none : (forms : Forms) (n : ℕ) (d : A) (P : A → Type 0) → get_or forms n None ≡ None → ((before : List A) → P (next before None)) →
+      P d → P (get_or (built next [] forms) n d)
   built_none forms n d P e each past = by (nat_lt n (length forms)) refl
     where
       by : (b : Bool) → nat_lt n (length forms) ≡ b → P (get_or (built next [] forms) n d)
@@ -82,5 +86,6 @@ module _ (A : Type 0) (next : List A → Option TypeForm → A) where
           subst P (sym (get_or_past (built next [] forms) n d (omega (arith, past_end, built_length A next [] forms)))) past
 
   -- what a type is made of has its entry in what comes before it
-  pub built_part : (forms : Forms) (t : TypeId) (form : TypeForm) (u : TypeId) (d : A) → form_of forms t ≡ Some form → u.place < t.place → get_or (built next [] (take t.place forms)) u.place d ≡ get_or (built next [] forms) u.place d
+  pub built_part : (forms : Forms) (t : TypeId) (form : TypeForm) (u : TypeId) (d : A) → form_of forms t ≡ Some form → u.place < t.place →
+      get_or (built next [] (take t.place forms)) u.place d ≡ get_or (built next [] forms) u.place d
   built_part forms t form u d e below = built_below A next forms t.place u.place d below (omega (arith, form_within forms t.place form e))

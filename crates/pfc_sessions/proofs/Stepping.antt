@@ -80,7 +80,8 @@ module _
         → IfOk result (λ end. IsStep (step image p picking m) p new picking' out out' end)
     stepped (Ok end) h =
         subst (λ t. IsStep t p new picking' out out' end) (sym (step_is image p picking m n b i next))
-        (answered (comes_to (quietly image i p b) (acts_by image i (choice_among picking (choices_for i p b)) p b)) i (line_of image p b) p (choices_for i p b) b
+        (answered (comes_to (quietly image i p b) (acts_by image i (choice_among picking (choices_for i p b)) p b)) i
+        (line_of image p b) p (choices_for i p b) b
         picking picking' out out' end new h)
     stepped (Err memory) h = tt
 

@@ -50,7 +50,8 @@ ends_so (suc n) (stand ∷ rows) (x ∷ xs) d e = ap (λ (l : List Shown). x ∷
 
 pub ends_left :
     (n : ℕ) (rows : List Stand) (xs : List Shown) (store : Store) (d y : Shown)
-    → n < length xs → may_end (at rows n) ≡ true → left_from n rows xs store ≡ left_from (suc n) rows (set xs n y) (without_all store (get_or xs n d).activations)
+    → n < length xs → may_end (at rows n) ≡ true →
+    left_from n rows xs store ≡ left_from (suc n) rows (set xs n y) (without_all store (get_or xs n d).activations)
 ends_left n [] xs store d y low e = absurd cc
 ends_left n (stand ∷ rows) [] store d y low e = absurd (omega (arith, low))
 ends_left zero (stand ∷ rows) (x ∷ xs) store d y low e = ap (λ (b : Bool). all_left rows xs (if b then without_all store x.activations else store)) e
@@ -165,7 +166,8 @@ module _ (old : State) (p : ℕ) where
   pub none_there : length old.activities.items ≤ p → EndsNext old old p
   none_there high = record {
     activities = λ t. beyond_so p old.world.rows (seen t) (many t) ∙ ap (λ (n : ℕ). ended_from n old.world.rows (seen t)) (sym (add-one p));
-    store = λ t. beyond_left p old.world.rows (seen t) (store_view old.store) (many t) ∙ ap (λ (n : ℕ). left_from n old.world.rows (seen t) (store_view old.store)) (sym (add-one p));
+    store = λ t. beyond_left p old.world.rows (seen t) (store_view old.store) (many t) ∙
+        ap (λ (n : ℕ). left_from n old.world.rows (seen t) (store_view old.store)) (sym (add-one p));
     lines = refl;
     rest = refl;
   }
@@ -176,7 +178,8 @@ module _ (old : State) (p : ℕ) where
   pub goes_past : may_end (at old.world.rows p) ≡ false → EndsNext old old p
   goes_past e = record {
     activities = λ t. stays_so p old.world.rows (seen t) e ∙ ap (λ (n : ℕ). ended_from n old.world.rows (seen t)) (sym (add-one p));
-    store = λ t. stays_left p old.world.rows (seen t) (store_view old.store) e ∙ ap (λ (n : ℕ). left_from n old.world.rows (seen t) (store_view old.store)) (sym (add-one p));
+    store = λ t. stays_left p old.world.rows (seen t) (store_view old.store) e ∙
+        ap (λ (n : ℕ). left_from n old.world.rows (seen t) (store_view old.store)) (sym (add-one p));
     lines = refl;
     rest = refl;
   }
@@ -191,7 +194,8 @@ module _ (old : State) (p : ℕ) where
         let y : Shown = ended_shown (get_or (seen t) p z) in
         let few : p < length (seen t) = subst (λ (n : ℕ). p < n) (sym (length-map old.activities.items (activity_shown t))) low in
         ends_left p old.world.rows (seen t) (store_view old.store) z y few e
-        ∙ ap (λ (xs : List Shown). left_from (suc p) old.world.rows xs (without_all (store_view old.store) (get_or (seen t) p z).activations)) (sym (one.activities t z))
+        ∙ ap (λ (xs : List Shown). left_from (suc p) old.world.rows xs (without_all (store_view old.store) (get_or (seen t) p z).activations))
+        (sym (one.activities t z))
         ∙ ap (left_from (suc p) old.world.rows (activities_shown t new.activities.items)) (sym (one.store t z))
         ∙ ap (λ (n : ℕ). left_from n old.world.rows (activities_shown t new.activities.items) (store_view new.store)) (sym (add-one p));
     lines = one.lines;
@@ -202,7 +206,8 @@ module _ (old : State) (p : ℕ) where
 pub all_so :
     (old new : State) (p : ℕ)
     → length old.world.rows ≤ p
-    → ((t : Tables) → all_ended old.world.rows (activities_shown t old.activities.items) ≡ ended_from p old.world.rows (activities_shown t new.activities.items))
+    → ((t : Tables) → all_ended old.world.rows (activities_shown t old.activities.items) ≡ ended_from p old.world.rows
+    (activities_shown t new.activities.items))
     → ((t : Tables)
     → all_left old.world.rows (activities_shown t old.activities.items) (store_view old.store)
     ≡ left_from p old.world.rows (activities_shown t new.activities.items) (store_view new.store))

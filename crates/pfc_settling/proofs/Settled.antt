@@ -28,7 +28,8 @@ half_is c e =
     let w : Table = settled c.table in
     ap (λ (b : Bool). with_table (if b then terminated_over w c else c) (terminated_where b w)) e
 
-whole_is : (c : Config) → may_all_end (settled c.table).rows ≡ true → settled_config c ≡ with_table (terminated_over (settled c.table) c) (terminated (settled c.table))
+whole_is : (c : Config) → may_all_end (settled c.table).rows ≡ true →
+    settled_config c ≡ with_table (terminated_over (settled c.table) c) (terminated (settled c.table))
 whole_is c e =
     let w : Table = settled c.table in
     ap (λ (b : Bool). with_table (if b then terminated_over w c else c) (terminated_where b w)) e
@@ -39,7 +40,8 @@ either_line : (b : Bool) (a : configurations.Activity) → (let x : configuratio
 either_line true a = refl
 either_line false a = refl
 
-lines_stay : (rows : List Stand) (cs : List configurations.Activity) → map (λ (a : configurations.Activity). a.line) (ended_children rows cs) ≡ map (λ (a : configurations.Activity). a.line) cs
+lines_stay : (rows : List Stand) (cs : List configurations.Activity) → map (λ (a : configurations.Activity). a.line) (ended_children rows cs) ≡ map
+    (λ (a : configurations.Activity). a.line) cs
 lines_stay [] cs = refl
 lines_stay (stand ∷ rows) [] = refl
 lines_stay (stand ∷ rows) (a ∷ cs) =
@@ -127,9 +129,12 @@ module _ (s mid : State) (c : Config) (is : mid ≡ record s { world = mid.world
                   ∙ sym (ends.activities t) ∙ ap (λ (x : State). activities_shown t x.activities.items) (sym end_is);
               agrees = record {
                 table = last ∙ ap (λ (x : State). terminated x.world) ends.rest ∙ ap terminated table;
-                counts = ap (λ (x : State). x.semaphores) end_is ∙ ap (λ (x : State). x.semaphores) ends.rest ∙ ap (λ (x : State). x.semaphores) is ∙ agrees.counts;
-                monitors = ap (λ (x : State). x.monitors.holders) end_is ∙ ap (λ (x : State). x.monitors.holders) ends.rest ∙ ap (λ (x : State). x.monitors.holders) is ∙ agrees.monitors;
-                resources = ap (λ (x : State). x.resources) end_is ∙ ap (λ (x : State). x.resources) ends.rest ∙ ap (λ (x : State). x.resources) is ∙ agrees.resources;
+                counts = ap (λ (x : State). x.semaphores) end_is ∙ ap (λ (x : State). x.semaphores) ends.rest ∙
+                    ap (λ (x : State). x.semaphores) is ∙ agrees.counts;
+                monitors = ap (λ (x : State). x.monitors.holders) end_is ∙ ap (λ (x : State). x.monitors.holders) ends.rest ∙
+                    ap (λ (x : State). x.monitors.holders) is ∙ agrees.monitors;
+                resources = ap (λ (x : State). x.resources) end_is ∙ ap (λ (x : State). x.resources) ends.rest ∙
+                    ap (λ (x : State). x.resources) is ∙ agrees.resources;
                 store =
                     ap (λ (x : State). store_view x.store) end_is ∙ ends.store t
                     ∙ ap (λ (x : Table). all_left x.rows (activities_shown t mid.activities.items) (store_view mid.store)) table
@@ -139,12 +144,14 @@ module _ (s mid : State) (c : Config) (is : mid ≡ record s { world = mid.world
                 input = ap (λ (x : State). x.input) end_is ∙ ap (λ (x : State). x.input) ends.rest ∙ ap (λ (x : State). x.input) is ∙ agrees.input;
                 words = ap (λ (x : State). x.draws) end_is ∙ ap (λ (x : State). x.draws) ends.rest ∙ ap (λ (x : State). x.draws) is ∙ agrees.words;
                 count = many ∙ agrees.count ∙ sym (terminated_rows w ∙ settled_rows c.table);
-                conditions = ap (λ (x : State). x.monitors.owners) end_is ∙ ap (λ (x : State). x.monitors.owners) ends.rest ∙ ap (λ (x : State). x.monitors.owners) is ∙ agrees.conditions;
+                conditions = ap (λ (x : State). x.monitors.owners) end_is ∙ ap (λ (x : State). x.monitors.owners) ends.rest ∙
+                    ap (λ (x : State). x.monitors.owners) is ∙ agrees.conditions;
               };
             };
             quiet = record {
               acting = terminated_acting w ∙ settled_acting c.table ∙ stands.quiet.acting;
-              fresh = terminated_new w (subst (λ (x : Table). IsNew x.rows x.done) table (fresh (subst (λ (x : Table). IsNew x.rows x.done) (sym agrees.table) stands.quiet.fresh)));
+              fresh = terminated_new w (subst (λ (x : Table). IsNew x.rows x.done) table
+                  (fresh (subst (λ (x : Table). IsNew x.rows x.done) (sym agrees.table) stands.quiet.fresh)));
               sound = stands.quiet.sound;
             };
           } in

@@ -100,7 +100,8 @@ terminated_like : (w : Table) → Like w (terminated w)
 terminated_like w =
     let v : Table = children_ended w in
     like_twice w v (terminated w) (record { rows = over_length w.rows; acting = refl })
-    (either_like (is_released v.rows) v (placed v 0 Is_ready) v (record { rows = length-set v.rows 0 Is_ready; acting = refl }) (record { rows = refl; acting = refl }))
+    (either_like (is_released v.rows) v (placed v 0 Is_ready) v (record { rows = length-set v.rows 0 Is_ready; acting = refl })
+    (record { rows = refl; acting = refl }))
 
 pub terminated_acting : (w : Table) → (terminated w).acting ≡ w.acting
 terminated_acting w = (terminated_like w).acting

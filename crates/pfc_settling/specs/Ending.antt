@@ -47,7 +47,8 @@ pub record EndsOne (old new : State) (p : ℕ) : Type 0 where
   pub activities : (t : Tables) (d : Shown)
       → activities_shown t new.activities.items
       ≡ set (activities_shown t old.activities.items) p (ended_shown (get_or (activities_shown t old.activities.items) p d))
-  pub store : (t : Tables) (d : Shown) → store_view new.store ≡ without_all (store_view old.store) (get_or (activities_shown t old.activities.items) p d).activations
+  pub store : (t : Tables) (d : Shown) →
+      store_view new.store ≡ without_all (store_view old.store) (get_or (activities_shown t old.activities.items) p d).activations
   pub lines : lines_of new ≡ lines_of old
   pub rest : new ≡ record old { activities = new.activities; store = new.store }
 

@@ -48,7 +48,14 @@ module _ (facts : Facts) (m : Machine) (c : Config) (table : Table) (on : LetsOn
         (old.children (not_at_coend (waits_at_coend (at c.table.rows 0)) (waits_at_coend (at table.rows 0)) on.coend away) p child)
 
     kinds_on : AreOfKinds facts homes c → AreOfKinds facts homes next
-    kinds_on old = record { semaphores = old.semaphores; conditions = old.conditions; processes = old.processes; channel_numbers = old.channel_numbers; channels = old.channels }
+    kinds_on old = record {
+      semaphores = old.semaphores;
+      conditions = old.conditions;
+      processes = old.processes;
+      channel_numbers =
+          old.channel_numbers;
+      channels = old.channels;
+    }
 
     alike_on : AreAlike facts homes entries m c → AreAlike facts homes entries after next
     alike_on old =

@@ -123,7 +123,8 @@ few_of n h = grind (arith, h)
 -- ## An action
 
 module _
-    (facts : Facts) (first : Config) (kept : IsRunKept facts first) (numbered : AreNumbered facts) (numbers : RunKeepsToRules (program_in facts) first) (picking : Picking) (m : Machine)
+    (facts : Facts) (first : Config) (kept : IsRunKept facts first) (numbered : AreNumbered facts)
+    (numbers : RunKeepsToRules (program_in facts) first) (picking : Picking) (m : Machine)
     (c : Config) (p : ℕ) (so : Relates facts first m c) (pick : IsPicked picking (machine_settled m) p)
   where
     abbrev pub image : PlainImage

@@ -66,21 +66,25 @@ pub fn expression<'t>(a: &'t Actual) -> &'t Expr
 
 /// The part of a variable that selectors lead to, for what waits for it.
 pub fn selected<'t>(spot: TypedSpot, ss: &'t [Selector], goal: Goal<'t>) -> At<'t>
-    ensures { (t : Tables) (c : Context) (w : Waiting) → ahead t c w result ≡ from_selectors c (typed_spot_view spot) (selectors_view ss.now) (goal_over w goal.entry) (from_location c (goal_over w goal.entry)) }
+    ensures { (t : Tables) (c : Context) (w : Waiting) → ahead t c w result ≡ from_selectors c (typed_spot_view spot) (selectors_view ss.now)
+        (goal_over w goal.entry) (from_location c (goal_over w goal.entry)) }
 {
     At::Part(spot, &[], ss, goal)
 }
 
 /// A variable with its selectors, for what waits for it.
 pub fn part<'t>(d: &'t Desig, goal: Goal<'t>, site: Site<'t, '_>) -> At<'t>
-    ensures { (t : Tables) (line : ℕ) (w : Waiting) → ahead t (context (env_view site.entry.env) line) w result ≡ from_desig (context (env_view site.entry.env) line) (desig_view d.now) (goal_over w goal.entry) (from_location (context (env_view site.entry.env) line) (goal_over w goal.entry)) }
+    ensures { (t : Tables) (line : ℕ) (w : Waiting) → ahead t (context (env_view site.entry.env) line) w result ≡ from_desig
+        (context (env_view site.entry.env) line) (desig_view d.now) (goal_over w goal.entry)
+        (from_location (context (env_view site.entry.env) line) (goal_over w goal.entry)) }
 {
     selected(site.spot(&d.name), &d.selectors, goal)
 }
 
 /// What is no variable.
 pub fn nowhere<'t>(goal: Goal<'t>, alloc: Global) -> At<'t>
-    ensures { (t : Tables) (c : Context) (w : Waiting) → ahead t c w result ≡ from_reference c no_actuals (goal_over w goal.entry) (from_location c (goal_over w goal.entry)) }
+    ensures { (t : Tables) (c : Context) (w : Waiting) → ahead t c w result ≡ from_reference c no_actuals (goal_over w goal.entry)
+        (from_location c (goal_over w goal.entry)) }
 {
     let spot = Spot {
         scope: 0,
@@ -92,7 +96,9 @@ pub fn nowhere<'t>(goal: Goal<'t>, alloc: Global) -> At<'t>
 
 /// The variable that an argument is.
 fn lent<'t>(first: &'t Actual, goal: Goal<'t>, site: Site<'t, '_>) -> At<'t>
-    ensures { (t : Tables) (line : ℕ) (w : Waiting) → ahead t (context (env_view site.entry.env) line) w result ≡ from_lent (context (env_view site.entry.env) line) (actual_view first.now) (goal_over w goal.entry) (from_location (context (env_view site.entry.env) line) (goal_over w goal.entry)) }
+    ensures { (t : Tables) (line : ℕ) (w : Waiting) →
+        ahead t (context (env_view site.entry.env) line) w result ≡ from_lent (context (env_view site.entry.env) line) (actual_view first.now)
+        (goal_over w goal.entry) (from_location (context (env_view site.entry.env) line) (goal_over w goal.entry)) }
 {
     match as_desig(expression(first)) {
         Some(d) => part(d, goal, site),
@@ -102,7 +108,9 @@ fn lent<'t>(first: &'t Actual, goal: Goal<'t>, site: Site<'t, '_>) -> At<'t>
 
 /// The variable that the first argument of a predeclared procedure is.
 pub fn reference<'t>(args: &'t [Actual], goal: Goal<'t>, site: Site<'t, '_>) -> At<'t>
-    ensures { (t : Tables) (line : ℕ) (w : Waiting) → ahead t (context (env_view site.entry.env) line) w result ≡ from_reference (context (env_view site.entry.env) line) (actuals_view args.now) (goal_over w goal.entry) (from_location (context (env_view site.entry.env) line) (goal_over w goal.entry)) }
+    ensures { (t : Tables) (line : ℕ) (w : Waiting) → ahead t (context (env_view site.entry.env) line) w result ≡ from_reference
+        (context (env_view site.entry.env) line) (actuals_view args.now) (goal_over w goal.entry)
+        (from_location (context (env_view site.entry.env) line) (goal_over w goal.entry)) }
 {
     match args {
         [] => nowhere(goal, site.alloc),
@@ -117,7 +125,8 @@ pub fn passing<'t>(
     callee: Callee,
     alloc: Global,
 ) -> Step<'t>
-    ensures { (t : Tables) (c : Context) (w : Waiting) → step_ahead t c w result ≡ from_args c formals.now (actuals_view args.now.items) [] (callee_view w callee) }
+    ensures { (t : Tables) (c : Context) (w : Waiting) →
+        step_ahead t c w result ≡ from_args c formals.now (actuals_view args.now.items) [] (callee_view w callee) }
 {
     Step::On(At::Passing(Passing {
         formals,

@@ -35,7 +35,8 @@ back-parted p front back h i j d le lt is =
     ap p (sym (get_or-append-add front back i d))
     ∙ h (length front + i) (length front + j) d (omega (arith, le)) (omega (arith, long, lt)) (ap p (get_or-append-add front back j d) ∙ is)
 
-in-front : (p : ℕ → Bool) (front back : List ℕ) (i d : ℕ) → IsPartitionedBy p (front ++ back) → i ≤ length front → IsPartitionPoint (λ y. p y ≡ true) (λ y. p y ≡ false) front i
+in-front : (p : ℕ → Bool) (front back : List ℕ) (i d : ℕ) → IsPartitionedBy p (front ++ back) → i ≤ length front →
+    IsPartitionPoint (λ y. p y ≡ true) (λ y. p y ≡ false) front i
     → (0 < length back → p (get_or back 0 d) ≡ false) → IsParted p (front ++ back) i
 in-front p front back i d h le point fails = record { within = omega (arith, length-append front back, le); before = before; behind = behind }
   where
@@ -81,14 +82,16 @@ in-back p front back i d h point le some passes = record { within = omega (arith
 
 -- the first of the second piece does not pass, or there is none, so the first piece was searched
 pub found-in_front : (p : ℕ → Bool) (xs front back : List ℕ) (i d : ℕ) → front ++ back ≡ xs → IsPartitionedBy p xs → i ≤ length front
-    → (IsPartitionedBy p front → IsPartitionPoint (λ y. p y ≡ true) (λ y. p y ≡ false) front i) → (0 < length back → p (get_or back 0 d) ≡ false) → IsParted p xs i
+    → (IsPartitionedBy p front → IsPartitionPoint (λ y. p y ≡ true) (λ y. p y ≡ false) front i) →
+    (0 < length back → p (get_or back 0 d) ≡ false) → IsParted p xs i
 found-in_front p xs front back i d is h le point fails =
     let parts : IsPartitionedBy p (front ++ back) = subst (λ v. IsPartitionedBy p v) (sym is) h in
     subst (λ v. IsParted p v i) is (in-front p front back i d parts le (point (front-parted p front back parts)) fails)
 
 -- the first of the second piece passes, so this was searched
 pub found-in_back : (p : ℕ → Bool) (xs front back : List ℕ) (i d : ℕ) → front ++ back ≡ xs → IsPartitionedBy p xs → i ≤ length back
-    → (IsPartitionedBy p back → IsPartitionPoint (λ y. p y ≡ true) (λ y. p y ≡ false) back i) → 0 < length back → p (get_or back 0 d) ≡ true → IsParted p xs (length front + i)
+    → (IsPartitionedBy p back → IsPartitionPoint (λ y. p y ≡ true) (λ y. p y ≡ false) back i) → 0 < length back →
+    p (get_or back 0 d) ≡ true → IsParted p xs (length front + i)
 found-in_back p xs front back i d is h le point some passes =
     let parts : IsPartitionedBy p (front ++ back) = subst (λ v. IsPartitionedBy p v) (sym is) h in
     subst (λ v. IsParted p v (length front + i)) is (in-back p front back i d parts (point (back-parted p front back parts)) le some passes)

@@ -39,7 +39,8 @@ pub key-other : {K : Type 0} (keys : List (Option K)) (p q : ℕ) (o : Option K)
 key-other keys p q o away = get_or-set_other keys p q o None away
 
 -- a process without a key gets one that is apart from those of the others
-pub put-sorted : {K : Type 0} (before : ℕ → K → ℕ → K → Bool) (sorted : List ℕ) (keys : List (Option K)) (p : ℕ) (key : K) (i : ℕ) → p < length keys → key_at keys p ≡ None
+pub put-sorted : {K : Type 0} (before : ℕ → K → ℕ → K → Bool) (sorted : List ℕ) (keys : List (Option K)) (p : ℕ) (key : K) (i : ℕ) → p < length keys →
+    key_at keys p ≡ None
     → ((q : ℕ) (other : K) → q ≢ p → key_at keys q ≡ Some other → before q other p key ≡ false → before p key q other ≡ true)
     → AreSorted before sorted keys → IsParted (passes (λ n other. before n other p key) keys) sorted i
     → AreSorted before (insert sorted i p) (set keys p (Some key))
@@ -76,8 +77,11 @@ put-sorted {K} before sorted keys p key i lt free total h parts = record {
 
     each-old : (k j : ℕ) → j < length sorted → process_at (insert sorted i p) k ≡ process_at sorted j
         → (a : K) × (key_at (set keys p (Some key)) (process_at (insert sorted i p) k) ≡ Some a)
-    each-old k j less is =
-        ((h.each j less).0, ap (λ n. key_at (set keys p (Some key)) n) is ∙ key-other keys p (process_at sorted j) (Some key) (differs j less) ∙ (h.each j less).1)
+    each-old k j less is = (
+      (h.each j less).0,
+      ap (λ n. key_at (set keys p (Some key)) n) is ∙
+          key-other keys p (process_at sorted j) (Some key) (differs j less) ∙ (h.each j less).1,
+    )
 
     each : (k : ℕ) → Put sorted i p k → (a : K) × (key_at (set keys p (Some key)) (process_at (insert sorted i p) k) ≡ Some a)
     each k (Put.below less is) = each-old k k (omega (arith, less, le)) is
@@ -100,11 +104,13 @@ put-sorted {K} before sorted keys p key i lt free total h parts = record {
         → before (process_at (insert sorted i p) j) a (process_at (insert sorted i p) k) b ≡ true
     moved j k a b m n e f is = ap (λ v. before v a (process_at (insert sorted i p) k) b) e ∙ ap (λ v. before m a v b) f ∙ is
 
-    tested : (j : ℕ) (a : K) (truth : Bool) → key_at keys (process_at sorted j) ≡ Some a → passes (λ n other. before n other p key) keys (process_at sorted j) ≡ truth
+    tested : (j : ℕ) (a : K) (truth : Bool) → key_at keys (process_at sorted j) ≡ Some a →
+        passes (λ n other. before n other p key) keys (process_at sorted j) ≡ truth
         → before (process_at sorted j) a p key ≡ truth
     tested j a truth own is = sym (ap (λ o. key_passes (λ other. before (process_at sorted j) other p key) o) own) ∙ is
 
-    rising : (j k : ℕ) (a b : K) → j < k → key_at (set keys p (Some key)) (process_at (insert sorted i p) j) ≡ Some a → key_at (set keys p (Some key)) (process_at (insert sorted i p) k) ≡ Some b
+    rising : (j k : ℕ) (a b : K) → j < k → key_at (set keys p (Some key)) (process_at (insert sorted i p) j) ≡ Some a →
+        key_at (set keys p (Some key)) (process_at (insert sorted i p) k) ≡ Some b
         → Put sorted i p j → Put sorted i p k → before (process_at (insert sorted i p) j) a (process_at (insert sorted i p) k) b ≡ true
     rising j k a b less x y (Put.below low e) (Put.below low' f) =
         let room : k < length sorted = omega (arith, low', le) in
@@ -116,11 +122,13 @@ put-sorted {K} before sorted keys p key i lt free total h parts = record {
         (subst (λ v. before (process_at sorted j) a p v ≡ true) (new k b f y) (tested j a true own (parts.before j 0 (omega arith) low)))
     rising j k a b less x y (Put.below low e) (Put.above o back after room f) =
         let within : j < length sorted = omega (arith, low, le) in
-        moved j k a b (process_at sorted j) (process_at sorted o) e f (h.rising j o a b (omega (arith, low, after)) room (old j j a within e x) (old k o b room f y))
+        moved j k a b (process_at sorted j) (process_at sorted o) e f (h.rising j o a b (omega (arith, low, after)) room
+        (old j j a within e x) (old k o b room f y))
     rising j k a b less x y (Put.here at_it e) (Put.above o back after room f) =
         let own : key_at keys (process_at sorted o) ≡ Some b = old k o b room f y in
         moved j k a b p (process_at sorted o) e f
-        (subst (λ v. before p v (process_at sorted o) b ≡ true) (new j a e x) (total (process_at sorted o) b (differs o room) own (tested o b false own (parts.behind o 0 after room))))
+        (subst (λ v. before p v (process_at sorted o) b ≡ true) (new j a e x) (total (process_at sorted o) b (differs o room) own
+        (tested o b false own (parts.behind o 0 after room))))
     rising j k a b less x y (Put.above n back after room e) (Put.above o back' after' room' f) =
         moved j k a b (process_at sorted n) (process_at sorted o) e f
         (h.rising n o a b (omega (arith, less, back, back')) room' (old j n a room e x) (old k o b room' f y))

@@ -29,7 +29,8 @@ parted {K} before test down sorted keys h i j d le lt is =
           sym (tested j (h.each j lt).0 y) ∙ ap (λ n. passes test keys n) (get_or_default sorted j 0 d lt) ∙ is in
           ap (λ n. passes test keys n) (get_or_default sorted i d 0 within)
           ∙ tested i (h.each i within).0 x
-          ∙ down (process_at sorted i) (process_at sorted j) (h.each i within).0 (h.each j lt).0 (h.rising i j (h.each i within).0 (h.each j lt).0 less lt x y) later
+          ∙ down (process_at sorted i) (process_at sorted j) (h.each i within).0 (h.each j lt).0
+          (h.rising i j (h.each i within).0 (h.each j lt).0 less lt x y) later
     ]
   where
     tested : (k : ℕ) (a : K) → key_at keys (process_at sorted k) ≡ Some a → passes test keys (process_at sorted k) ≡ test (process_at sorted k) a
@@ -46,7 +47,8 @@ none-pass p sorted d parts first = record {
 }
 
 -- where the last passes, all do
-pub all-pass : (p : ℕ → Bool) (sorted : List ℕ) (d : ℕ) → IsPartitionedBy p sorted → p (get_or sorted (length sorted - 1) d) ≡ true → IsParted p sorted (length sorted)
+pub all-pass : (p : ℕ → Bool) (sorted : List ℕ) (d : ℕ) → IsPartitionedBy p sorted →
+    p (get_or sorted (length sorted - 1) d) ≡ true → IsParted p sorted (length sorted)
 all-pass p sorted d parts last = record {
   within = omega arith;
   before = λ k e from lt.
@@ -63,7 +65,8 @@ nobody-parted p sorted place none le = record {
 }
 
 -- a process whose key does not pass stands where those begin that do not pass, or behind
-pub stands-behind : {K : Type 0} (before : ℕ → K → ℕ → K → Bool) (test : ℕ → K → Bool) (sorted : List ℕ) (keys : List (Option K)) (place : ℕ) → AreSorted before sorted keys
+pub stands-behind : {K : Type 0} (before : ℕ → K → ℕ → K → Bool) (test : ℕ → K → Bool) (sorted : List ℕ) (keys : List (Option K))
+    (place : ℕ) → AreSorted before sorted keys
     → IsParted (passes test keys) sorted place → (q : ℕ) (other : K) → key_at keys q ≡ Some other → test q other ≡ false
     → (i : ℕ) × ((place ≤ i) × IsPlace sorted q i)
 stands-behind {K} before test sorted keys place h parts q other own fails = go (h.every q other own)
@@ -74,11 +77,13 @@ stands-behind {K} before test sorted keys place h parts q other own fails = go (
     go : (i : ℕ) × IsPlace sorted q i → (i : ℕ) × ((place ≤ i) × IsPlace sorted q i)
     go found = elim (cases_lt found.0 place) [
       | inl less ↦
-          contrary ((i : ℕ) × ((place ≤ i) × IsPlace sorted q i)) (test q other) (sym (tested found.0 found.1.is) ∙ parts.before found.0 0 (omega arith) less) fails
+          contrary ((i : ℕ) × ((place ≤ i) × IsPlace sorted q i)) (test q other) (sym (tested found.0 found.1.is) ∙
+          parts.before found.0 0 (omega arith) less) fails
       | inr ge ↦ (found.0, (ge, found.1))
     ]
 
 -- who stands at a place passes a test, or not, as its key does
-pub passes-at : {K : Type 0} (test : ℕ → K → Bool) (sorted : List ℕ) (keys : List (Option K)) (place : ℕ) (key : K) (truth : Bool) → key_at keys (process_at sorted place) ≡ Some key
+pub passes-at : {K : Type 0} (test : ℕ → K → Bool) (sorted : List ℕ) (keys : List (Option K)) (place : ℕ) (key : K) (truth : Bool) →
+    key_at keys (process_at sorted place) ≡ Some key
     → passes test keys (process_at sorted place) ≡ truth → test (process_at sorted place) key ≡ truth
 passes-at test sorted keys place key truth own is = sym (ap (λ o. key_passes (test (process_at sorted place)) o) own) ∙ is

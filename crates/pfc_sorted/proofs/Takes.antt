@@ -19,7 +19,8 @@ pub place-is : {K : Type 0} (before : ℕ → K → ℕ → K → Bool) → ((q 
     → IsParted (passes (λ n other. before n other p key) keys) sorted k → IsPlace sorted p k
 place-is {K} before never sorted keys p key k h own parts = go (h.every p key own)
   where
-    tested : (j : ℕ) (a : K) → key_at keys (process_at sorted j) ≡ Some a → passes (λ n other. before n other p key) keys (process_at sorted j) ≡ before (process_at sorted j) a p key
+    tested : (j : ℕ) (a : K) → key_at keys (process_at sorted j) ≡ Some a →
+        passes (λ n other. before n other p key) keys (process_at sorted j) ≡ before (process_at sorted j) a p key
     tested j a is = ap (λ o. key_passes (λ other. before (process_at sorted j) other p key) o) is
 
     go : (i : ℕ) × IsPlace sorted p i → IsPlace sorted p k
@@ -28,7 +29,8 @@ place-is {K} before never sorted keys p key k h own parts = go (h.every p key ow
         let mine : key_at keys (process_at sorted found.0) ≡ Some key = ap (λ n. key_at keys n) found.1.is ∙ own in
         elim (cases_lt found.0 k) [
           | inl less ↦
-              let no : ⊥ = never p key (ap (λ n. before n key p key) (sym found.1.is) ∙ sym (tested found.0 key mine) ∙ parts.before found.0 0 (omega arith) less) in
+              let no : ⊥ = never p key (ap (λ n. before n key p key) (sym found.1.is) ∙ sym (tested found.0 key mine) ∙
+              parts.before found.0 0 (omega arith) less) in
               absurd no
           | inr ge ↦ elim (cases_eq k found.0) [
             | inl same ↦ subst (λ n. IsPlace sorted p n) (sym same) found.1
@@ -38,7 +40,8 @@ place-is {K} before never sorted keys p key k h own parts = go (h.every p key ow
                 let a : K = (h.each k within).0 in
                 let theirs : key_at keys (process_at sorted k) ≡ Some (h.each k within).0 = (h.each k within).1 in
                 contrary (IsPlace sorted p k) (before (process_at sorted k) (h.each k within).0 p key)
-                (ap (λ n. before (process_at sorted k) (h.each k within).0 n key) (sym found.1.is) ∙ h.rising k found.0 (h.each k within).0 key less room theirs mine)
+                (ap (λ n. before (process_at sorted k) (h.each k within).0 n key) (sym found.1.is) ∙
+                h.rising k found.0 (h.each k within).0 key less room theirs mine)
                 (sym (tested k (h.each k within).0 theirs) ∙ parts.behind k 0 (omega arith) within)
           ]
         ]
@@ -93,15 +96,19 @@ out-sorted {K} before never sorted keys p key i own h found = record {
     ]
 
     -- who is left has the key that it had
-    old : (k j : ℕ) (a : K) → j < length sorted → j ≢ i → process_at (remove sorted i) k ≡ process_at sorted j → key_at (set keys p None) (process_at (remove sorted i) k) ≡ Some a
+    old : (k j : ℕ) (a : K) → j < length sorted → j ≢ i → process_at (remove sorted i) k ≡ process_at sorted j →
+        key_at (set keys p None) (process_at (remove sorted i) k) ≡ Some a
         → key_at keys (process_at sorted j) ≡ Some a
     old k j a less away is mine =
         sym (key-other keys p (process_at sorted j) None (λ same. away (once j less same))) ∙ ap (λ n. key_at (set keys p None) n) (sym is) ∙ mine
 
     each-old : (k j : ℕ) → j < length sorted → j ≢ i → process_at (remove sorted i) k ≡ process_at sorted j
         → (a : K) × (key_at (set keys p None) (process_at (remove sorted i) k) ≡ Some a)
-    each-old k j less away is =
-        ((h.each j less).0, ap (λ n. key_at (set keys p None) n) is ∙ key-other keys p (process_at sorted j) None (λ same. away (once j less same)) ∙ (h.each j less).1)
+    each-old k j less away is = (
+      (h.each j less).0,
+      ap (λ n. key_at (set keys p None) n) is ∙
+          key-other keys p (process_at sorted j) None (λ same. away (once j less same)) ∙ (h.each j less).1,
+    )
 
     each : (k : ℕ) → Left sorted i k → (a : K) × (key_at (set keys p None) (process_at (remove sorted i) k) ≡ Some a)
     each k (Left.below low is) = each-old k k (omega (arith, low, room_i)) (λ e. omega (arith, low, e)) is
@@ -140,14 +147,16 @@ out-sorted {K} before never sorted keys p key i own h found = record {
     moved j k a b m n e f is = ap (λ v. before v a (process_at (remove sorted i) k) b) e ∙ ap (λ v. before m a v b) f ∙ is
 
     -- two that are left, from their places before
-    kept : (j k : ℕ) (a b : K) (m n : ℕ) → m < n → n < length sorted → m ≢ i → n ≢ i → process_at (remove sorted i) j ≡ process_at sorted m → process_at (remove sorted i) k ≡ process_at sorted n
+    kept : (j k : ℕ) (a b : K) (m n : ℕ) → m < n → n < length sorted → m ≢ i → n ≢ i → process_at (remove sorted i) j ≡ process_at sorted m →
+        process_at (remove sorted i) k ≡ process_at sorted n
         → key_at (set keys p None) (process_at (remove sorted i) j) ≡ Some a → key_at (set keys p None) (process_at (remove sorted i) k) ≡ Some b
         → before (process_at (remove sorted i) j) a (process_at (remove sorted i) k) b ≡ true
     kept j k a b m n less room away away' e f x y =
         moved j k a b (process_at sorted m) (process_at sorted n) e f
         (h.rising m n a b less room (old j m a (omega (arith, less, room)) away e x) (old k n b room away' f y))
 
-    rising : (j k : ℕ) (a b : K) → j < k → key_at (set keys p None) (process_at (remove sorted i) j) ≡ Some a → key_at (set keys p None) (process_at (remove sorted i) k) ≡ Some b
+    rising : (j k : ℕ) (a b : K) → j < k → key_at (set keys p None) (process_at (remove sorted i) j) ≡ Some a →
+        key_at (set keys p None) (process_at (remove sorted i) k) ≡ Some b
         → Left sorted i j → Left sorted i k → before (process_at (remove sorted i) j) a (process_at (remove sorted i) k) b ≡ true
     rising j k a b less x y (Left.below low e) (Left.below low' f) =
         kept j k a b j k less (omega (arith, low', room_i)) (λ v. omega (arith, low, v)) (λ v. omega (arith, low', v)) e f x y

@@ -36,7 +36,8 @@ use Rattle.pfc_source_runs.proofs.Ways.{way_to}
 use Rattle.pfc_arrivals.specs.Arrivals.{AreNumbered}
 
 module _
-    (facts : Facts) (c : Config) (kept : IsRunKept facts c) (numbered : AreNumbered facts) (numbers : RunKeepsToRules (program_in facts) c) (limit : ℕ) (picking : Picking)
+    (facts : Facts) (c : Config) (kept : IsRunKept facts c) (numbered : AreNumbered facts)
+    (numbers : RunKeepsToRules (program_in facts) c) (limit : ℕ) (picking : Picking)
     (m : Machine) (is : Represents facts m c) (new : Machine) (before after : Option (List ℕ))
   where
     abbrev image : PlainImage
@@ -124,7 +125,8 @@ module _
     wanting : session.IsWanting image limit f (first_stage picking m) new before after → IsWanting facts limit h first new before after
     wanting (was_refused b) =
         refused
-        (broken (λ t. IsUntried facts new t) (λ s. stages.IsUntried image s new) (λ s t so untried. is_untried facts c kept numbered numbers s t so new untried) b)
+        (broken (λ t. IsUntried facts new t) (λ s. stages.IsUntried image s new)
+        (λ s t so untried. is_untried facts c kept numbered numbers s t so new untried) b)
     wanting (was_worn_out wears machine front) = worn_out (worn ends wears machine front)
 
     -- ## All endings

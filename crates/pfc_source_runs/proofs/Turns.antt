@@ -150,7 +150,8 @@ module _ (facts : Facts) (numbered : AreNumbered facts) (limit : ℕ) (first : P
         sound_on : x.fault ≡ None → EndsIn (behind_bytes x.printed (run_from image limit left x.picking x.machine)) (source_on p) s.printed
         sound_on is =
             let s' : Stage = behind_action image s p in
-            let ends = later s' (passes_so facts first.config kept numbered numbers s t so p pick is) (comes_so facts first.config kept numbered numbers s t so p pick is) in
+            let ends = later s' (passes_so facts first.config kept numbered numbers s t so p pick is)
+            (comes_so facts first.config kept numbered numbers s t so p pick is) in
             behind_so x.printed (source_step g d p (sr.choice_among (picking_behind t.picking t.config) (choices_of g t.config p))).event
             (run_from image limit left x.picking x.machine)
             (sr.run_from g limit left (sr.behind_choice (picking_behind t.picking t.config) (choices_of g t.config p)) e) s.printed

@@ -50,11 +50,13 @@ module _ (facts : Facts) (numbered : AreNumbered facts) (m : Machine) (c : Confi
       (record { run = come.run; few = come.few; is = k.is; can = k.can_step; no_move = k.no_move })
 
   stands_before : before_action image p m ≡ come.before
-  stands_before = stands_by (kept come.before 0 come.level (numbered_at facts come.level numbered (has_setting facts come.before c p come.level come.acting)) rules come.acting come.arrived (first_choice (choices (program_in facts) c p next)))
+  stands_before = stands_by (kept come.before 0 come.level (numbered_at facts come.level numbered (has_setting facts come.before c p come.level come.acting))
+      rules come.acting come.arrived (first_choice (choices (program_in facts) c p next)))
 
 -- ## At a stage
 
-module _ (facts : Facts) (c : Config) (kept : IsRunKept facts c) (numbered : AreNumbered facts) (numbers : RunKeepsToRules (program_in facts) c) (s : Stage) (t : Point)
+module _ (facts : Facts) (c : Config) (kept : IsRunKept facts c) (numbered : AreNumbered facts)
+    (numbers : RunKeepsToRules (program_in facts) c) (s : Stage) (t : Point)
     (so : IsAt facts c s t) (new : Machine) (is : stages.IsUntried (image_of facts.tree) s new) where
   abbrev m : Machine
   m = machine_settled s.machine

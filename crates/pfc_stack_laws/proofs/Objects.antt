@@ -27,10 +27,12 @@ module _ (g : Setting) (homes : Homes) (entries : Entries) (store : Store) (stac
   -- a living location has an address
   pub address_back : (l : Location) (t : Option TypeId) (r : Ref) → Lives entries l.activation → Lies g.program homes l t r → ref_of (word_of r) ≡ r
   address_back l t r lives lies =
-      let there : r.cell + type_cells g.program.state.forms t ≤ length (cells_of stacks r.process) = are_live g.program hold.types.counted homes entries store stacks l t r hold.memory lives lies in
+      let there : r.cell + type_cells g.program.state.forms t ≤ length (cells_of stacks r.process) =
+      are_live g.program hold.types.counted homes entries store stacks l t r hold.memory lives lies in
       ref_back r (omega (arith, there, hold.few.cells r.process))
 
-  cell_read : (l : Location) (t : Option TypeId) (r : Ref) (n : ℤ) (z : ℕ) → type_cells g.program.state.forms t ≡ z → Lives entries l.activation → Lies g.program homes l t r → value_at store l ≡ ordinal n → cell_at stacks r ≡ n
+  cell_read : (l : Location) (t : Option TypeId) (r : Ref) (n : ℤ) (z : ℕ) → type_cells g.program.state.forms t ≡ z → Lives entries l.activation →
+      Lies g.program homes l t r → value_at store l ≡ ordinal n → cell_at stacks r ≡ n
   cell_read l t r n zero none lives lies value =
       let all = reads g.program hold.types.counted homes entries store stacks l t r hold.memory lives lies in
       let gone : [] ≡ n ∷ [] = ap (λ z. take z (drop r.cell (cells_of stacks r.process))) (sym none) ∙ all ∙ ap words_of value in

@@ -18,7 +18,8 @@ use Rattle.pfc_stack_laws.specs.Standing.{AreTypes}
 not_some : (form : TypeForm) → Some form ≡ None → ⊥
 not_some form h = cc
 
-same_element : {over over' element element' : TypeId} {low low' high high' : ℤ} → Some (Array over low high element) ≡ Some (Array over' low' high' element') → element ≡ element'
+same_element : {over over' element element' : TypeId} {low low' high high' : ℤ} →
+    Some (Array over low high element) ≡ Some (Array over' low' high' element') → element ≡ element'
 same_element h = cc
 
 same_fields : {fields fields' : FieldList} → Some (Record fields) ≡ Some (Record fields') → fields ≡ fields'
@@ -27,7 +28,8 @@ same_fields h = cc
 no_array : {over element : TypeId} {low high : ℤ} {fields : FieldList} → Some (Array over low high element) ≡ Some (Record fields) → ⊥
 no_array h = cc
 
-same_array : {over over' element element' : TypeId} {low low' high high' : ℤ} → Some (Array over low high element) ≡ Some (Array over' low' high' element') → (element ≡ element') × (extent low high ≡ extent low' high')
+same_array : {over over' element element' : TypeId} {low low' high high' : ℤ} → Some (Array over low high element) ≡ Some (Array over' low' high' element') →
+    (element ≡ element') × (extent low high ≡ extent low' high')
 same_array h = (cc, cc)
 
 field_same : (f g : Text × TypeId) (fields : FieldList) → slice_get (f ∷ fields) 0 ≡ Some g → f ≡ g
@@ -69,9 +71,11 @@ module _ (forms : Forms) (types : AreTypes forms) where
     plain_value (value_simple t simple) (cells.is_number u n parts) = code.is_number u n simple
     plain_value (value_simple t simple) (cells.is_array u over element low high vs form are) = absurd (not_some _ (sym form ∙ types.sound.simple_form u simple))
     plain_value (value_simple t simple) (cells.is_record u fields vs form are) = absurd (not_some _ (sym form ∙ types.sound.simple_form u simple))
-    plain_value (value_array t over element low high form plain) (cells.is_number u n parts) = absurd (let both : true ≡ false = ap has_parts (sym form) ∙ parts in cc)
+    plain_value (value_array t over element low high form plain) (cells.is_number u n parts) =
+        absurd (let both : true ≡ false = ap has_parts (sym form) ∙ parts in cc)
     plain_value (value_array t over element low high form plain) (cells.is_array u over' element' low' high' vs form' are) =
-        code.is_array u over' element' low' high' vs form' (plain_values (subst (λ (x : TypeId). IsValueType forms x) (same_element (sym form ∙ form')) plain) are)
+        code.is_array u over' element' low' high' vs form'
+        (plain_values (subst (λ (x : TypeId). IsValueType forms x) (same_element (sym form ∙ form')) plain) are)
     plain_value (value_array t over element low high form plain) (cells.is_record u fields vs form' are) = absurd (no_array (sym form ∙ form'))
     plain_value (value_record t fields form plain) (cells.is_number u n parts) = absurd (let both : true ≡ false = ap has_parts (sym form) ∙ parts in cc)
     plain_value (value_record t fields form plain) (cells.is_array u over' element' low' high' vs form' are) = absurd (no_array (sym form' ∙ form))
@@ -84,7 +88,8 @@ module _ (forms : Forms) (types : AreTypes forms) where
 
     plain_fields : {fields : FieldList} {vs : Values} → AreValueFields forms fields → cells.AreFieldsOf forms fields vs → code.AreFieldsOf forms fields vs
     plain_fields no_value_field cells.no_field = code.no_field
-    plain_fields (one_value_field f fields plain others) (cells.one_field f' fields' v vs is are) = code.one_field f' fields' v vs (plain_value plain is) (plain_fields others are)
+    plain_fields (one_value_field f fields plain others) (cells.one_field f' fields' v vs is are) =
+        code.one_field f' fields' v vs (plain_value plain is) (plain_fields others are)
 
   by_shape : (t : TypeId) (v : Value) (simple : Bool) → is_simple t ≡ simple → code.IsOf forms t v → IsShaped forms (if simple then a_number else a_whole t) v
   by_shape t v false is h = h
@@ -106,8 +111,10 @@ module _ (forms : Forms) (types : AreTypes forms) where
 
   -- ## No object is a part of it
 
-  is_no_object : (t : TypeId) → is_same t semaphore ≡ false → is_same t condition ≡ false → has_object_form (form_of forms t) ≡ false → is_object_type forms (Some t) ≡ false
-  is_no_object t one two three = ap (λ (x : Bool). x || is_same t condition || has_object_form (form_of forms t)) one ∙ ap (λ (x : Bool). x || has_object_form (form_of forms t)) two ∙ three
+  is_no_object : (t : TypeId) → is_same t semaphore ≡ false → is_same t condition ≡ false →
+      has_object_form (form_of forms t) ≡ false → is_object_type forms (Some t) ≡ false
+  is_no_object t one two three = ap (λ (x : Bool). x || is_same t condition || has_object_form (form_of forms t)) one ∙
+      ap (λ (x : Bool). x || has_object_form (form_of forms t)) two ∙ three
 
   formed : (t : TypeId) (form : TypeForm) (n : ℕ) → n < 6 → form_of forms t ≡ Some form → t.place ≢ n
   formed t form n below is same = not_some form (sym is ∙ types.predeclared t (subst (λ (k : ℕ). k < 6) (sym same) below))
@@ -137,21 +144,26 @@ module _ (forms : Forms) (types : AreTypes forms) where
   one_value i below (code.none_of t) = absurd (omega (arith, below))
   one_value i below (code.one_of n t v vs is are) = (v, is)
 
-  one_field : {fields : FieldList} {vs : Values} (i : ℕ) (x : Text) (t : TypeId) → slice_get fields i ≡ Some (x, t) → code.AreFieldsOf forms fields vs → (v : Value) × code.IsOf forms t v
+  one_field : {fields : FieldList} {vs : Values} (i : ℕ) (x : Text) (t : TypeId) → slice_get fields i ≡ Some (x, t) →
+      code.AreFieldsOf forms fields vs → (v : Value) × code.IsOf forms t v
   one_field i x t there code.no_field = absurd (cc)
-  one_field zero x t there (code.one_field f fields v vs is are) = (v, subst (λ (y : Text × TypeId). code.IsOf forms y.1 v) (field_same f (x, t) fields there) is)
+  one_field zero x t there (code.one_field f fields v vs is are) =
+      (v, subst (λ (y : Text × TypeId). code.IsOf forms y.1 v) (field_same f (x, t) fields there) is)
   one_field (suc i) x t there (code.one_field f fields v vs is are) = one_field i x t there are
 
   -- no part of a value without objects is an object
-  pub part_plain : {t : TypeId} {v : Value} {path : List ℕ} {u : Option TypeId} {o : ℕ} → code.IsOf forms t v → IsPath forms (Some t) path u o → is_object_type forms u ≡ false
+  pub part_plain : {t : TypeId} {v : Value} {path : List ℕ} {u : Option TypeId} {o : ℕ} → code.IsOf forms t v →
+      IsPath forms (Some t) path u o → is_object_type forms u ≡ false
   part_plain h (here _) = none_object h
-  part_plain (code.is_number t n simple) (into_element _ over element u low high i path o form below rest) = absurd (not_some _ (sym form ∙ types.sound.simple_form t simple))
+  part_plain (code.is_number t n simple) (into_element _ over element u low high i path o form below rest) =
+      absurd (not_some _ (sym form ∙ types.sound.simple_form t simple))
   part_plain (code.is_array t over element low high vs form are) (into_element _ over' element' u low' high' i path o form' below rest) =
       let same = same_array (sym form ∙ form') in
       let one = one_value i below (subst (λ (n : ℕ). code.AreOf forms n element vs) same.1 are) in
       part_plain (subst (λ (x : TypeId). code.IsOf forms x one.0) same.0 one.1) rest
   part_plain (code.is_record t fields vs form are) (into_element _ over' element' u low' high' i path o form' below rest) = absurd (no_array (sym form' ∙ form))
-  part_plain (code.is_number t n simple) (into_field _ w u x fields i path o form there rest) = absurd (not_some _ (sym form ∙ types.sound.simple_form t simple))
+  part_plain (code.is_number t n simple) (into_field _ w u x fields i path o form there rest) =
+      absurd (not_some _ (sym form ∙ types.sound.simple_form t simple))
   part_plain (code.is_array t over element low high vs form are) (into_field _ w u x fields' i path o form' there rest) = absurd (no_array (sym form ∙ form'))
   part_plain (code.is_record t fields vs form are) (into_field _ w u x fields' i path o form' there rest) =
       let one = one_field i x w (subst (λ (fs : FieldList). slice_get fs i ≡ Some (x, w)) (sym (same_fields (sym form ∙ form'))) there) are in
@@ -160,17 +172,21 @@ module _ (forms : Forms) (types : AreTypes forms) where
   -- ## Paths
 
   -- where one path begins another, the rest leads on from there
-  pub path_split : {t : Option TypeId} {path more whole : List ℕ} {u v : Option TypeId} {o p : ℕ} → whole ≡ path ++ more → IsPath forms t path u o → IsPath forms t whole v p → (q : ℕ) × IsPath forms u more v q
+  pub path_split : {t : Option TypeId} {path more whole : List ℕ} {u v : Option TypeId} {o p : ℕ} → whole ≡ path ++ more → IsPath forms t path u o →
+      IsPath forms t whole v p → (q : ℕ) × IsPath forms u more v q
   path_split {v = v} {p = p} e (here t) h = (p, subst (λ (l : List ℕ). IsPath forms t l v p) e h)
   path_split e (into_element t over element u low high i path o form below rest) (here _) = absurd (cc)
   path_split e (into_element t over element u low high i path o form below rest) (into_element _ over' element' v low' high' j path' p form' below' rest') =
       let same = same_array (sym form ∙ form') in
       path_split (tail_same i j path path' _ e) rest (subst (λ (x : TypeId). IsPath forms (Some x) path' v p) (sym same.0) rest')
-  path_split e (into_element t over element u low high i path o form below rest) (into_field _ w v x fields j path' p form' there rest') = absurd (no_array (sym form ∙ form'))
+  path_split e (into_element t over element u low high i path o form below rest) (into_field _ w v x fields j path' p form' there rest') =
+      absurd (no_array (sym form ∙ form'))
   path_split e (into_field t w u x fields i path o form there rest) (here _) = absurd (cc)
-  path_split e (into_field t w u x fields i path o form there rest) (into_element _ over' element' v low' high' j path' p form' below' rest') = absurd (no_array (sym form' ∙ form))
+  path_split e (into_field t w u x fields i path o form there rest) (into_element _ over' element' v low' high' j path' p form' below' rest') =
+      absurd (no_array (sym form' ∙ form))
   path_split e (into_field t w u x fields i path o form there rest) (into_field _ w' v x' fields' j path' p form' there' rest') =
-      let same : slice_get fields j ≡ Some (x', w') = subst (λ (fs : FieldList). slice_get fs j ≡ Some (x', w')) (sym (same_fields (sym form ∙ form'))) there' in
+      let same : slice_get fields j ≡ Some (x', w') =
+      subst (λ (fs : FieldList). slice_get fs j ≡ Some (x', w')) (sym (same_fields (sym form ∙ form'))) there' in
       let one : Text × TypeId = (x, w) in
       let other : Text × TypeId = (x', w') in
       let field : Some one ≡ Some other = sym there ∙ ap (λ k. slice_get fields k) (head_same i j path path' _ e) ∙ same in

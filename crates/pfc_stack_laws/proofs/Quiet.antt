@@ -27,7 +27,8 @@ use Rattle.pfc_stack_laws.proofs.Seen.{word_reached, within as within_address, w
 
 -- ## What an effect tells
 
-leads : (o : OwnEffect) (arms : List Arm) (to : ℕ) (left : List ℤ) (new : List Arm) → of_own_effect o arms ≡ onward to left new → (o ≡ quiet to left) × (new ≡ arms)
+leads : (o : OwnEffect) (arms : List Arm) (to : ℕ) (left : List ℤ) (new : List Arm) →
+    of_own_effect o arms ≡ onward to left new → (o ≡ quiet to left) × (new ≡ arms)
 leads (quiet at ops) arms to left new h = (cc, cc)
 leads (action at ops) arms to left new h = absurd (cc)
 leads (fault f) arms to left new h = absurd (cc)
@@ -39,16 +40,19 @@ faults (action at ops) arms f h = absurd (cc)
 faults (fault e) arms f h = cc
 faults more arms f h = absurd (cc)
 
-module _ (g : Setting) (homes : Homes) (entries : Entries) (store : Store) (b : Block) (blocks : List ImageBlock) (stacks : Stacks) (p at : ℕ) (ops : List ℤ) (arms : List Arm) (w : ℤ)
+module _ (g : Setting) (homes : Homes) (entries : Entries) (store : Store) (b : Block) (blocks : List ImageBlock) (stacks : Stacks) (p at : ℕ)
+    (ops : List ℤ) (arms : List Arm) (w : ℤ)
     (hold : HoldStore g homes entries store stacks) (hand : IsAtHand g homes entries store b w) (stands : StandsAt stacks p at ops g.room w) where
   -- an instruction that needs no more than the address and the operands
-  own_is : (i : Instr) → effect_on_stacks blocks i p stacks ≡ within stacks p (own_effect i (stack_of stacks p).at (operands_of stacks p)) → effect_on_stacks blocks i p stacks ≡ within stacks p (own_effect i at ops)
+  own_is : (i : Instr) → effect_on_stacks blocks i p stacks ≡ within stacks p (own_effect i (stack_of stacks p).at (operands_of stacks p)) →
+      effect_on_stacks blocks i p stacks ≡ within stacks p (own_effect i at ops)
   own_is i is = is ∙ ap₂ (λ a l. within stacks p (own_effect i a l)) stands.address stands.operands
 
   reckoned : (i : Instr) → Reckons i ops → Reckons i (operands_of stacks p)
   reckoned i h = subst (λ (l : List ℤ). Reckons i l) (sym stands.operands) h
 
-  plain_can : (i : Instr) → reads g.program i ≡ count_in blocks (table.operands_of i).reads → adds i ≡ 0 → (Reckons i ops → Reaches blocks i p stacks) → CanPerform g i ops → CanPerformOnStacks blocks i p stacks
+  plain_can : (i : Instr) → reads g.program i ≡ count_in blocks (table.operands_of i).reads → adds i ≡ 0 → (Reckons i ops → Reaches blocks i p stacks) →
+      CanPerform g i ops → CanPerformOnStacks blocks i p stacks
   plain_can i same none reaches can =
       record {
         held = subst (λ (l : List ℤ). count_in blocks (table.operands_of i).reads ≤ length l) (sym stands.operands) (subst (λ n. n ≤ length ops) same can.held);
@@ -56,7 +60,8 @@ module _ (g : Setting) (homes : Homes) (entries : Entries) (store : Store) (b : 
         reach = reaches can.reckons;
       }
 
-  plain_goes : (i : Instr) (to : ℕ) (left : List ℤ) (new : List Arm) → effect_on_stacks blocks i p stacks ≡ within stacks p (own_effect i (stack_of stacks p).at (operands_of stacks p))
+  plain_goes : (i : Instr) (to : ℕ) (left : List ℤ) (new : List Arm) →
+      effect_on_stacks blocks i p stacks ≡ within stacks p (own_effect i (stack_of stacks p).at (operands_of stacks p))
       → reads g.program i ≡ count_in blocks (table.operands_of i).reads → adds i ≡ 0 → (Reckons i ops → Reaches blocks i p stacks) → CanPerform g i ops
       → of_own_effect (own_effect i at ops) arms ≡ onward to left new → Goes blocks i p stacks to left × (new ≡ arms)
   plain_goes i to left new is same none reaches can h =
@@ -80,8 +85,10 @@ module _ (g : Setting) (homes : Homes) (entries : Entries) (store : Store) (b : 
   no_operand = omega arith
 
   -- an instruction that pushes a word
-  pushing : (i : Instr) (n : ℤ) (to : ℕ) (left : List ℤ) (new : List Arm) → reads g.program i ≡ 0 → count_in blocks (table.operands_of i).reads ≡ 0 → adds i ≡ 1 → (Reckons i ops → Reaches blocks i p stacks) → CanPerform g i ops
-      → effect_on_stacks blocks i p stacks ≡ goes (passed stacks p (n ∷ operands_of stacks p)) → onward (at + 1) (n ∷ ops) arms ≡ onward to left new → length left ≤ g.room
+  pushing : (i : Instr) (n : ℤ) (to : ℕ) (left : List ℤ) (new : List Arm) → reads g.program i ≡ 0 → count_in blocks (table.operands_of i).reads ≡ 0 →
+      adds i ≡ 1 → (Reckons i ops → Reaches blocks i p stacks) → CanPerform g i ops
+      → effect_on_stacks blocks i p stacks ≡ goes (passed stacks p (n ∷ operands_of stacks p)) →
+      onward (at + 1) (n ∷ ops) arms ≡ onward to left new → length left ≤ g.room
       → Goes blocks i p stacks to left × (new ≡ arms)
   pushing i n to left new none nothing one reaches can is h fit =
       let to_is : at + 1 ≡ to = cc in
@@ -98,21 +105,27 @@ module _ (g : Setting) (homes : Homes) (entries : Entries) (store : Store) (b : 
   sees_at = hand.sees
 
   reached_word : (l d : ℕ) → g.view.reaches l d ≡ true → cell_word stacks p l d ≡ pos (g.view.first l + d)
-  reached_word l d reached = word_reached g.program hold.types.counted homes entries store hand.keeps hand.display b g.accepts w hand.chain g.view stacks hold.memory hold.few hand.sees p l d stands.from reached
+  reached_word l d reached =
+      word_reached g.program hold.types.counted homes entries store hand.keeps hand.display b g.accepts w hand.chain g.view stacks hold.memory
+      hold.few hand.sees p l d stands.from reached
 
   held_word : (l d : ℕ) → g.view.reaches l d ≡ true → g.view.refers l d ≡ true → cell_at stacks (ref_of (cell_word stacks p l d)) ≡ pos (g.view.held l d)
   held_word l d reached refers =
       ap (λ x. cell_at stacks (ref_of x)) (reached_word l d reached)
-      ∙ word_held g.program hold.types.counted homes entries store hand.keeps hand.display b g.accepts w hand.chain g.view stacks hold.memory hold.few hand.sees l d reached refers
+      ∙ word_held g.program hold.types.counted homes entries store hand.keeps hand.display b g.accepts w hand.chain g.view stacks
+      hold.memory hold.few hand.sees l d reached refers
 
   links_reach : (l d : ℕ) → g.view.reaches l d ≡ true → Leads l d p stacks
   links_reach zero d reached = tt
   links_reach (suc l) d reached =
-      let there : g.view.first (suc l) + d < 2 ^ 42 = within_address g.program hold.types.counted homes entries store hand.keeps hand.display b g.accepts w hand.chain g.view stacks hold.memory hold.few hand.sees (suc l) d reached in
+      let there : g.view.first (suc l) + d < 2 ^ 42 =
+      within_address g.program hold.types.counted homes entries store hand.keeps hand.display b g.accepts w hand.chain g.view stacks hold.memory
+      hold.few hand.sees (suc l) d reached in
       let fits : IsAddress (pos (g.view.first (suc l) + d)) = (grind (arith), grind (arith, there)) in
       subst (λ (x : ℤ). IsAddress x) (sym (reached_word (suc l) d reached)) fits
 
-  object_is : (to : ℕ) (left : List ℤ) (new : List Arm) (found : Option ℤ) → g.number (operand ops 0) ≡ found → CanPerform g OBJ ops → numbered at (drop 1 ops) arms found ≡ onward to left new → Goes blocks OBJ p stacks to left × (new ≡ arms)
+  object_is : (to : ℕ) (left : List ℤ) (new : List Arm) (found : Option ℤ) → g.number (operand ops 0) ≡ found → CanPerform g OBJ ops →
+      numbered at (drop 1 ops) arms found ≡ onward to left new → Goes blocks OBJ p stacks to left × (new ≡ arms)
   object_is to left new None is can h = absurd (cc)
   object_is to left new (Some n) is can h =
       let to_is : at + 1 ≡ to = cc in
@@ -131,12 +144,15 @@ module _ (g : Setting) (homes : Homes) (entries : Entries) (store : Store) (b : 
   no_object f None h = absurd (cc)
   no_object f (Some n) h = absurd (cc)
 
-  pub lead_on : (i : Instr) (to : ℕ) (left : List ℤ) (new : List Arm) → IsOfStacks i → CanPerform g i ops → effect_of g i at ops arms ≡ onward to left new → length left ≤ g.room → Goes blocks i p stacks to left × (new ≡ arms)
+  pub lead_on : (i : Instr) (to : ℕ) (left : List ℤ) (new : List Arm) → IsOfStacks i → CanPerform g i ops → effect_of g i at ops arms ≡ onward to left new →
+      length left ≤ g.room → Goes blocks i p stacks to left × (new ≡ arms)
   lead_on (LIT n) to left new is can h fit = pushing (LIT n) n to left new refl refl refl (λ e. tt) can refl h fit
   lead_on (ADDR l d) to left new is can h fit =
-      pushing (ADDR l d) (pos (g.view.first l + d)) to left new refl refl refl (λ e. links_reach l d can.sight) can (ap (λ x. goes (passed stacks p (x ∷ operands_of stacks p))) (reached_word l d can.sight)) h fit
+      pushing (ADDR l d) (pos (g.view.first l + d)) to left new refl refl refl (λ e. links_reach l d can.sight) can
+      (ap (λ x. goes (passed stacks p (x ∷ operands_of stacks p))) (reached_word l d can.sight)) h fit
   lead_on (REF l d) to left new is can h fit =
-      pushing (REF l d) (pos (g.view.held l d)) to left new refl refl refl (λ e. links_reach l d can.sight.0) can (ap (λ x. goes (passed stacks p (x ∷ operands_of stacks p))) (held_word l d can.sight.0 can.sight.1)) h fit
+      pushing (REF l d) (pos (g.view.held l d)) to left new refl refl refl (λ e. links_reach l d can.sight.0) can
+      (ap (λ x. goes (passed stacks p (x ∷ operands_of stacks p))) (held_word l d can.sight.0 can.sight.1)) h fit
   lead_on OBJ to left new is can h fit = object_is to left new (g.number (operand ops 0)) refl can h
   lead_on (IDX low high z) to left new is can h fit = plain_goes (IDX low high z) to left new refl refl refl (λ e. reckoned (IDX low high z) e) can h
   lead_on (FLD k) to left new is can h fit = plain_goes (FLD k) to left new refl refl refl (λ e. reckoned (FLD k) e) can h

@@ -24,15 +24,18 @@ further n m d h = ap pos (omega (arith, h))
 some_same : {A : Type 0} (x y : A) → Some x ≡ Some y → x ≡ y
 some_same x y h = cc
 
-module _ (g : Program) (counted : AreCounted g.state.forms) (homes : Homes) (entries : Entries) (store : Store) (keeps : ℕ → Bool) (display : Display) (b : Block) (accepts : List ℕ) (w : ℤ)
-    (chain : List ℕ) (view : View) (stacks : Stacks) (memory : MemoryIs g homes entries store stacks) (few : AreFew stacks) (sees : Sees g homes entries store keeps display b accepts w chain view) where
+module _ (g : Program) (counted : AreCounted g.state.forms) (homes : Homes) (entries : Entries) (store : Store) (keeps : ℕ →
+    Bool) (display : Display) (b : Block) (accepts : List ℕ) (w : ℤ)
+    (chain : List ℕ) (view : View) (stacks : Stacks) (memory : MemoryIs g homes entries store stacks) (few : AreFew stacks)
+    (sees : Sees g homes entries store keeps display b accepts w chain view) where
   -- what is reached has its address
   pub word_reached : (p l d : ℕ) → word_of (first_in_view stacks p) ≡ w → view.reaches l d ≡ true → cell_word stacks p l d ≡ pos (view.first l + d)
   word_reached p l d from reached =
       let cell = sees.cells l d reached in
       let home : Home = cell.2.home in
       let first : view.first l ≡ home.process * 2 ^ 32 + (home.cell + own_cells) = sees.firsts l cell.0 home cell.1 cell.2.at in
-      let up : links_up stacks l w ≡ word_of (own_place home) = links_lead g homes entries store keeps stacks memory few.cells w chain l cell.0 home sees.links cell.1 cell.2.at in
+      let up : links_up stacks l w ≡ word_of (own_place home) =
+      links_lead g homes entries store keeps stacks memory few.cells w chain l cell.0 home sees.links cell.1 cell.2.at in
       ap (λ x. links_up stacks l x +ℤ pos (own_cells + d)) from ∙ ap (λ x. x +ℤ pos (own_cells + d)) up
       ∙ further (home.process * 2 ^ 32 + home.cell) (view.first l) d (omega (arith, first))
 
@@ -43,10 +46,12 @@ module _ (g : Program) (counted : AreCounted g.state.forms) (homes : Homes) (ent
   pub word_held : (l d : ℕ) → view.reaches l d ≡ true → view.refers l d ≡ true → cell_at stacks (ref_of (pos (view.first l + d))) ≡ pos (view.held l d)
   word_held l d reached refers = read (sees.references l d reached refers)
     where
-      read : (a : ℕ) × (slice_get chain l ≡ Some a) × IsReferenceCell g homes store a d (view.held l d) → cell_at stacks (ref_of (pos (view.first l + d))) ≡ pos (view.held l d)
+      read : (a : ℕ) × (slice_get chain l ≡ Some a) × IsReferenceCell g homes store a d (view.held l d) →
+          cell_at stacks (ref_of (pos (view.first l + d))) ≡ pos (view.held l d)
       read (a, there, is) =
           let kept = linked_is_kept homes entries keeps w chain l a sees.links there in
-          let among : IsAmong a (entries kept.1.process) = subst (λ (n : ℕ). IsAmong n (entries kept.1.process)) kept.1.number (is_among kept.1.entry (entries kept.1.process) kept.1.living) in
+          let among : IsAmong a (entries kept.1.process) =
+          subst (λ (n : ℕ). IsAmong n (entries kept.1.process)) kept.1.number (is_among kept.1.entry (entries kept.1.process) kept.1.living) in
           let held = reference_held g counted homes entries store stacks a is.place kept.1.process is.home is.t is.target memory among is.at is.laid is.holds in
           let same = one_reference g homes is.target (Some is.t) (Some is.t) held.0 is.word held.1 is.lies in
           let first : view.first l ≡ is.home.process * 2 ^ 32 + (is.home.cell + own_cells) = sees.firsts l a is.home there is.at in

@@ -41,14 +41,16 @@ pub record EndsIn (blocks : List ImageBlock) (i : Instr) (p : ℕ) (stacks : Sta
 -- ## Reads and writes
 
 -- The instruction may be performed by process p, which goes on at the next one with the value over the others: a value of this type.
-pub record Reads (g : Setting) (blocks : List ImageBlock) (i : Instr) (p : ℕ) (stacks : Stacks) (at : ℕ) (below : List ℤ) (t : TypeId) (v : Value) : Type 0 where
+pub record Reads (g : Setting) (blocks : List ImageBlock) (i : Instr) (p : ℕ) (stacks : Stacks) (at : ℕ) (below : List ℤ)
+    (t : TypeId) (v : Value) : Type 0 where
   pub can : CanPerformOnStacks blocks i p stacks
   pub effect : effect_on_stacks blocks i p stacks ≡ acts (moved stacks p (at + 1) (reverse (words_of v) ++ below))
   pub shaped : IsShaped g.program.state.forms (shape_of t) v
   pub typed : IsOf g.program.state.forms t v
 
 -- It may be performed, and leaves these operands. The value lies in the variable then, and the stacks of all processes hold the store in which it does.
-pub record Writes (g : Setting) (homes : Homes) (entries : Entries) (store : Store) (blocks : List ImageBlock) (i : Instr) (p : ℕ) (stacks : Stacks) (at : ℕ) (left : List ℤ) (l : Location) (t : TypeId) (v : Value) : Type 0 where
+pub record Writes (g : Setting) (homes : Homes) (entries : Entries) (store : Store) (blocks : List ImageBlock) (i : Instr) (p : ℕ) (stacks : Stacks) (at : ℕ)
+    (left : List ℤ) (l : Location) (t : TypeId) (v : Value) : Type 0 where
   pub place : Ref
   pub lies : Lies g.program homes l (Some t) place
   pub lives : Lives entries l.activation

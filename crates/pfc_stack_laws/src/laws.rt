@@ -52,7 +52,8 @@ pub fn variables_are_read()
 /// A write changes the store where the source text has the variable, whichever process's stack that is on, and keeps all else: from the operands, or of the
 /// value that a `for` keeps.
 pub fn variables_are_written()
-    ensures value { (g : Setting) (homes : Homes) (entries : Entries) (store : Store) (b : Block) (blocks : List ImageBlock) (stacks : Stacks) (p at : ℕ) (w : ℤ)
+    ensures value { (g : Setting) (homes : Homes) (entries : Entries) (store : Store) (b : Block)
+        (blocks : List ImageBlock) (stacks : Stacks) (p at : ℕ) (w : ℤ)
         (x : Context) (v : Spot) (t : TypeId) (word : ℤ) (new : Value) (below : List ℤ) (hand : IsAtHand g homes entries store b w)
         → HoldStore g homes entries store stacks → StandsAt stacks p at (reverse (words_of new) ++ word ∷ below) g.room w → IsChecked g b x.env
         → IsWord g.view (site_of g b x) v (Some t) word → IsOf g.program.state.forms t new

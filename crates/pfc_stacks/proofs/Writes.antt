@@ -37,7 +37,8 @@ process_with_cells stacks q h =
 -- ## Nothing, and one word more
 
 no_words : (cells : List ℤ) (k : ℕ) → with_words cells k [] ≡ cells
-no_words cells k = ap (λ (n : ℕ). take k cells ++ [] ++ drop n cells) (omega arith) ∙ ap (λ (xs : List ℤ). xs ++ drop k cells) (append-nil (take k cells)) ∙ take-append-drop k cells
+no_words cells k = ap (λ (n : ℕ). take k cells ++ [] ++ drop n cells) (omega arith) ∙
+    ap (λ (xs : List ℤ). xs ++ drop k cells) (append-nil (take k cells)) ∙ take-append-drop k cells
 
 pub written_none : (stacks : Stacks) (r : Ref) → stacks ≡ written stacks r []
 written_none stacks r =

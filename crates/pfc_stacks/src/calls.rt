@@ -51,7 +51,8 @@ impl Stacks {
         requires process { p < length self.old }
         requires block { block < length image.now.blocks.items }
         requires arguments { params_of (slice_get image.now.blocks.items block) ≤ length (operands_of self.old p) }
-        ensures { (b : Block) → slice_get image.now.blocks.items block ≡ Some b → IsCallBy p block b (in_view self.old p l) Mark.Plain self.old result self.new }
+        ensures { (b : Block) → slice_get image.now.blocks.items block ≡ Some b →
+            IsCallBy p block b (in_view self.old p l) Mark.Plain self.old result self.new }
     {
         let link = self.links_up(p, l);
         self.call_block(p, block, &image.blocks[block as usize], link, Mark::Plain)

@@ -54,7 +54,8 @@ pub sized_plain : (c : Code) → IsPlain c → IsSized c
 sized_plain c p at n = ap length (p.0 at n) ∙ p.1.0
 
 pub sized_both : (a b : Code) → IsSized a → IsSized b → IsSized (a ⨾ b)
-sized_both a b p q at n = length-append (a.put at n) (b.put (at + a.size) (n + length a.texts)) ∙ ap₂ (λ x y. x + y) (p at n) (q (at + a.size) (n + length a.texts))
+sized_both a b p q at n = length-append (a.put at n) (b.put (at + a.size) (n + length a.texts)) ∙
+    ap₂ (λ x y. x + y) (p at n) (q (at + a.size) (n + length a.texts))
 
 pub sized_instruction : (s : Site) (i : ℕ → ℕ → Instr) → IsSized (instruction s i)
 sized_instruction s i at n = refl
@@ -160,7 +161,8 @@ args_then s formals args i = sized_then s (args_code s formals args) (λ at n. i
 sized_exported : (s : Site) (n : ℕ) (m : Option Meaning) (args : ActualTrees) → IsSized (exported_code s n m args)
 sized_exported s n None args = sized_nothing
 sized_exported s n (Some (Sub p)) args =
-    args_then s (sub_at (blocks_of s) p).formals args (enter_instr (module_at (blocks_of s) n).resource (module_number (blocks_of s) n) (block_number s.program (sub_at (blocks_of s) p).scope))
+    args_then s (sub_at (blocks_of s) p).formals args (enter_instr (module_at (blocks_of s) n).resource (module_number (blocks_of s) n)
+    (block_number s.program (sub_at (blocks_of s) p).scope))
 sized_exported s n (Some (AConstant t v)) args = sized_nothing
 sized_exported s n (Some (Named t)) args = sized_nothing
 sized_exported s n (Some (Variable t r)) args = sized_nothing
@@ -176,7 +178,8 @@ sized_module s n (Some x) args = sized_exported s n (meaning_in (scope_at (block
 
 pub sized_requeue : (s : Site) (m : Option Meaning) (args : ActualTrees) → IsSized (requeue_code s m args)
 sized_requeue s None args = sized_nothing
-sized_requeue s (Some (Sub n)) args = args_then s (sub_at (blocks_of s) n).formals args (REQ (resource_of s) (block_number s.program (sub_at (blocks_of s) n).scope))
+sized_requeue s (Some (Sub n)) args =
+    args_then s (sub_at (blocks_of s) n).formals args (REQ (resource_of s) (block_number s.program (sub_at (blocks_of s) n).scope))
 sized_requeue s (Some (AConstant t v)) args = sized_nothing
 sized_requeue s (Some (Named t)) args = sized_nothing
 sized_requeue s (Some (Variable t r)) args = sized_nothing
@@ -187,9 +190,11 @@ sized_requeue s (Some (Predeclared k)) args = sized_nothing
 sized_requeue s (Some Faulty) args = sized_nothing
 
 -- a process, arguments, and an instruction
-process_with : (s : Site) (address : Code) (formals : List Formal) (args : ActualTrees) (i : Instr) → IsSized address → IsSized (address ⨾ one s OBJ ⨾ args_code s formals args ⨾ one s i)
+process_with : (s : Site) (address : Code) (formals : List Formal) (args : ActualTrees) (i : Instr) → IsSized address →
+    IsSized (address ⨾ one s OBJ ⨾ args_code s formals args ⨾ one s i)
 process_with s address formals args i p =
-    sized_both address (one s OBJ ⨾ args_code s formals args ⨾ one s i) p (sized_first s (λ at n. OBJ) (args_code s formals args ⨾ one s i) (args_then s formals args i))
+    sized_both address (one s OBJ ⨾ args_code s formals args ⨾ one s i) p
+    (sized_first s (λ at n. OBJ) (args_code s formals args ⨾ one s i) (args_then s formals args i))
 
 sized_activation : (s : Site) (n : ℕ) (address : Code) (args : ActualTrees) → IsSized address → IsSized (activation_code s n address args)
 sized_activation s n address args p =
@@ -212,13 +217,15 @@ sized_process : (s : Site) (n : Option ℕ) (address : Code) (args : ActualTrees
 sized_process s None address args p = sized_nothing
 sized_process s (Some n) address args p = sized_activation s n address args p
 
-sized_field : (s : Site) (found : Found) (ss : SelectorTrees) (t : Option TypeId) (n : Option ℕ) (x : Text) (args : ActualTrees) → IsSized (field_code s found ss t n x args)
+sized_field : (s : Site) (found : Found) (ss : SelectorTrees) (t : Option TypeId) (n : Option ℕ) (x : Text) (args : ActualTrees) →
+    IsSized (field_code s found ss t n x args)
 sized_field s found ss t None x args =
     sized_process s (process_of_type s.env (selected s.env t ss)) (address_code s (Some found) ss) args (sized_address s (Some found) ss)
 sized_field s found ss t (Some n) x args =
     sized_entry s n (name_in_process (blocks_of s) n x) (address_code s (Some found) (before_last ss)) args (sized_address s (Some found) (before_last ss))
 
-sized_variable : (s : Site) (found : Found) (ss : SelectorTrees) (t : TypeId) (x : Option (Text × Place)) (args : ActualTrees) → IsSized (called_variable s found ss t x args)
+sized_variable : (s : Site) (found : Found) (ss : SelectorTrees) (t : TypeId) (x : Option (Text × Place)) (args : ActualTrees) →
+    IsSized (called_variable s found ss t x args)
 sized_variable s found ss t None args =
     sized_process s (process_of_type s.env (selected s.env (Some t) ss)) (address_code s (Some found) ss) args (sized_address s (Some found) ss)
 sized_variable s found ss t (Some x) args = sized_field s found ss (Some t) (process_of_type s.env (selected s.env (Some t) (before_last ss))) x.0 args
@@ -257,10 +264,12 @@ sized_receiver s None = sized_nothing
 sized_receiver s (Some d) = sized_desig s d
 
 sized_send : (s : Site) (d : DesigTree) (m : Option ExprTree) (i : ℕ → ℕ → Instr) → IsSized (object_code s d ⨾ message_code s m ⨾ instruction s i)
-sized_send s d m i = sized_both (object_code s d) (message_code s m ⨾ instruction s i) (sized_object s d) (sized_then s (message_code s m) i (sized_message s m))
+sized_send s d m i = sized_both (object_code s d) (message_code s m ⨾ instruction s i) (sized_object s d)
+    (sized_then s (message_code s m) i (sized_message s m))
 
 sized_receive : (s : Site) (d : DesigTree) (r : Option DesigTree) (i : ℕ → ℕ → Instr) → IsSized (object_code s d ⨾ receiver_code s r ⨾ instruction s i)
-sized_receive s d r i = sized_both (object_code s d) (receiver_code s r ⨾ instruction s i) (sized_object s d) (sized_then s (receiver_code s r) i (sized_receiver s r))
+sized_receive s d r i = sized_both (object_code s d) (receiver_code s r ⨾ instruction s i) (sized_object s d)
+    (sized_then s (receiver_code s r) i (sized_receiver s r))
 
 -- ## Alternatives
 
@@ -283,7 +292,8 @@ sized_guarded s (Some e) inner p =
 pub sized_alternative : (s : Site) (a : Alternative) (branch : ℕ) → IsSized (alternative_code s a branch)
 sized_alternative s a branch =
     let inner = comm_code s a.next a.comm branch in
-    sized_both (replica_code s a.replica) (guarded_code s a.guard inner) (sized_replica s a.replica) (sized_guarded s a.guard inner (sized_comm s a.next a.comm branch))
+    sized_both (replica_code s a.replica) (guarded_code s a.guard inner) (sized_replica s a.replica)
+    (sized_guarded s a.guard inner (sized_comm s a.next a.comm branch))
 
 pub sized_alternatives : (s : Site) (alts : List Alternative) (branches : List ℕ) → IsSized (alternatives_code s alts branches)
 sized_alternatives s [] branches = sized_nothing
@@ -296,7 +306,8 @@ pub sized_chosen : (s : Site) (rs : List Replica) → IsSized (chosen_code s rs)
 sized_chosen s [] = sized_nothing
 sized_chosen s (r ∷ rs) =
     let rest = chosen_code s rs in
-    sized_both (replica_code s (Some r)) (over s JMP rest.size ⨾ rest) (sized_replica s (Some r)) (sized_first s (λ at n. JMP (at + 1 + rest.size)) rest (sized_chosen s rs))
+    sized_both (replica_code s (Some r)) (over s JMP rest.size ⨾ rest) (sized_replica s (Some r))
+    (sized_first s (λ at n. JMP (at + 1 + rest.size)) rest (sized_chosen s rs))
 
 pub sized_sel : (s : Site) (pri : Bool) (count : Option ℕ) → IsSized (sel_code s pri count)
 sized_sel s pri None at n = refl
@@ -314,7 +325,8 @@ sized_select s pri alts ds branches else_at otherwise p q =
 pub sized_labels : (s : Site) (between : ℕ) (ls : List Constant) → IsSized (labels_code s between ls)
 sized_labels s between [] = sized_nothing
 sized_labels s between (l ∷ ls) =
-    sized_first s (λ at n. CEQ (label_of (constant_value s.env.state.blocks.scopes s.env.view l)) (at + 1 + (length ls + between))) (labels_code s between ls) (sized_labels s between ls)
+    sized_first s (λ at n. CEQ (label_of (constant_value s.env.state.blocks.scopes s.env.view l)) (at + 1 + (length ls + between)))
+    (labels_code s between ls) (sized_labels s between ls)
 
 pub sized_assign : (s : Site) (d : DesigTree) (e : ExprTree) → IsSized (assign_code s d e)
 sized_assign s d e =
@@ -351,7 +363,8 @@ mutual
   sized_stmt s n (case_of e arms last p) =
       let c = at_line s p.line in
       sized_both (expr_code c e) (tests_code c n 0 arms ⨾ one c CERR ⨾ arms_code c n arms) (sized_expr c e)
-      (sized_both (tests_code c n 0 arms) (one c CERR ⨾ arms_code c n arms) (sized_tests c n 0 arms) (sized_first c (λ at k. CERR) (arms_code c n arms) (sized_arms c n arms)))
+      (sized_both (tests_code c n 0 arms) (one c CERR ⨾ arms_code c n arms) (sized_tests c n 0 arms)
+      (sized_first c (λ at k. CERR) (arms_code c n arms) (sized_arms c n arms)))
   sized_stmt s n (while_do e t p) =
       let c = at_line s p.line in
       let test = expr_code c e in
@@ -384,11 +397,13 @@ mutual
   sized_stmt s n (cobegin ss last p) = sized_then (at_line s last.line) (stmts_code s n ss) (λ at k. COEND) (sized_stmts s n ss)
   sized_stmt s n (accepting a p) =
       let c = at_line s p.line in
-      sized_both (accept_code c n a) (accepted_code c n a ⨾ one c EACC) (λ at k. refl) (sized_then c (accepted_code c n a) (λ at k. EACC) (sized_accepted c n a))
+      sized_both (accept_code c n a) (accepted_code c n a ⨾ one c EACC) (λ at k. refl)
+      (sized_then c (accepted_code c n a) (λ at k. EACC) (sized_accepted c n a))
   sized_stmt s n (requeue x args p) = let c = at_line s p.line in sized_requeue c (meaning_of (find c.env x.0)) args
   sized_stmt s n (select pri alts p q) =
       let c = at_line s p.line in
-      sized_select c pri (alternatives (context_of c) n alts) (distances c n 0 alts) (branches_code c n alts 0) None nothing (sized_branches c n alts 0) sized_nothing
+      sized_select c pri (alternatives (context_of c) n alts) (distances c n 0 alts) (branches_code c n alts 0) None nothing
+      (sized_branches c n alts 0) sized_nothing
   sized_stmt s n (select_else pri alts ss at p q) =
       let c = at_line s p.line in
       let otherwise = stmts_code c (n + alts_scopes alts) ss in
@@ -412,7 +427,8 @@ mutual
   sized_tests s n from (more_arms (arm ls t) arms) =
       let between = label_count arms + 1 + from in
       let rest = tests_code s (n + arm_scopes (arm ls t)) (from + (stmt_code s n t).size + 1) arms in
-      sized_both (labels_code s between ls) rest (sized_labels s between ls) (sized_tests s (n + arm_scopes (arm ls t)) (from + (stmt_code s n t).size + 1) arms)
+      sized_both (labels_code s between ls) rest (sized_labels s between ls) (sized_tests s (n + arm_scopes (arm ls t))
+      (from + (stmt_code s n t).size + 1) arms)
 
   pub sized_arms : (s : Site) (n : ℕ) (arms : ArmTrees) → IsSized (arms_code s n arms)
   sized_arms s n no_arms = sized_nothing
@@ -434,13 +450,18 @@ mutual
 
   pub sized_branch : (s : Site) (n : ℕ) (a : AltTree) (between : ℕ) → IsSized (branch_code s n a between)
   sized_branch s n (alt spread guard (terminate p) ss) between = λ at k. refl
-  sized_branch s n (alt spread guard (comm_accept a p) ss) between = branch_sized s n spread (comm_accept a p) ss between (sized_met s n (comm_accept a p)) (sized_stmts s (n + comm_scopes (comm_accept a p)) ss)
-  sized_branch s n (alt spread guard (comm_send d e p) ss) between = branch_sized s n spread (comm_send d e p) ss between sized_nothing (sized_stmts s (n + comm_scopes (comm_send d e p)) ss)
-  sized_branch s n (alt spread guard (comm_receive d v p) ss) between = branch_sized s n spread (comm_receive d v p) ss between sized_nothing (sized_stmts s (n + comm_scopes (comm_receive d v p)) ss)
-  sized_branch s n (alt spread guard (timeout e p) ss) between = branch_sized s n spread (timeout e p) ss between sized_nothing (sized_stmts s (n + comm_scopes (timeout e p)) ss)
+  sized_branch s n (alt spread guard (comm_accept a p) ss) between = branch_sized s n spread (comm_accept a p) ss between (sized_met s n (comm_accept a p))
+      (sized_stmts s (n + comm_scopes (comm_accept a p)) ss)
+  sized_branch s n (alt spread guard (comm_send d e p) ss) between =
+      branch_sized s n spread (comm_send d e p) ss between sized_nothing (sized_stmts s (n + comm_scopes (comm_send d e p)) ss)
+  sized_branch s n (alt spread guard (comm_receive d v p) ss) between =
+      branch_sized s n spread (comm_receive d v p) ss between sized_nothing (sized_stmts s (n + comm_scopes (comm_receive d v p)) ss)
+  sized_branch s n (alt spread guard (timeout e p) ss) between =
+      branch_sized s n spread (timeout e p) ss between sized_nothing (sized_stmts s (n + comm_scopes (timeout e p)) ss)
 
   pub sized_branches : (s : Site) (n : ℕ) (alts : AltTrees) (else_size : ℕ) → IsSized (branches_code s n alts else_size)
   sized_branches s n no_alts else_size = sized_nothing
   sized_branches s n (more_alts a alts) else_size =
       let rest = branches_code s (n + alt_scopes a) alts else_size in
-      sized_both (branch_code s n a (rest.size + else_size)) rest (sized_branch s n a (rest.size + else_size)) (sized_branches s (n + alt_scopes a) alts else_size)
+      sized_both (branch_code s n a (rest.size + else_size)) rest (sized_branch s n a (rest.size + else_size))
+      (sized_branches s (n + alt_scopes a) alts else_size)

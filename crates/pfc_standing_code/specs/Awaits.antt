@@ -73,7 +73,8 @@ finishing s f t = function_code s f t nothing nothing
 
 -- a width is awaited: the bytes are those of the number below it, or of a string of the program
 pub data PadAt (g : Setting) (line at : ℕ) (ops : List ℤ) (bytes : List ℕ) (P : List ℤ → Type 0) : Type 0 where
-  of_number : (t : Simple) (n : ℤ) (below : List ℤ) → ops ≡ n ∷ below → bytes ≡ shown t n → IsAt g at (write_instr t 1) line → P below → PadAt g line at ops bytes P
+  of_number : (t : Simple) (n : ℤ) (below : List ℤ) → ops ≡ n ∷ below → bytes ≡ shown t n →
+      IsAt g at (write_instr t 1) line → P below → PadAt g line at ops bytes P
   of_string : (i : ℕ) → slice_get g.texts i ≡ Some bytes → IsAt g at (WRS i 1) line → P ops → PadAt g line at ops bytes P
 
 -- the instructions of a `for` behind both bounds
@@ -93,14 +94,16 @@ PerformsAnywhere g b at ops k = (e : Env) → IsCheckedFor g b e k × Performs g
 -- behind a scan the process sees what is its own again, in its own block, and there performs what is left
 abbrev pub BehindScanAt : Setting → Scan → List ℤ → Remainder → Type 0
 BehindScanAt g scan ops k =
-    WayAt (own_again g) (own_block g.trial g.block) scan.way (behind_scan g.trial) (length ops) (λ end. PerformsAnywhere (own_again g) (own_block g.trial g.block) end ops k)
+    WayAt (own_again g) (own_block g.trial g.block) scan.way (behind_scan g.trial) (length ops)
+    (λ end. PerformsAnywhere (own_again g) (own_block g.trial g.block) end ops k)
 
 -- an object's address is on top: its number is taken, the code behind that stands, and behind that all is as is said
 abbrev pub ObjectThen : Setting → Site → ℕ → List ℤ → Code → (ℕ → Type 0) → Type 0
 ObjectThen g s at ops code behind = IsAt g at OBJ s.line × (n : ℕ) × Stands g (at + 1) n (suc (length ops)) code × behind (at + 1 + code.size)
 
 -- the instruction that makes an alternative of the operands, and what stands behind it; the alternative is no accept
-pub record ArmAt (g : Setting) (s : Site) (x : Context) (at held : ℕ) (a : Alternative) (rest : List Alternative) (sel : Selecting) (arms : List Arm) (i : ℕ → Instr) (behind : ℕ → Type 0) : Type 0 where
+pub record ArmAt (g : Setting) (s : Site) (x : Context) (at held : ℕ) (a : Alternative) (rest : List Alternative) (sel : Selecting) (arms : List Arm) (i : ℕ →
+    Instr) (behind : ℕ → Type 0) : Type 0 where
   pub to : ℕ
   pub makes : IsAt g at (i to) s.line
   pub branch : BranchAt g s to held a.replica None (a.next + comm_scopes a.comm) a.stmts behind
@@ -261,7 +264,8 @@ abbrev mutual
       let s = site_of g b x in
       Alone g arms ((n : ℕ) × (v : TypeId) × (t ≡ Some v) × HasProcessForm s n v × (n < length (blocks_of s).processes)
       × (formals ≡ (process_at (blocks_of s) n).formals)
-      × ObjectThen g s at ops (args_code s formals args ⨾ one s (NEW (block_number g.program (process_at (blocks_of s) n).scope))) (λ end. Performs g b x.env end ops [] k)
+      × ObjectThen g s at ops (args_code s formals args ⨾ one s (NEW (block_number g.program (process_at (blocks_of s) n).scope)))
+      (λ end. Performs g b x.env end ops [] k)
       × AreArguments s formals args × TakesCells s (process_at (blocks_of s) n).scope formals)
   TakesLocation g b x at ops arms t (enter_with entry formals args k) =
       let s = site_of g b x in
@@ -292,7 +296,8 @@ abbrev mutual
   TakesLocation g b x at ops arms t (receive_into channel k) =
       let s = site_of g b x in
       Alone g arms ((c : Option TypeId) × (u : TypeId) × (n : ℤ) × (below : List ℤ) × (t ≡ Some u) × IsCarried (forms_of s) u
-      × IsChannel (forms_of s) c u × (ops ≡ n ∷ below) × IsObject g s channel c n × IsAt g at (RECV (shape_cells (forms_of s) (shape_of u))) x.line × Performs g b x.env (at + 1) below [] k)
+      × IsChannel (forms_of s) c u × (ops ≡ n ∷ below) × IsObject g s channel c n × IsAt g at (RECV (shape_cells (forms_of s) (shape_of u))) x.line ×
+      Performs g b x.env (at + 1) below [] k)
   TakesLocation g b x at ops arms t (offer_to m a rest sel k) =
       let s = site_of g b x in
       InNoScan g ((u : TypeId) × IsChannel (forms_of s) t u × IsMessage s m u × IsAt g at OBJ x.line × HasMessage a.comm

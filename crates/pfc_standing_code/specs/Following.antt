@@ -37,26 +37,34 @@ use Rattle.pfc_standing_code.specs.Awaits.{TurnAt, PerformsAnywhere, BehindScanA
 -- a number or a string that is printed, with or without a width
 pub data IsPiece (g : Setting) (line at : ℕ) (ops below : List ℤ) (bytes : List ℕ) : Type 0 where
   number : (t : Simple) (n : ℤ) → ops ≡ n ∷ below → bytes ≡ shown t n → IsAt g at (write_instr t 0) line → IsPiece g line at ops below bytes
-  wide_number : (t : Simple) (n w : ℤ) → ops ≡ w ∷ n ∷ below → padded w (shown t n) ≡ Ok bytes → IsAt g at (write_instr t 1) line → IsPiece g line at ops below bytes
+  wide_number : (t : Simple) (n w : ℤ) → ops ≡ w ∷ n ∷ below → padded w (shown t n) ≡ Ok bytes →
+      IsAt g at (write_instr t 1) line → IsPiece g line at ops below bytes
   string : (s : ℕ) → ops ≡ below → slice_get g.texts s ≡ Some bytes → IsAt g at (WRS s 0) line → IsPiece g line at ops below bytes
-  wide_string : (s : ℕ) (w : ℤ) (text : List ℕ) → ops ≡ w ∷ below → slice_get g.texts s ≡ Some text → padded w text ≡ Ok bytes → IsAt g at (WRS s 1) line → IsPiece g line at ops below bytes
+  wide_string : (s : ℕ) (w : ℤ) (text : List ℕ) → ops ≡ w ∷ below → slice_get g.texts s ≡ Some text → padded w text ≡ Ok bytes →
+      IsAt g at (WRS s 1) line → IsPiece g line at ops below bytes
   newline : ops ≡ below → bytes ≡ 10 ∷ [] → IsAt g at WRNL line → IsPiece g line at ops below bytes
 
 -- an instruction that ends in a fault
 pub data IsFault (g : Setting) (line at : ℕ) (ops : List ℤ) (arms : List Arm) (f : RunFault) : Type 0 where
   of_operands : (i : Instr) → IsAt g at i line → CanPerform g i ops → effect_of g i at ops arms ≡ refuses f → IsFault g line at ops arms f
-  of_number_width : (t : Simple) (n w : ℤ) (below : List ℤ) → ops ≡ w ∷ n ∷ below → padded w (shown t n) ≡ Err f → IsAt g at (write_instr t 1) line → IsFault g line at ops arms f
-  of_string_width : (s : ℕ) (w : ℤ) (text : List ℕ) (below : List ℤ) → ops ≡ w ∷ below → slice_get g.texts s ≡ Some text → padded w text ≡ Err f → IsAt g at (WRS s 1) line → IsFault g line at ops arms f
+  of_number_width : (t : Simple) (n w : ℤ) (below : List ℤ) → ops ≡ w ∷ n ∷ below → padded w (shown t n) ≡ Err f →
+      IsAt g at (write_instr t 1) line → IsFault g line at ops arms f
+  of_string_width : (s : ℕ) (w : ℤ) (text : List ℕ) (below : List ℤ) → ops ≡ w ∷ below → slice_get g.texts s ≡ Some text → padded w text ≡ Err f →
+      IsAt g at (WRS s 1) line → IsFault g line at ops arms f
 
 -- a write of a value from the operands, or of the value that a `for` keeps
 pub data IsWrite (g : Setting) (b : Block) (x : Context) (at : ℕ) (ops : List ℤ) (arms : List Arm) (v : Spot) (new : Value) (k : Remainder) : Type 0 where
-  of_value : (t : TypeId) (w : ℤ) (below : List ℤ) → ops ≡ reverse (words_of new) ++ w ∷ below → IsOf (forms_of (site_of g b x)) t new → IsWord g.view (site_of g b x) v (Some t) w → IsAt g at (STORE (shape_cells (forms_of (site_of g b x)) (shape_of t))) x.line → Performs g b x.env (at + 1) below arms k → IsWrite g b x at ops arms v new k
-  of_kept : (last kept w : ℤ) (below : List ℤ) → arms ≡ [] → ops ≡ last ∷ kept ∷ w ∷ below → new ≡ ordinal kept → IsSimpleWord g.view (site_of g b x) v w → IsAt g at FORW x.line → Performs g b x.env (at + 1) ops [] k → IsWrite g b x at ops arms v new k
+  of_value : (t : TypeId) (w : ℤ) (below : List ℤ) → ops ≡ reverse (words_of new) ++ w ∷ below → IsOf (forms_of (site_of g b x)) t new →
+      IsWord g.view (site_of g b x) v (Some t) w → IsAt g at (STORE (shape_cells (forms_of (site_of g b x)) (shape_of t))) x.line →
+      Performs g b x.env (at + 1) below arms k → IsWrite g b x at ops arms v new k
+  of_kept : (last kept w : ℤ) (below : List ℤ) → arms ≡ [] → ops ≡ last ∷ kept ∷ w ∷ below → new ≡ ordinal kept → IsSimpleWord g.view (site_of g b x) v w →
+      IsAt g at FORW x.line → Performs g b x.env (at + 1) ops [] k → IsWrite g b x at ops arms v new k
 
 -- the way back of a loop, or to the next value of a `for`
 pub data IsTurn (g : Setting) (b : Block) (x : Context) (at : ℕ) (ops : List ℤ) (k : Remainder) : Type 0 where
   of_loop : (a : ℕ) → IsAt g at (TURN a) x.line → Performs g b x.env a ops [] k → IsTurn g b x at ops k
-  of_count : (d a : ℕ) (last kept w : ℤ) (below : List ℤ) → ops ≡ last ∷ kept ∷ w ∷ below → is_before d kept last ≡ true → IsAt g at (FORT d a) x.line → Performs g b x.env a (last ∷ value_behind d kept ∷ w ∷ below) [] k → IsTurn g b x at ops k
+  of_count : (d a : ℕ) (last kept w : ℤ) (below : List ℤ) → ops ≡ last ∷ kept ∷ w ∷ below → is_before d kept last ≡ true → IsAt g at (FORT d a) x.line →
+      Performs g b x.env a (last ∷ value_behind d kept ∷ w ∷ below) [] k → IsTurn g b x at ops k
 
 -- a plain `!`, `?` or `accept` has no statements of its own, and writes no variable again
 abbrev pub IsPlain : Open → Type 0
@@ -189,7 +197,9 @@ Arrived g at ops arms n = (b : Block) × AreChecked g b (names_of n) × ArrivedB
 -- Quiet instructions, each of which leads up, and then the action.
 pub data Follows (g : Setting) (n : Action) : ℕ → List ℤ → List Arm → Type 0 where
   arrives : (at : ℕ) (ops : List ℤ) (arms : List Arm) → Arrived g at ops arms n → Follows g n at ops arms
-  moves : (at : ℕ) (ops : List ℤ) (arms : List Arm) (i : Instr) (line to : ℕ) (left : List ℤ) (more : List Arm) → IsAt g at i line → CanPerform g i ops → effect_of g i at ops arms ≡ onward to left more → at < to → length left ≤ g.room → length more ≤ g.arms → Follows g n to left more → Follows g n at ops arms
+  moves : (at : ℕ) (ops : List ℤ) (arms : List Arm) (i : Instr) (line to : ℕ) (left : List ℤ) (more : List Arm) → IsAt g at i line → CanPerform g i ops →
+      effect_of g i at ops arms ≡ onward to left more → at < to → length left ≤ g.room → length more ≤ g.arms →
+      Follows g n to left more → Follows g n at ops arms
 
 -- a process is at this address of a block, with these operands and alternatives, where this is still to do
 abbrev pub DoesIn : Setting → Block → ℕ → List ℤ → List Arm → Doing → Type 0

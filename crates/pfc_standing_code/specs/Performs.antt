@@ -165,7 +165,8 @@ AreOpen g s held (o ∷ os) [] behind = ⊥
 AreOpen g s held (o ∷ os) (arm ∷ arms) behind = IsOpen g s held o o.offer arm behind × AreOpen g s held os arms behind
 
 -- The alternatives that were found open, and those that are still to be gone through.
-pub record SelectAt (g : Setting) (s : Site) (x : Context) (at held : ℕ) (alts : List Alternative) (sel : Selecting) (arms : List Arm) (behind : ℕ → Type 0) : Type 0 where
+pub record SelectAt (g : Setting) (s : Site) (x : Context) (at held : ℕ) (alts : List Alternative) (sel : Selecting)
+    (arms : List Arm) (behind : ℕ → Type 0) : Type 0 where
   pub left : AlternativesAt g s x at held alts sel behind
   pub open_ones : AreOpen g s held sel.offered arms behind
   pub room : length arms + length alts ≤ g.arms
@@ -175,7 +176,8 @@ pub record SelectAt (g : Setting) (s : Site) (x : Context) (at held : ℕ) (alts
 
 -- What an open alternative waits for is evaluated here, over so many operands; its branch begins so many instructions behind the code, over those
 -- that are held without it. There is room for it among the alternatives.
-pub record CommAt (g : Setting) (s : Site) (x : Context) (at above held : ℕ) (a : Alternative) (rest : List Alternative) (sel : Selecting) (arms : List Arm) (code : ℕ → Code) (behind : ℕ → Type 0) : Type 0 where
+pub record CommAt (g : Setting) (s : Site) (x : Context) (at above held : ℕ) (a : Alternative) (rest : List Alternative) (sel : Selecting) (arms : List Arm)
+    (code : ℕ → Code) (behind : ℕ → Type 0) : Type 0 where
   pub comm : IsComm s a.comm
   pub between : ℕ
   pub n : ℕ

@@ -31,7 +31,8 @@ pub record IsSound (forms : Forms) : Type 0 where
   pub simple_cells : (t : TypeId) → is_simple t ≡ true → cells_in forms t ≡ 1
   pub simple_form : (t : TypeId) → is_simple t ≡ true → form_of forms t ≡ None
   -- arrays and records take the cells of their parts
-  pub array_cells : (t over element : TypeId) (low high : ℤ) → form_of forms t ≡ Some (Array over low high element) → cells_in forms t ≡ extent low high * cells_in forms element
+  pub array_cells : (t over element : TypeId) (low high : ℤ) → form_of forms t ≡ Some (Array over low high element) →
+      cells_in forms t ≡ extent low high * cells_in forms element
   pub record_cells : (t : TypeId) (fields : FieldList) → form_of forms t ≡ Some (Record fields) → cells_in forms t ≡ fields_before forms fields (length fields)
   -- an index is of a simple type, and the low bound is not above the high one
   pub bounds : (t : TypeId) (form : TypeForm) → form_of forms t ≡ Some form → has_bounds form ≡ true
@@ -42,8 +43,10 @@ pub record IsSound (forms : Forms) : Type 0 where
 mutual
   pub data IsOf (forms : Forms) : TypeId → Value → Type 0 where
     is_number : (t : TypeId) (n : ℤ) → is_simple t ≡ true → IsOf forms t (ordinal n)
-    is_array : (t over element : TypeId) (low high : ℤ) (vs : Values) → form_of forms t ≡ Some (Array over low high element) → AreOf forms (extent low high) element vs → IsOf forms t (compound vs)
-    is_record : (t : TypeId) (fields : FieldList) (vs : Values) → form_of forms t ≡ Some (Record fields) → AreFieldsOf forms fields vs → IsOf forms t (compound vs)
+    is_array : (t over element : TypeId) (low high : ℤ) (vs : Values) → form_of forms t ≡ Some (Array over low high element) →
+        AreOf forms (extent low high) element vs → IsOf forms t (compound vs)
+    is_record : (t : TypeId) (fields : FieldList) (vs : Values) → form_of forms t ≡ Some (Record fields) →
+        AreFieldsOf forms fields vs → IsOf forms t (compound vs)
 
   -- so many values of one type
   pub data AreOf (forms : Forms) : ℕ → TypeId → Values → Type 0 where
@@ -53,7 +56,8 @@ mutual
   -- one value for each field
   pub data AreFieldsOf (forms : Forms) : FieldList → Values → Type 0 where
     no_field : AreFieldsOf forms [] no_values
-    one_field : (f : Text × TypeId) (fields : FieldList) (v : Value) (vs : Values) → IsOf forms f.1 v → AreFieldsOf forms fields vs → AreFieldsOf forms (f ∷ fields) (more_values v vs)
+    one_field : (f : Text × TypeId) (fields : FieldList) (v : Value) (vs : Values) → IsOf forms f.1 v → AreFieldsOf forms fields vs →
+        AreFieldsOf forms (f ∷ fields) (more_values v vs)
 
 -- a value that is awaited in a shape
 abbrev pub IsShaped : Forms → Shape → Value → Type 0

@@ -78,9 +78,11 @@ pub record IsChecked (g : Setting) (b : Block) (env : Env) : Type 0 where
   pub known : AreKnown g.program b g.accepts env
   -- the cells of variables in view are there, and their addresses are addresses
   pub seen : (v : Spot) (t : Option TypeId) → IsDeclaredAt (names_at g b env) v t → IsInView g.view (names_at g b env) v
-  pub placed : (v : Spot) (t : Option TypeId) → IsDeclaredAt (names_at g b env) v t → first_word g.view (names_at g b env) v + type_cells g.program.state.forms t < 2 ^ 42
+  pub placed : (v : Spot) (t : Option TypeId) → IsDeclaredAt (names_at g b env) v t →
+      first_word g.view (names_at g b env) v + type_cells g.program.state.forms t < 2 ^ 42
   -- an object has a number
-  pub objects : (v : Spot) (t : Option TypeId) (w : ℤ) → IsWordAt g.view (names_at g b env) v t w → is_object_type g.program.state.forms t ≡ true → (n : ℤ) × (g.number w ≡ Some n)
+  pub objects : (v : Spot) (t : Option TypeId) (w : ℤ) → IsWordAt g.view (names_at g b env) v t w →
+      is_object_type g.program.state.forms t ≡ true → (n : ℤ) × (g.number w ≡ Some n)
   -- the types and blocks that are known there are the program's
   pub state : env.state ≡ g.program.state
   -- the block is the one at hand, or one beside it

@@ -59,7 +59,8 @@ module _ (g : Setting) (k : CodeBlock) (room : length g.under + k.operands ≤ g
         ),
       )
 
-  pub main_performs : (b : Block) (env : Env) → g.trial ≡ of_own → g.meetings ≡ [] → IsMains g b → IsOfBlock g g.program.main k → MainStands g k → AreReady g g.program.modules
+  pub main_performs : (b : Block) (env : Env) → g.trial ≡ of_own → g.meetings ≡ [] → IsMains g b → IsOfBlock g g.program.main k →
+      MainStands g k → AreReady g g.program.modules
       → IsReady g g.program.main → Performs g b env k.entry g.under [] (main_remainder g.program)
   main_performs b env alone none own of_block has inits main =
       initials_perform alone g.program.modules (in_names g.program.main.env (body_of g.program.main)) b env k.entry

@@ -105,5 +105,6 @@ is_above (Some after) ticket = nat_lt after ticket
 
 -- the ticket of a process that is barred at some procedure of the resource, above a ticket
 abbrev pub ticket_barred : ℕ → Option ℕ → Stand → Option ℕ
-ticket_barred resource after (Waits (Barred where_barred procedure) ticket arms) = if (where_barred == resource) && is_above after ticket then Some ticket else None
+ticket_barred resource after (Waits (Barred where_barred procedure) ticket arms) =
+    if (where_barred == resource) && is_above after ticket then Some ticket else None
 ticket_barred resource after _ = None

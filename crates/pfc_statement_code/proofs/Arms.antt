@@ -283,7 +283,15 @@ module _ (s : Site) (e : Code) (arms : ArmTrees) (x y : Made) (first : ℕ) wher
 
   front_length : IsMade (e ⨾ open_tests s arms ⨾ one s CERR) x y → length y.code ≡ first + label_count arms + 1 → first ≡ length front
   front_length made last =
-      omega (arith, last, ap length (front_split made), length-append front (tests_open s arms ++ fault), length-append (tests_open s arms) fault, length-tests_open s arms)
+      omega (
+        arith,
+        last,
+        ap length (front_split made),
+        length-append front (tests_open s arms ++ fault),
+        length-append
+            (tests_open s arms) fault,
+        length-tests_open s arms,
+      )
 
   pub tests_made :
       (i : ℕ) → IsMade (e ⨾ open_tests s arms ⨾ one s CERR) x y → length y.code ≡ first + label_count arms + 1
@@ -329,8 +337,12 @@ pub arms_through :
     (h : ℕ) (f : Lined → Lined) (s : Site) (i : ℕ) (arms : ArmTrees) (x z : Made) → IsPatching h f → h ≤ length x.code → ArmsMade s i arms x z
     → ArmsMade s i arms (through f x) (through f z)
 arms_through h f s i no_arms x z is fits same = ap (λ (m : Made). through f m) same
-arms_through h f s i (more_arms (arm ls t) arms) x z is fits (y, first, rest) =
-    (through f y, made_through h f (stmt_code s i t ⨾ one s (JMP 0)) x y is fits first, arms_through h f s (i + arm_scopes (arm ls t)) arms y z is (omega (arith, fits, first.size)) rest)
+arms_through h f s i (more_arms (arm ls t) arms) x z is fits (y, first, rest) = (
+  through f y,
+  made_through h f (stmt_code s i t ⨾ one s (JMP 0)) x y is fits first,
+  arms_through h f s (i + arm_scopes (arm ls t)) arms y z is
+      (omega (arith, fits, first.size)) rest,
+)
 
 -- the jumps behind them have an address
 pub arms_have :
@@ -358,7 +370,8 @@ arms_led s i (more_arms (arm ls b) arms) x z t (y, first, rest) is =
     let same : length (patched y.code end t) ≡ end + 1 = length-patched y.code end t ∙ next in
     let leap : IsMade (inner ⨾ over s JMP others.size) x (led y end t) =
     made_over s inner JMP t others.size x (led y end t) (last_led s inner (JMP 0) (JMP t) x y end t first next refl) (omega (arith, is, same)) in
-    let behind = arms_through (length y.code) (λ l. patched l end t) s j arms y z (patching_one (length y.code) end t (omega (arith, next))) (omega arith) rest in
+    let behind = arms_through (length y.code) (λ l. patched l end t) s j arms y z
+    (patching_one (length y.code) end t (omega (arith, next))) (omega arith) rest in
     let whole = arms_led s j arms (led y end t) (led z end t) t behind (omega (arith, is, same)) in
     made_left inner (over s JMP others.size) others x (through (λ l. all_led l (ends_of s j arms (end + 1)) t) (led z end t))
     (made_both (inner ⨾ over s JMP others.size) others x (led y end t) (through (λ l. all_led l (ends_of s j arms (end + 1)) t) (led z end t)) leap

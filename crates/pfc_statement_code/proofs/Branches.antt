@@ -145,8 +145,12 @@ pub branches_through :
     (h : ℕ) (f : Lined → Lined) (s : Site) (i : ℕ) (alts : AltTrees) (x z : Made) → IsPatching h f → h ≤ length x.code → BranchesMade s i alts x z
     → BranchesMade s i alts (through f x) (through f z)
 branches_through h f s i no_alts x z is fits same = ap (λ (m : Made). through f m) same
-branches_through h f s i (more_alts a alts) x z is fits (y, first, rest) =
-    (through f y, made_through h f (open_branch s i a) x y is fits first, branches_through h f s (i + alt_scopes a) alts y z is (omega (arith, fits, first.size)) rest)
+branches_through h f s i (more_alts a alts) x z is fits (y, first, rest) = (
+  through f y,
+  made_through h f (open_branch s i a) x y is fits first,
+  branches_through h f s (i + alt_scopes a) alts y z is
+      (omega (arith, fits, first.size)) rest,
+)
 
 pub have_later : (x y : Made) (ats : List ℕ) → IsBehind x y → have_all x.code ats ≡ true → have_all y.code ats ≡ true
 have_later x y [] more has = refl

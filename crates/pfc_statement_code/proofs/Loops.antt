@@ -37,7 +37,8 @@ way_large a rest all start x way large = omega (arith, way.size, large)
 
 -- ## Arms, with the addresses of their beginnings and of the jumps behind them
 
-pub record ArmsGo (s : Site) (i : ℕ) (rest : ArmTrees) (x : Made) (starts ends : List ℕ) (j : ℕ) (all : ArmTrees) (y : Made) (starts' ends' : List ℕ) : Type 0 where
+pub record ArmsGo (s : Site) (i : ℕ) (rest : ArmTrees) (x : Made) (starts ends : List ℕ) (j : ℕ) (all : ArmTrees) (y : Made)
+    (starts' ends' : List ℕ) : Type 0 where
   pub made : (z : Made) → ArmsMade s i rest x z → ArmsMade s j all y z
   pub size : length x.code + (arms_code s i rest).size ≡ length y.code + (arms_code s j all).size
   pub starting : starts ++ starts_of s i rest (length x.code) ≡ starts' ++ starts_of s j all (length y.code)
@@ -47,7 +48,8 @@ pub record ArmsGo (s : Site) (i : ℕ) (rest : ArmTrees) (x : Made) (starts ends
 pub arms_begin : (s : Site) (i : ℕ) (all : ArmTrees) (x : Made) (starts ends : List ℕ) → ArmsGo s i all x starts ends i all x starts ends
 arms_begin s i all x starts ends = record { made = λ z m. m; size = refl; starting = refl; ending = refl; next = refl }
 
-module _ (s : Site) (i : ℕ) (ls : List Constant) (t : StmtTree) (rest : ArmTrees) (x : Made) (starts ends : List ℕ) (j : ℕ) (all : ArmTrees) (y : Made) (starts' ends' : List ℕ) where
+module _ (s : Site) (i : ℕ) (ls : List Constant) (t : StmtTree) (rest : ArmTrees) (x : Made) (starts ends : List ℕ) (j : ℕ) (all : ArmTrees)
+    (y : Made) (starts' ends' : List ℕ) where
   pub arms_next :
       (z : Made) (begun ended : List ℕ) (k : ℕ) → ArmsGo s i (more_arms (arm ls t) rest) x starts ends j all y starts' ends'
       → IsMade (stmt_code s i t ⨾ one s (JMP 0)) x z → begun ≡ starts ++ length x.code ∷ []
@@ -58,7 +60,8 @@ module _ (s : Site) (i : ℕ) (ls : List Constant) (t : StmtTree) (rest : ArmTre
       let next : length z.code ≡ length x.code + size + 1 = omega (arith, first.size) in
       record {
         made = subst (λ n. (w : Made) → ArmsMade s n rest z w → ArmsMade s j all y w) (sym scope) (λ w m. go.made w (z, first, m));
-        size = subst (λ n. length z.code + (arms_code s n rest).size ≡ length y.code + (arms_code s j all).size) (sym scope) (omega (arith, go.size, first.size));
+        size = subst (λ n. length z.code + (arms_code s n rest).size ≡ length y.code + (arms_code s j all).size)
+            (sym scope) (omega (arith, go.size, first.size));
         starting =
             ap₂ (λ (l : List ℕ) n. l ++ starts_of s n rest (length z.code)) start scope
             ∙ ap (λ n. (starts ++ length x.code ∷ []) ++ starts_of s (i + scopes_in t) rest n) next
@@ -77,7 +80,8 @@ module _ (s : Site) (i : ℕ) (ls : List Constant) (t : StmtTree) (rest : ArmTre
 
 -- ## Branches, with the same
 
-pub record BranchesGo (s : Site) (i : ℕ) (rest : AltTrees) (x : Made) (starts ends : List ℕ) (j : ℕ) (all : AltTrees) (y : Made) (starts' ends' : List ℕ) : Type 0 where
+pub record BranchesGo (s : Site) (i : ℕ) (rest : AltTrees) (x : Made) (starts ends : List ℕ) (j : ℕ) (all : AltTrees) (y : Made)
+    (starts' ends' : List ℕ) : Type 0 where
   pub made : (z : Made) → BranchesMade s i rest x z → BranchesMade s j all y z
   pub size : length x.code + (branches_code s i rest 0).size ≡ length y.code + (branches_code s j all 0).size
   pub starting : starts ++ branch_starts s i rest (length x.code) ≡ starts' ++ branch_starts s j all (length y.code)

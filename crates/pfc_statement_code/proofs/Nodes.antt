@@ -24,10 +24,12 @@ use Rattle.pfc_tree.specs.views.Stmts.{accept_step, alt_step, body_step, arm_ste
 pub arm_view-out : (a : CaseArm) → arm_view a ≡ arm a.labels.items (stmt_view a.stmt.value)
 arm_view-out a = fold_out-CaseArm CommTree StmtTree AcceptTree AltTree BodyTree ArmTree comm_step stmt_step accept_step alt_step body_step arm_step a
 
-pub alt_view-out : (a : Alt) → alt_view a ≡ alt (out-Alt a).spread (option_map expr_view (out-Alt a).guard) (comm_view (out-Alt a).comm) (stmts_view (out-Alt a).rest.items)
+pub alt_view-out : (a : Alt) → alt_view a ≡ alt (out-Alt a).spread (option_map expr_view (out-Alt a).guard)
+    (comm_view (out-Alt a).comm) (stmts_view (out-Alt a).rest.items)
 alt_view-out a = fold_out-Alt CommTree StmtTree AcceptTree AltTree BodyTree ArmTree comm_step stmt_step accept_step alt_step body_step arm_step a
 
-choice : (e : Expr) (then o : Box Stmt Global) (p : Place) → stmt_view (If e then (Some o) p) ≡ if_then_else (expr_view e) (stmt_view then.value) (stmt_view o.value) p
+choice : (e : Expr) (then o : Box Stmt Global) (p : Place) →
+    stmt_view (If e then (Some o) p) ≡ if_then_else (expr_view e) (stmt_view then.value) (stmt_view o.value) p
 unfolding tree.out-Stmt denote.Hole.Carrier.out
 choice e then o p =
     fold_out-Stmt CommTree StmtTree AcceptTree AltTree BodyTree ArmTree comm_step stmt_step accept_step alt_step body_step arm_step (If e then (Some o) p)

@@ -34,7 +34,8 @@ pub(crate) struct ForHead {
 impl ForHead {
     /// The `for` at `place` with the statement that it repeats.
     pub(crate) fn repeating(self, repeated: Box<Stmt>, place: Place) -> Stmt
-        ensures { stmt_view result ≡ for_do self.variable.0 (expr_view self.from) self.down (expr_view self.to) (stmt_view repeated.value) place self.variable.1 }
+        ensures { stmt_view result ≡ for_do self.variable.0 (expr_view self.from) self.down (expr_view self.to)
+            (stmt_view repeated.value) place self.variable.1 }
     {
         let (name, at) = self.variable;
         Stmt::For(name, self.from, self.down, self.to, repeated, place, at)
@@ -179,7 +180,8 @@ pub(crate) fn for_head(
     tokens: &[Token],
     alloc: Global,
 ) -> Result<(ForHead, &[Token]), Halt>
-    ensures gives { Gives (λ r. ((r.0.variable, expr_view r.0.from, r.0.down, expr_view r.0.to), r.1.now)) result (reader.for_head (expr_at levels) tokens.now) }
+    ensures gives { Gives (λ r. ((r.0.variable, expr_view r.0.from, r.0.down, expr_view r.0.to), r.1.now)) result
+        (reader.for_head (expr_at levels) tokens.now) }
     ensures kept { IfOk result (λ r. length r.1.now ≤ length tokens.now) }
 {
     let (variable, rest) = expect_name(tokens, alloc)?;

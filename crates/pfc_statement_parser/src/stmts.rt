@@ -138,7 +138,8 @@ fn stmts_onto(
     tokens: &[Token],
     alloc: Global,
 ) -> Result<(Vec<Stmt>, &[Token]), Halt>
-    ensures gives { Gives (λ r. (map stmt_view r.0.items, r.1.now)) result (many_onto (map stmt_view stmts.items) (as_sign SEMICOLON) (λ t. reader.stmt_at levels) tokens.now) }
+    ensures gives { Gives (λ r. (map stmt_view r.0.items, r.1.now)) result (many_onto (map stmt_view stmts.items) (as_sign SEMICOLON)
+        (λ t. reader.stmt_at levels) tokens.now) }
     ensures kept { IfOk result (λ r. length r.1.now ≤ length tokens.now) }
 {
     let mut rest = tokens;
@@ -209,7 +210,8 @@ fn arms_behind(
     tokens: &[Token],
     alloc: Global,
 ) -> Result<((Vec<CaseArm>, bool), &[Token]), Halt>
-    ensures gives { Gives (λ r. ((map arm_view r.0.0.items, r.0.1), r.1.now)) result (end_onto (arm_view first ∷ []) (as_sign SEMICOLON) (is_word END) (reader.arm_with (reader.stmt_at levels)) tokens.now) }
+    ensures gives { Gives (λ r. ((map arm_view r.0.0.items, r.0.1), r.1.now)) result (end_onto (arm_view first ∷ []) (as_sign SEMICOLON) (is_word END)
+        (reader.arm_with (reader.stmt_at levels)) tokens.now) }
     ensures kept { IfOk result (λ r. length r.1.now ≤ length tokens.now) }
 {
     let mut arms = Vec::new(alloc);
@@ -388,7 +390,8 @@ fn alts_behind(
     tokens: &[Token],
     alloc: Global,
 ) -> Result<(Vec<Alt>, &[Token]), Halt>
-    ensures gives { Gives (λ r. (map alt_view r.0.items, r.1.now)) result (many_onto (alt_view first ∷ []) (as_word OR) (λ t. reader.alt_with (expr_at levels) (reader.stmt_at levels)) tokens.now) }
+    ensures gives { Gives (λ r. (map alt_view r.0.items, r.1.now)) result (many_onto (alt_view first ∷ []) (as_word OR)
+        (λ t. reader.alt_with (expr_at levels) (reader.stmt_at levels)) tokens.now) }
     ensures kept { IfOk result (λ r. length r.1.now ≤ length tokens.now) }
 {
     let mut alts = Vec::new(alloc);

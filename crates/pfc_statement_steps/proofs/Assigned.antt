@@ -14,7 +14,8 @@ use Rattle.pfc_semantics.specs.Rewriting.{from_value}
 use Rattle.pfc_semantics.specs.Statements.{from_assign}
 
 desig_view-out : (d : Desig) → desig_view d ≡ desig (out-Desig d).name (selectors_view (out-Desig d).selectors.items) (out-Desig d).place
-desig_view-out d = fold_out-Desig FactorTree SelectorTree ActualTree DesigTree ExprTree SimpleTree TermTree factor_step selector_step actual_step desig_step expr_step simple_step term_step d
+desig_view-out d = fold_out-Desig FactorTree SelectorTree ActualTree DesigTree ExprTree SimpleTree TermTree factor_step selector_step actual_step
+    desig_step expr_step simple_step term_step d
 
 named :
     (c : Context) (x : Text) (us : List Selector) (p : Place) (e : ExprTree) (k : Remainder)

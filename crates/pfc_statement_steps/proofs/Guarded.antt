@@ -11,4 +11,5 @@ pub own_here :
     → below ≡ in_names names k
     → from_expr b.context b.test (pass_own b below) (from_value b.context (pass_own b below)) ≡ from_remainder env (try_guard b below)
 own_here env names b k below is =
-    subst (λ (x : Remainder). from_expr b.context b.test (pass_own b x) (from_value b.context (pass_own b x)) ≡ from_remainder env (try_guard b x)) (sym is) (own_step env names b k)
+    subst (λ (x : Remainder). from_expr b.context b.test (pass_own b x) (from_value b.context (pass_own b x)) ≡ from_remainder env
+    (try_guard b x)) (sym is) (own_step env names b k)

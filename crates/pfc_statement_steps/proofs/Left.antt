@@ -20,8 +20,10 @@ behind_all (s ∷ ss) (suc i) less = behind_all ss i (omega (arith, less))
 
 pub ruleset nodes = (at_place, behind_all)
 
-first_stmt : (ss : List Stmt) (i : ℕ) (s : Stmt) → i < length ss → stmts_view (drop i ss) ≡ more_stmts (get_or (map stmt_view ss) i empty) (stmts_view (drop (i + 1) ss))
-first_stmt ss i s less = ap stmts_view (one_more ss i s less) ∙ ap (λ x. more_stmts x (stmts_view (drop (i + 1) ss))) (sym (get_or-map stmt_view ss i s empty less))
+first_stmt : (ss : List Stmt) (i : ℕ) (s : Stmt) → i < length ss →
+    stmts_view (drop i ss) ≡ more_stmts (get_or (map stmt_view ss) i empty) (stmts_view (drop (i + 1) ss))
+first_stmt ss i s less = ap stmts_view (one_more ss i s less) ∙
+    ap (λ x. more_stmts x (stmts_view (drop (i + 1) ss))) (sym (get_or-map stmt_view ss i s empty less))
 
 behind_more : (m : ℕ) (k : Remainder) (rest : StmtTrees) (s : StmtTree) (ss : StmtTrees) → rest ≡ more_stmts s ss → perform m rest k ≡ behind m rest k
 behind_more m k rest s ss is = ap (λ r. perform m r k) is ∙ sym (ap (λ r. behind m r k) is)
@@ -43,7 +45,8 @@ stmts_last c n ss i s k go less last is =
 pub stmts_more :
     (c : Context) (n m : ℕ) (ss : List Stmt) (i : ℕ) (s : Stmt) (k : Remainder) (go : Action)
     → i + 1 < length ss → s ≡ get_or ss i s → m ≡ n + scopes_in (stmt_view s)
-    → from_stmt c.env n (get_or (map stmt_view ss) i empty) (perform m (stmts_view (drop (i + 1) ss)) k) (from_stmts c.env m (stmts_view (drop (i + 1) ss)) k go)
+    → from_stmt c.env n (get_or (map stmt_view ss) i empty) (perform m (stmts_view (drop (i + 1) ss)) k)
+    (from_stmts c.env m (stmts_view (drop (i + 1) ss)) k go)
     ≡ from_stmts c.env n (stmts_view (drop i ss)) k go
 stmts_more c n m ss i s k go less is count =
     let x = get_or (map stmt_view ss) i empty in

@@ -31,20 +31,25 @@ use Rattle.pfc_pending.specs.Waiting.{choose_of, choose_arm_of, while_true_of, u
 pub if_step :
     (env : Env) (n : ℕ) (st : StmtTree) (e : ExprTree) (first : StmtTree) (other : Option (Box StmtTree Global)) (p : Place) (k : Remainder)
     → st ≡ if_of e first other p
-    → from_expr (context env p.line) e (choose_of n st k) (from_value (context env p.line) (choose_of n st k)) ≡ from_stmt env n (if_of e first other p) k (from_remainder env k)
+    → from_expr (context env p.line) e (choose_of n st k) (from_value (context env p.line) (choose_of n st k)) ≡ from_stmt env n
+    (if_of e first other p) k (from_remainder env k)
 if_step env n st e first None p k is = ap (λ x. from_expr (context env p.line) e (choose_of n x k) (from_value (context env p.line) (choose_of n x k))) is
-if_step env n st e first (Some other) p k is = ap (λ x. from_expr (context env p.line) e (choose_of n x k) (from_value (context env p.line) (choose_of n x k))) is
+if_step env n st e first (Some other) p k is =
+    ap (λ x. from_expr (context env p.line) e (choose_of n x k) (from_value (context env p.line) (choose_of n x k))) is
 
 pub case_step :
     (env : Env) (n : ℕ) (st : StmtTree) (e : ExprTree) (arms : ArmTrees) (last : Bool) (p : Place) (k : Remainder)
     → st ≡ case_of e arms last p
-    → from_expr (context env p.line) e (choose_arm_of n st k) (from_value (context env p.line) (choose_arm_of n st k)) ≡ from_stmt env n (case_of e arms last p) k (from_remainder env k)
-case_step env n st e arms last p k is = ap (λ x. from_expr (context env p.line) e (choose_arm_of n x k) (from_value (context env p.line) (choose_arm_of n x k))) is
+    → from_expr (context env p.line) e (choose_arm_of n st k) (from_value (context env p.line) (choose_arm_of n st k)) ≡ from_stmt env n
+    (case_of e arms last p) k (from_remainder env k)
+case_step env n st e arms last p k is =
+    ap (λ x. from_expr (context env p.line) e (choose_arm_of n x k) (from_value (context env p.line) (choose_arm_of n x k))) is
 
 pub while_step :
     (env : Env) (n : ℕ) (st : StmtTree) (e : ExprTree) (pass : StmtTree) (p : Place) (k : Remainder)
     → st ≡ while_do e pass p
-    → from_expr (context env p.line) e (while_true_of n st k) (from_value (context env p.line) (while_true_of n st k)) ≡ from_stmt env n (while_do e pass p) k (from_remainder env k)
+    → from_expr (context env p.line) e (while_true_of n st k) (from_value (context env p.line) (while_true_of n st k)) ≡ from_stmt env n
+    (while_do e pass p) k (from_remainder env k)
 while_step env n st e pass p k is = ap (λ x. from_expr (context env p.line) e (while_true_of n x k) (from_value (context env p.line) (while_true_of n x k))) is
 
 pub until_step :
@@ -64,10 +69,12 @@ pub ruleset tests = (if_step, case_step, while_step, until_step, forever_step)
 pub for_step :
     (env : Env) (n : ℕ) (st : StmtTree) (x : Text) (a : ExprTree) (down : Bool) (b : ExprTree) (pass : StmtTree) (p q : Place) (k : Remainder) (r : TypedSpot)
     → r ≡ spot_of env (find env x) → st ≡ for_do x a down b pass p q
-    → from_expr (context env p.line) a (count_from_of n st (by_reference r.spot) k) (from_value (context env p.line) (count_from_of n st (by_reference r.spot) k))
+    → from_expr (context env p.line) a (count_from_of n st (by_reference r.spot) k)
+    (from_value (context env p.line) (count_from_of n st (by_reference r.spot) k))
     ≡ from_stmt env n (for_do x a down b pass p q) k (from_remainder env k)
 for_step env n st x a down b pass p q k r at is =
-    ap₂ (λ (y : StmtTree) (s : TypedSpot). from_expr (context env p.line) a (count_from_of n y (by_reference s.spot) k) (from_value (context env p.line) (count_from_of n y (by_reference s.spot) k))) is at
+    ap₂ (λ (y : StmtTree) (s : TypedSpot). from_expr (context env p.line) a (count_from_of n y (by_reference s.spot) k)
+    (from_value (context env p.line) (count_from_of n y (by_reference s.spot) k))) is at
 
 pub ruleset counting = for_step
 
@@ -96,7 +103,8 @@ pub ruleset output = (plain_shown, plain_string, wide_shown, wide_string)
 -- ## Input
 
 pub read_first :
-    (c : Context) (args : ActualTrees) (a : ActualTree) (rest : ActualTrees) (skip : Bool) (k : Remainder) (go : Action) (e : ExprTree) (d : DesigTree) (t : Option TypeId)
+    (c : Context) (args : ActualTrees) (a : ActualTree) (rest : ActualTrees) (skip : Bool) (k : Remainder) (go : Action)
+    (e : ExprTree) (d : DesigTree) (t : Option TypeId)
     → args ≡ more_actuals a rest → e ≡ item_of a → Some d ≡ as_desig e → t ≡ desig_type c.env d
     → from_desig c d (input_to t (read_on c.line rest skip k)) (from_location c (input_to t (read_on c.line rest skip k))) ≡ from_reads c args skip k go
 read_first c args a rest skip k go e d t is item some type =
@@ -116,13 +124,16 @@ pub ruleset input = (read_first, read_none)
 
 -- ## Predeclared procedures
 
-pub wait_step : (c : Context) (args : ActualTrees) (k : Remainder) (go : Action) → from_reference c args (wait_at k) (from_location c (wait_at k)) ≡ from_procedure c wait args k go
+pub wait_step : (c : Context) (args : ActualTrees) (k : Remainder) (go : Action) →
+    from_reference c args (wait_at k) (from_location c (wait_at k)) ≡ from_procedure c wait args k go
 wait_step c args k go = refl
 
-pub signal_step : (c : Context) (args : ActualTrees) (k : Remainder) (go : Action) → from_reference c args (signal_at k) (from_location c (signal_at k)) ≡ from_procedure c signal args k go
+pub signal_step : (c : Context) (args : ActualTrees) (k : Remainder) (go : Action) →
+    from_reference c args (signal_at k) (from_location c (signal_at k)) ≡ from_procedure c signal args k go
 signal_step c args k go = refl
 
-pub resume_step : (c : Context) (args : ActualTrees) (k : Remainder) (go : Action) → from_reference c args (resume_at k) (from_location c (resume_at k)) ≡ from_procedure c resume args k go
+pub resume_step : (c : Context) (args : ActualTrees) (k : Remainder) (go : Action) →
+    from_reference c args (resume_at k) (from_location c (resume_at k)) ≡ from_procedure c resume args k go
 resume_step c args k go = refl
 
 pub delay_step :
@@ -130,7 +141,8 @@ pub delay_step :
     → rank ≡ expr_of (behind_first args) → from_reference c args (delay_at rank k) (from_location c (delay_at rank k)) ≡ from_procedure c delay args k go
 delay_step c args k go rank is = ap (λ r. from_reference c args (delay_at r k) (from_location c (delay_at r k))) is
 
-pub sleep_step : (c : Context) (args : ActualTrees) (k : Remainder) (go : Action) → from_argument c args (sleep_for k) (from_value c (sleep_for k)) ≡ from_procedure c sleep args k go
+pub sleep_step : (c : Context) (args : ActualTrees) (k : Remainder) (go : Action) →
+    from_argument c args (sleep_for k) (from_value c (sleep_for k)) ≡ from_procedure c sleep args k go
 sleep_step c args k go = refl
 
 pub initial_step :
@@ -138,7 +150,8 @@ pub initial_step :
     → Some e ≡ count → from_reference c args (initial_to e k) (from_location c (initial_to e k)) ≡ from_initial c args k count go
 initial_step c args k go e count some = ap (λ x. from_initial c args k x go) some
 
-pub initial_none : (c : Context) (args : ActualTrees) (k : Remainder) (go : Action) (count : Option ExprTree) → None ≡ count → go ≡ from_initial c args k count go
+pub initial_none : (c : Context) (args : ActualTrees) (k : Remainder) (go : Action) (count : Option ExprTree) →
+    None ≡ count → go ≡ from_initial c args k count go
 initial_none c args k go count none = ap (λ x. from_initial c args k x go) none
 
 pub ruleset arguments = first_given
@@ -156,12 +169,14 @@ pub ruleset kinds = assign_step
 
 pub activate_step :
     (c : Context) (s : TypedSpot) (ss : SelectorTrees) (formals others : List Formal) (args : ActualTrees) (k : Remainder)
-    → formals ≡ others → from_selectors c s ss (activate_with formals args k) (from_location c (activate_with formals args k)) ≡ from_activation c s ss others args k
+    → formals ≡ others → from_selectors c s ss (activate_with formals args k)
+    (from_location c (activate_with formals args k)) ≡ from_activation c s ss others args k
 activate_step c s ss formals others args k is = ap (λ f. from_activation c s ss f args k) is
 
 pub enter_step :
     (c : Context) (s : TypedSpot) (ss : SelectorTrees) (entry : ℕ) (formals others : List Formal) (args : ActualTrees) (k : Remainder)
-    → formals ≡ others → from_selectors c s ss (enter_with entry formals args k) (from_location c (enter_with entry formals args k)) ≡ from_entry_call c s ss entry others args k
+    → formals ≡ others → from_selectors c s ss (enter_with entry formals args k) (from_location c (enter_with entry formals args k)) ≡
+    from_entry_call c s ss entry others args k
 enter_step c s ss entry formals others args k is = ap (λ f. from_entry_call c s ss entry f args k) is
 
 pub ruleset calls = (activate_step, enter_step)
@@ -196,14 +211,16 @@ either_way false a = refl
 
 -- the first bound of a `for` has its value: the second is evaluated
 pub bound_step :
-    (c : Context) (n : ℕ) (st : StmtTree) (x : Text) (a : ExprTree) (down : Bool) (b : ExprTree) (pass : StmtTree) (p q : Place) (at : Spot) (from : ℤ) (v : Value) (k : Remainder)
+    (c : Context) (n : ℕ) (st : StmtTree) (x : Text) (a : ExprTree) (down : Bool) (b : ExprTree) (pass : StmtTree) (p q : Place)
+    (at : Spot) (from : ℤ) (v : Value) (k : Remainder)
     → for_do x a down b pass p q ≡ st → from ≡ ordinal_of v
     → from_expr c b (count_to_of n st (by_reference at) from k) (from_value c (count_to_of n st (by_reference at) from k))
     ≡ from_value c (count_from_of n st (by_reference at) k) v
 bound_step c n st x a down b pass p q at from v k is kept =
     let other : from_expr c b (count_to_of n st (by_reference at) from k) (from_value c (count_to_of n st (by_reference at) from k))
     ≡ from_value c (count_from_of n (for_do x a down b pass p q) (by_reference at) k) v =
-    ap₂ (λ (y : StmtTree) (m : ℤ). from_expr c b (count_to_of n y (by_reference at) m k) (from_value c (count_to_of n y (by_reference at) m k))) (sym is) kept in
+    ap₂ (λ (y : StmtTree) (m : ℤ). from_expr c b (count_to_of n y (by_reference at) m k) (from_value c (count_to_of n y (by_reference at) m k)))
+    (sym is) kept in
     other ∙ ap (λ (y : StmtTree). from_value c (count_from_of n y (by_reference at) k) v) is
 
 pub ruleset points = (either_way, bound_step)

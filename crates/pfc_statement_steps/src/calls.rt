@@ -26,7 +26,9 @@ use pfc_typing::selected_type;
 
 /// A call statement.
 pub(crate) fn call<'t>(d: &'t Desig, args: &'t Vec<Actual>, site: Site<'t, '_>) -> Step<'t>
-    ensures { (t : Tables) (line : ℕ) (w : Waiting) → step_ahead t (context (env_view site.entry.env) line) w result ≡ statements.from_call (context (env_view site.entry.env) line) (desig_view d.now) (actuals_view args.now.items) (remainder_of w) (on_rest (context (env_view site.entry.env) line) w) }
+    ensures { (t : Tables) (line : ℕ) (w : Waiting) → step_ahead t (context (env_view site.entry.env) line) w result ≡ statements.from_call
+        (context (env_view site.entry.env) line) (desig_view d.now) (actuals_view args.now.items) (remainder_of w)
+        (on_rest (context (env_view site.entry.env) line) w) }
 {
     let meaning = site.meaning(&d.name);
     called(meaning, site.spot(&d.name), &d.selectors, args, site)
@@ -40,7 +42,9 @@ fn called<'t>(
     args: &'t Vec<Actual>,
     site: Site<'t, '_>,
 ) -> Step<'t>
-    ensures { (t : Tables) (line : ℕ) (w : Waiting) → step_ahead t (context (env_view site.entry.env) line) w result ≡ statements.from_called (context (env_view site.entry.env) line) m (typed_spot_view spot) (selectors_view ss.now) (actuals_view args.now.items) (remainder_of w) (on_rest (context (env_view site.entry.env) line) w) }
+    ensures { (t : Tables) (line : ℕ) (w : Waiting) → step_ahead t (context (env_view site.entry.env) line) w result ≡ statements.from_called
+        (context (env_view site.entry.env) line) m (typed_spot_view spot) (selectors_view ss.now) (actuals_view args.now.items) (remainder_of w)
+        (on_rest (context (env_view site.entry.env) line) w) }
 {
     match m {
         Some(Meaning::Predeclared(k)) => procedure(procedure_of(k), args, site),
@@ -63,7 +67,9 @@ fn call_module<'t>(
     args: &'t Vec<Actual>,
     site: Site<'t, '_>,
 ) -> Step<'t>
-    ensures { (t : Tables) (line : ℕ) (w : Waiting) → step_ahead t (context (env_view site.entry.env) line) w result ≡ statements.from_module (context (env_view site.entry.env) line) n (last_field (selectors_view ss.now)) (actuals_view args.now.items) (remainder_of w) (on_rest (context (env_view site.entry.env) line) w) }
+    ensures { (t : Tables) (line : ℕ) (w : Waiting) → step_ahead t (context (env_view site.entry.env) line) w result ≡ statements.from_module
+        (context (env_view site.entry.env) line) n (last_field (selectors_view ss.now)) (actuals_view args.now.items) (remainder_of w)
+        (on_rest (context (env_view site.entry.env) line) w) }
 {
     match split_field(ss) {
         Some((_before, (name, _place))) => call_exported(n, name, args, site),
@@ -72,7 +78,10 @@ fn call_module<'t>(
 }
 
 fn call_exported<'t>(n: u32, name: &Name, args: &'t Vec<Actual>, site: Site<'t, '_>) -> Step<'t>
-    ensures { (t : Tables) (line : ℕ) (w : Waiting) → step_ahead t (context (env_view site.entry.env) line) w result ≡ statements.from_exported (context (env_view site.entry.env) line) n (scopes.meaning_in (scopes.scope_at site.entry.env.scopes.now.scopes (module_at site.entry.env.scopes.now n).scope) name.now) (actuals_view args.now.items) (remainder_of w) (on_rest (context (env_view site.entry.env) line) w) }
+    ensures { (t : Tables) (line : ℕ) (w : Waiting) → step_ahead t (context (env_view site.entry.env) line) w result ≡ statements.from_exported
+        (context (env_view site.entry.env) line) n
+        (scopes.meaning_in (scopes.scope_at site.entry.env.scopes.now.scopes (module_at site.entry.env.scopes.now n).scope) name.now)
+        (actuals_view args.now.items) (remainder_of w) (on_rest (context (env_view site.entry.env) line) w) }
 {
     let scopes = site.scopes();
     match member(scopes, scopes.module(n).scope, name) {
@@ -92,7 +101,9 @@ fn call_process<'t>(
     args: &'t Vec<Actual>,
     site: Site<'t, '_>,
 ) -> Step<'t>
-    ensures { (t : Tables) (line : ℕ) (w : Waiting) → step_ahead t (context (env_view site.entry.env) line) w result ≡ statements.from_called_process (context (env_view site.entry.env) line) n (typed_spot_view spot) (last_field (selectors_view ss.now)) (actuals_view args.now.items) (remainder_of w) (on_rest (context (env_view site.entry.env) line) w) }
+    ensures { (t : Tables) (line : ℕ) (w : Waiting) → step_ahead t (context (env_view site.entry.env) line) w result ≡ statements.from_called_process
+        (context (env_view site.entry.env) line) n (typed_spot_view spot) (last_field (selectors_view ss.now)) (actuals_view args.now.items) (remainder_of w)
+        (on_rest (context (env_view site.entry.env) line) w) }
 {
     match split_field(ss) {
         Some((_before, (name, _place))) => {
@@ -110,7 +121,9 @@ fn call_variable<'t>(
     args: &'t Vec<Actual>,
     site: Site<'t, '_>,
 ) -> Step<'t>
-    ensures { (t : Tables) (line : ℕ) (w : Waiting) → step_ahead t (context (env_view site.entry.env) line) w result ≡ statements.from_called_variable (context (env_view site.entry.env) line) (typed_spot_view spot) (selectors_view ss.now) (last_field (selectors_view ss.now)) (actuals_view args.now.items) (remainder_of w) (on_rest (context (env_view site.entry.env) line) w) }
+    ensures { (t : Tables) (line : ℕ) (w : Waiting) → step_ahead t (context (env_view site.entry.env) line) w result ≡ statements.from_called_variable
+        (context (env_view site.entry.env) line) (typed_spot_view spot) (selectors_view ss.now) (last_field (selectors_view ss.now))
+        (actuals_view args.now.items) (remainder_of w) (on_rest (context (env_view site.entry.env) line) w) }
 {
     let Some((before, (name, _place))) = split_field(ss) else {
         return activate_part(spot, ss, args, site)
@@ -131,7 +144,9 @@ fn activate_part<'t>(
     args: &'t Vec<Actual>,
     site: Site<'t, '_>,
 ) -> Step<'t>
-    ensures { (t : Tables) (line : ℕ) (w : Waiting) → step_ahead t (context (env_view site.entry.env) line) w result ≡ statements.from_called_variable (context (env_view site.entry.env) line) (typed_spot_view spot) (selectors_view ss.now) None (actuals_view args.now.items) (remainder_of w) (on_rest (context (env_view site.entry.env) line) w) }
+    ensures { (t : Tables) (line : ℕ) (w : Waiting) → step_ahead t (context (env_view site.entry.env) line) w result ≡ statements.from_called_variable
+        (context (env_view site.entry.env) line) (typed_spot_view spot) (selectors_view ss.now) None (actuals_view args.now.items) (remainder_of w)
+        (on_rest (context (env_view site.entry.env) line) w) }
 {
     match process_of_type(selected_type(ss, spot.t, site.env), site.env) {
         Some(n) => activate(n, spot, ss, args, site),
@@ -148,7 +163,9 @@ fn activate<'t>(
     args: &'t Vec<Actual>,
     site: Site<'t, '_>,
 ) -> Step<'t>
-    ensures { (t : Tables) (line : ℕ) (w : Waiting) → step_ahead t (context (env_view site.entry.env) line) w result ≡ statements.from_activation (context (env_view site.entry.env) line) (typed_spot_view spot) (selectors_view ss.now) (process_at site.entry.env.scopes.now n).formals (actuals_view args.now.items) (remainder_of w) }
+    ensures { (t : Tables) (line : ℕ) (w : Waiting) → step_ahead t (context (env_view site.entry.env) line) w result ≡ statements.from_activation
+        (context (env_view site.entry.env) line) (typed_spot_view spot) (selectors_view ss.now) (process_at site.entry.env.scopes.now n).formals
+        (actuals_view args.now.items) (remainder_of w) }
 {
     let formals = site.scopes().process_formals(n);
     Step::On(selected(spot, ss, Goal::ActivateWith(formals, all(args))))
@@ -164,7 +181,9 @@ fn call_entry<'t>(
     args: &'t Vec<Actual>,
     site: Site<'t, '_>,
 ) -> Step<'t>
-    ensures { (t : Tables) (line : ℕ) (w : Waiting) → step_ahead t (context (env_view site.entry.env) line) w result ≡ statements.from_entry (context (env_view site.entry.env) line) n (typed_spot_view spot) (selectors_view ss.now) m (actuals_view args.now.items) (remainder_of w) (on_rest (context (env_view site.entry.env) line) w) }
+    ensures { (t : Tables) (line : ℕ) (w : Waiting) → step_ahead t (context (env_view site.entry.env) line) w result ≡ statements.from_entry
+        (context (env_view site.entry.env) line) n (typed_spot_view spot) (selectors_view ss.now) m (actuals_view args.now.items) (remainder_of w)
+        (on_rest (context (env_view site.entry.env) line) w) }
 {
     match m {
         Some(Meaning::Entry(entry)) => {
@@ -177,7 +196,9 @@ fn call_entry<'t>(
 
 /// `requeue q (..)`: its arguments are evaluated first.
 pub(crate) fn requeue<'t>(name: &Name, args: &'t Vec<Actual>, site: Site<'t, '_>) -> Step<'t>
-    ensures { (t : Tables) (line : ℕ) (w : Waiting) → step_ahead t (context (env_view site.entry.env) line) w result ≡ statements.from_requeue (context (env_view site.entry.env) line) (scopes.meaning_of (find (env_view site.entry.env) name.now)) (actuals_view args.now.items) (on_rest (context (env_view site.entry.env) line) w) }
+    ensures { (t : Tables) (line : ℕ) (w : Waiting) → step_ahead t (context (env_view site.entry.env) line) w result ≡ statements.from_requeue
+        (context (env_view site.entry.env) line) (scopes.meaning_of (find (env_view site.entry.env) name.now)) (actuals_view args.now.items)
+        (on_rest (context (env_view site.entry.env) line) w) }
 {
     match site.meaning(name) {
         Some(Meaning::Sub(n)) => {

@@ -41,7 +41,8 @@ pub fn accepting<'t>(scope: u32, a: &'t Accept, line: u32, env: Env) -> Acceptin
 
 /// A plain accept with this line.
 pub(crate) fn accept<'t>(scope: u32, a: &'t Accept, line: u32, site: Site<'t, '_>) -> Step<'t>
-    ensures { (t : Tables) (w : Waiting) → step_ahead t (context (env_view site.entry.env) line) w result ≡ meets (context (env_view site.entry.env) line) (plain_open (to_accept (alternatives.accepting_of (context (env_view site.entry.env) line) scope (accept_view a.now) line))) (remainder_of w) }
+    ensures { (t : Tables) (w : Waiting) → step_ahead t (context (env_view site.entry.env) line) w result ≡ meets (context (env_view site.entry.env) line)
+        (plain_open (to_accept (alternatives.accepting_of (context (env_view site.entry.env) line) scope (accept_view a.now) line))) (remainder_of w) }
 {
     let accepting = accepting(scope, a, line, site.env);
     Step::On(At::Deed(Deed::Meets(Offer::Accept(accepting))))
@@ -50,7 +51,8 @@ pub(crate) fn accept<'t>(scope: u32, a: &'t Accept, line: u32, site: Site<'t, '_
 /// `c ! e`: the channel before the message.
 #[tactic(auto, using(crate::proofs::Rules::communication))]
 pub(crate) fn send<'t>(d: &'t Desig, e: &'t Expr, site: Site<'t, '_>) -> Step<'t>
-    ensures { (t : Tables) (line : ℕ) (w : Waiting) → step_ahead t (context (env_view site.entry.env) line) w result ≡ from_send (context (env_view site.entry.env) line) (desig_view d.now) (expr_view e.now) (remainder_of w) }
+    ensures { (t : Tables) (line : ℕ) (w : Waiting) → step_ahead t (context (env_view site.entry.env) line) w result ≡ from_send
+        (context (env_view site.entry.env) line) (desig_view d.now) (expr_view e.now) (remainder_of w) }
 {
     Step::On(part(d, Goal::SendTo(message_of(e, site.env)), site))
 }
@@ -58,7 +60,8 @@ pub(crate) fn send<'t>(d: &'t Desig, e: &'t Expr, site: Site<'t, '_>) -> Step<'t
 /// `c ? v`: the channel before the variable.
 #[tactic(auto, using(crate::proofs::Rules::communication))]
 pub(crate) fn receive<'t>(d: &'t Desig, v: &'t Desig, site: Site<'t, '_>) -> Step<'t>
-    ensures { (t : Tables) (line : ℕ) (w : Waiting) → step_ahead t (context (env_view site.entry.env) line) w result ≡ from_receive (context (env_view site.entry.env) line) (desig_view d.now) (desig_view v.now) (remainder_of w) }
+    ensures { (t : Tables) (line : ℕ) (w : Waiting) → step_ahead t (context (env_view site.entry.env) line) w result ≡ from_receive
+        (context (env_view site.entry.env) line) (desig_view d.now) (desig_view v.now) (remainder_of w) }
 {
     Step::On(part(d, Goal::ReceiveFrom(receiver_of(v, site.env)), site))
 }

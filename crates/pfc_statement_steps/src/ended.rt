@@ -32,7 +32,8 @@ fn here<'t>(line: u32, at: At<'t>) -> Resumed<'t>
 
 /// From here on these names are in view.
 fn in_names<'t>(names: &Names, alloc: Global) -> Result<Resumed<'t>, Memory>
-    ensures { IfOk result (λ r. (t : Tables) (env : Known) (w : Waiting) → resumed_ahead t env w r ≡ from_remainder env (remainders.in_names (names_view t names.now) (remainder_of w))) }
+    ensures { IfOk result (λ r. (t : Tables) (env : Known) (w : Waiting) →
+        resumed_ahead t env w r ≡ from_remainder env (remainders.in_names (names_view t names.now) (remainder_of w))) }
 {
     let names = names.copy(alloc)?;
     let begun = Begun {
@@ -47,7 +48,8 @@ fn in_names<'t>(names: &Names, alloc: Global) -> Result<Resumed<'t>, Memory>
 
 /// The write of a replicated alternative that was chosen.
 fn write_again<'t>(replica: Replica, alloc: Global) -> Resumed<'t>
-    ensures { (t : Tables) (env : Known) (w : Waiting) → resumed_ahead t env w result ≡ from_remainder env (remainders.write_again (replica_view replica) (remainder_of w)) }
+    ensures { (t : Tables) (env : Known) (w : Waiting) →
+        resumed_ahead t env w result ≡ from_remainder env (remainders.write_again (replica_view replica) (remainder_of w)) }
 {
     let spot = Spot {
         scope: replica.scope,
@@ -67,7 +69,8 @@ pub fn resume<'t>(
     alloc: Global,
 ) -> Result<Option<Resumed<'t>>, Memory>
     ensures taken { IfOk result (λ r. is_some r ≡ is_resumed pending.now) }
-    ensures value { IfOk result (λ r. IfSome r (λ resumed. (t : Tables) (env : Known) (w : Waiting) → resumed_ahead t env (under t w below.entry) resumed ≡ from_remainder env (remainder_of (over t (under t w below.entry) pending.now)))) }
+    ensures value { IfOk result (λ r. IfSome r (λ resumed. (t : Tables) (env : Known) (w : Waiting) →
+        resumed_ahead t env (under t w below.entry) resumed ≡ from_remainder env (remainder_of (over t (under t w below.entry) pending.now)))) }
 {
     match pending {
         Pending::Ends(line) => Ok(Some(here(*line, At::Deed(Deed::Finishes(*line))))),

@@ -22,7 +22,9 @@ use std::alloc::Global;
 
 /// The test of a guard, over what waits for it. The names in view in the guard are in view from there on.
 fn test<'t>(guard: &'t Guard<'t>, waits: Pending<'t>, alloc: Global) -> Result<Resumed<'t>, Memory>
-    ensures { IfOk result (λ r. (t : Tables) (env : Known) (w : Waiting) → resumed_ahead t env w r ≡ from_expr (guard_context t guard.now) (expr_view guard.now.test.now) (awaits_of (over t w waits.entry)) (from_value (guard_context t guard.now) (awaits_of (over t w waits.entry)))) }
+    ensures { IfOk result (λ r. (t : Tables) (env : Known) (w : Waiting) →
+        resumed_ahead t env w r ≡ from_expr (guard_context t guard.now) (expr_view guard.now.test.now) (awaits_of (over t w waits.entry))
+        (from_value (guard_context t guard.now) (awaits_of (over t w waits.entry)))) }
 {
     let names = guard.names.copy(alloc)?;
     let begun = Begun {
@@ -43,7 +45,9 @@ pub(crate) fn try_own<'t>(
     below: Option<&Pending<'t>>,
     alloc: Global,
 ) -> Result<Resumed<'t>, Memory>
-    ensures { IfOk result (λ r. (t : Tables) (env : Known) (w : Waiting) → resumed_ahead t env (under t w below.entry) r ≡ from_remainder env (remainders.try_guard (bar_view t bar.entry) (remainder_of (under t w below.entry)))) }
+    ensures { IfOk result (λ r. (t : Tables) (env : Known) (w : Waiting) →
+        resumed_ahead t env (under t w below.entry) r ≡ from_remainder env (remainders.try_guard (bar_view t bar.entry)
+        (remainder_of (under t w below.entry)))) }
 {
     match below {
         Some(Pending::InNames(_)) => test(bar.guard, Pending::PassOwn(bar), alloc),
@@ -57,7 +61,8 @@ pub(crate) fn try_other<'t>(
     scan: Scan<'t>,
     alloc: Global,
 ) -> Result<Resumed<'t>, Memory>
-    ensures { IfOk result (λ r. (t : Tables) (env : Known) (w : Waiting) → resumed_ahead t env w r ≡ from_remainder env (remainders.try_other (tried_view t tried.entry) (scan_view t scan.entry) (remainder_of w))) }
+    ensures { IfOk result (λ r. (t : Tables) (env : Known) (w : Waiting) →
+        resumed_ahead t env w r ≡ from_remainder env (remainders.try_other (tried_view t tried.entry) (scan_view t scan.entry) (remainder_of w))) }
 {
     test(tried.bar.guard, Pending::PassOther(tried, scan), alloc)
 }
@@ -74,7 +79,8 @@ fn on<'t>(line: u32, at: At<'t>) -> Begun<'t>
 
 /// The own guard has its value, on the line at hand: where it is false, the process is barred.
 fn pass_own<'t>(bar: Bar<'t>, v: &Value, line: u32) -> Begun<'t>
-    ensures { (t : Tables) (env : Known) (w : Waiting) → begun_ahead t env w result ≡ from_value (context env line) (remainders.pass_own (bar_view t bar.entry) (remainder_of w)) (value_view v.now) }
+    ensures { (t : Tables) (env : Known) (w : Waiting) →
+        begun_ahead t env w result ≡ from_value (context env line) (remainders.pass_own (bar_view t bar.entry) (remainder_of w)) (value_view v.now) }
 {
     if is_true(v.ordinal()) {
         on(line, At::Rest)
@@ -86,7 +92,9 @@ fn pass_own<'t>(bar: Bar<'t>, v: &Value, line: u32) -> Begun<'t>
 /// The guard of a barred process has its value, on the line at hand: where it is true, that process has the resource next; else the
 /// scan goes on past its ticket.
 fn pass_other<'t>(tried: Tried<'t>, scan: Scan<'t>, v: &Value, line: u32) -> Begun<'t>
-    ensures { (t : Tables) (env : Known) (w : Waiting) → begun_ahead t env w result ≡ from_value (context env line) (remainders.pass_other (tried_view t tried.entry) (scan_view t scan.entry) (remainder_of w)) (value_view v.now) }
+    ensures { (t : Tables) (env : Known) (w : Waiting) →
+        begun_ahead t env w result ≡ from_value (context env line) (remainders.pass_other (tried_view t tried.entry)
+        (scan_view t scan.entry) (remainder_of w)) (value_view v.now) }
 {
     if is_true(v.ordinal()) {
         return on(line, At::Deed(Deed::Passes(tried, scan)));
@@ -101,7 +109,8 @@ fn pass_other<'t>(tried: Tried<'t>, scan: Scan<'t>, v: &Value, line: u32) -> Beg
 /// A value has come for a guard of a resource, on the line at hand. None for what is no guard.
 pub fn arrive_guard<'t>(pending: &Pending<'t>, v: &Value, line: u32) -> Option<Begun<'t>>
     ensures guard { is_some result ≡ is_guard pending.now }
-    ensures value { IfSome result (λ begun. (t : Tables) (env : Known) (w : Waiting) → begun_ahead t env w begun ≡ from_value (context env line) (awaits_of (over t w pending.now)) (value_view v.now)) }
+    ensures value { IfSome result (λ begun. (t : Tables) (env : Known) (w : Waiting) →
+        begun_ahead t env w begun ≡ from_value (context env line) (awaits_of (over t w pending.now)) (value_view v.now)) }
 {
     match pending {
         Pending::PassOwn(bar) => Some(pass_own(*bar, v, line)),

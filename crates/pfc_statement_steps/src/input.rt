@@ -15,7 +15,8 @@ use pfc_typing::desig_type;
 /// The variables that are left of a `read` with this line; a `readln` skips the line behind them.
 #[tactic(auto, using(crate::proofs::Rules::input))]
 pub fn reads<'t>(args: Actuals<'t>, skip: bool, line: u32, site: Site<'t, '_>) -> Step<'t>
-    ensures { (t : Tables) (w : Waiting) → step_ahead t (context (env_view site.entry.env) line) w result ≡ ahead t (context (env_view site.entry.env) line) w (at.Reads args.entry skip) }
+    ensures { (t : Tables) (w : Waiting) → step_ahead t (context (env_view site.entry.env) line) w result ≡ ahead t
+        (context (env_view site.entry.env) line) w (at.Reads args.entry skip) }
 {
     match first(args) {
         Some((a, behind)) => match as_desig(expression(a)) {

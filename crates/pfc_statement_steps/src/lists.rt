@@ -32,7 +32,8 @@ pub(crate) fn node<'t>(s: OneStmt<'t>) -> Option<&'t Stmt>
 
 /// All statements of a list.
 pub(crate) fn list<'t>(n: u32, list: &'t Vec<Stmt>) -> At<'t>
-    ensures { (t : Tables) (c : Context) (w : Waiting) → ahead t c w result ≡ statements.from_stmts c.env n (stmts_view list.now.items) (remainder_of w) (on_rest c w) }
+    ensures { (t : Tables) (c : Context) (w : Waiting) →
+        ahead t c w result ≡ statements.from_stmts c.env n (stmts_view list.now.items) (remainder_of w) (on_rest c w) }
 {
     At::Stmts(n, Stmts { list, from: 0 })
 }
@@ -83,7 +84,8 @@ fn are_labels(env: Env, v: i64, labels: &[Constant]) -> bool
 
 /// The arm that has a value among its labels; fault 5 where none has. The next scope of the text has the number n.
 pub(crate) fn arm<'t>(n: u32, v: i64, arms: &'t [CaseArm], env: Env) -> Result<Step<'t>, Memory>
-    ensures { IfOk result (λ step. (t : Tables) (line : ℕ) (w : Waiting) → step_ahead t (context (env_view env.entry) line) w step ≡ statements.from_arms (context (env_view env.entry) line) n v (arms_view arms.now) (remainder_of w) (on_rest (context (env_view env.entry) line) w)) }
+    ensures { IfOk result (λ step. (t : Tables) (line : ℕ) (w : Waiting) → step_ahead t (context (env_view env.entry) line) w step ≡ statements.from_arms
+        (context (env_view env.entry) line) n v (arms_view arms.now) (remainder_of w) (on_rest (context (env_view env.entry) line) w)) }
 {
     let mut next = n;
     for arm in arms {

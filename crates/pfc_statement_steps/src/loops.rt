@@ -26,7 +26,9 @@ use pfc_tree::{Expr, Stmt};
 /// `if e then s else t`, or without the second: the test.
 #[tactic(auto, using(crate::proofs::Rules::tests))]
 pub(crate) fn begin_if<'t>(n: u32, s: OneStmt<'t>, e: &'t Expr, place: Place) -> Begun<'t>
-    ensures { (t : Tables) (env : Known) (w : Waiting) (first : StmtTree) (other : Option (Box StmtTree Heap)) → stmt_at s.entry ≡ if_of (expr_view e.now) first other place → begun_ahead t env w result ≡ from_stmt env n (if_of (expr_view e.now) first other place) (remainder_of w) (from_remainder env (remainder_of w)) }
+    ensures { (t : Tables) (env : Known) (w : Waiting) (first : StmtTree) (other : Option (Box StmtTree Heap)) →
+        stmt_at s.entry ≡ if_of (expr_view e.now) first other place → begun_ahead t env w result ≡ from_stmt env n (if_of (expr_view e.now) first other place)
+        (remainder_of w) (from_remainder env (remainder_of w)) }
 {
     Begun {
         line: place.line,
@@ -37,7 +39,8 @@ pub(crate) fn begin_if<'t>(n: u32, s: OneStmt<'t>, e: &'t Expr, place: Place) ->
 /// `case e of .. end`: the value.
 #[tactic(auto, using(crate::proofs::Rules::tests))]
 pub(crate) fn begin_case<'t>(n: u32, s: OneStmt<'t>, e: &'t Expr, place: Place) -> Begun<'t>
-    ensures { (t : Tables) (env : Known) (w : Waiting) (arms : ArmTrees) (last : Bool) → stmt_at s.entry ≡ trees.case_of (expr_view e.now) arms last place → begun_ahead t env w result ≡ from_stmt env n (trees.case_of (expr_view e.now) arms last place) (remainder_of w) (from_remainder env (remainder_of w)) }
+    ensures { (t : Tables) (env : Known) (w : Waiting) (arms : ArmTrees) (last : Bool) → stmt_at s.entry ≡ trees.case_of (expr_view e.now) arms last place →
+        begun_ahead t env w result ≡ from_stmt env n (trees.case_of (expr_view e.now) arms last place) (remainder_of w) (from_remainder env (remainder_of w)) }
 {
     Begun {
         line: place.line,
@@ -48,7 +51,8 @@ pub(crate) fn begin_case<'t>(n: u32, s: OneStmt<'t>, e: &'t Expr, place: Place) 
 /// `while e do s`: the test.
 #[tactic(auto, using(crate::proofs::Rules::tests))]
 pub(crate) fn begin_while<'t>(n: u32, s: OneStmt<'t>, e: &'t Expr, place: Place) -> Begun<'t>
-    ensures { (t : Tables) (env : Known) (w : Waiting) (pass : StmtTree) → stmt_at s.entry ≡ trees.while_do (expr_view e.now) pass place → begun_ahead t env w result ≡ from_stmt env n (trees.while_do (expr_view e.now) pass place) (remainder_of w) (from_remainder env (remainder_of w)) }
+    ensures { (t : Tables) (env : Known) (w : Waiting) (pass : StmtTree) → stmt_at s.entry ≡ trees.while_do (expr_view e.now) pass place →
+        begun_ahead t env w result ≡ from_stmt env n (trees.while_do (expr_view e.now) pass place) (remainder_of w) (from_remainder env (remainder_of w)) }
 {
     Begun {
         line: place.line,
@@ -64,7 +68,9 @@ pub(crate) fn begin_repeat<'t>(
     test: &'t Option<Expr>,
     place: Place,
 ) -> Begun<'t>
-    ensures { (t : Tables) (env : Known) (w : Waiting) → stmt_at s.entry ≡ repeat_of (stmts_view ss.now.items) (option_map expr_view test.now) place → begun_ahead t env w result ≡ from_stmt env n (repeat_of (stmts_view ss.now.items) (option_map expr_view test.now) place) (remainder_of w) (from_remainder env (remainder_of w)) }
+    ensures { (t : Tables) (env : Known) (w : Waiting) → stmt_at s.entry ≡ repeat_of (stmts_view ss.now.items) (option_map expr_view test.now) place →
+        begun_ahead t env w result ≡ from_stmt env n (repeat_of (stmts_view ss.now.items) (option_map expr_view test.now) place) (remainder_of w)
+        (from_remainder env (remainder_of w)) }
 {
     match test {
         Some(e) => begin_until(n, s, ss, e, place),
@@ -74,7 +80,9 @@ pub(crate) fn begin_repeat<'t>(
 
 #[tactic(auto, using(crate::proofs::Rules::tests))]
 fn begin_until<'t>(n: u32, s: OneStmt<'t>, ss: &'t Vec<Stmt>, e: &Expr, place: Place) -> Begun<'t>
-    ensures { (t : Tables) (env : Known) (w : Waiting) → stmt_at s.entry ≡ trees.repeat_until (stmts_view ss.now.items) (expr_view e.now) place → begun_ahead t env w result ≡ from_stmt env n (trees.repeat_until (stmts_view ss.now.items) (expr_view e.now) place) (remainder_of w) (from_remainder env (remainder_of w)) }
+    ensures { (t : Tables) (env : Known) (w : Waiting) → stmt_at s.entry ≡ trees.repeat_until (stmts_view ss.now.items) (expr_view e.now) place →
+        begun_ahead t env w result ≡ from_stmt env n (trees.repeat_until (stmts_view ss.now.items) (expr_view e.now) place) (remainder_of w)
+        (from_remainder env (remainder_of w)) }
 {
     Begun {
         line: place.line,
@@ -84,7 +92,9 @@ fn begin_until<'t>(n: u32, s: OneStmt<'t>, ss: &'t Vec<Stmt>, e: &Expr, place: P
 
 #[tactic(auto, using(crate::proofs::Rules::tests))]
 fn begin_forever<'t>(n: u32, s: OneStmt<'t>, ss: &'t Vec<Stmt>, place: Place) -> Begun<'t>
-    ensures { (t : Tables) (env : Known) (w : Waiting) → stmt_at s.entry ≡ trees.repeat_forever (stmts_view ss.now.items) place → begun_ahead t env w result ≡ from_stmt env n (trees.repeat_forever (stmts_view ss.now.items) place) (remainder_of w) (from_remainder env (remainder_of w)) }
+    ensures { (t : Tables) (env : Known) (w : Waiting) → stmt_at s.entry ≡ trees.repeat_forever (stmts_view ss.now.items) place →
+        begun_ahead t env w result ≡ from_stmt env n (trees.repeat_forever (stmts_view ss.now.items) place) (remainder_of w)
+        (from_remainder env (remainder_of w)) }
 {
     Begun {
         line: place.line,
@@ -102,7 +112,10 @@ pub(crate) fn begin_for<'t>(
     place: Place,
     site: Site<'t, '_>,
 ) -> Begun<'t>
-    ensures { (t : Tables) (w : Waiting) (down : Bool) (b : ExprTree) (pass : StmtTree) (q : Place) → stmt_at s.entry ≡ trees.for_do x.now (expr_view a.now) down b pass place q → begun_ahead t (env_view site.entry.env) w result ≡ from_stmt (env_view site.entry.env) n (trees.for_do x.now (expr_view a.now) down b pass place q) (remainder_of w) (from_remainder (env_view site.entry.env) (remainder_of w)) }
+    ensures { (t : Tables) (w : Waiting) (down : Bool) (b : ExprTree) (pass : StmtTree) (q : Place) →
+        stmt_at s.entry ≡ trees.for_do x.now (expr_view a.now) down b pass place q →
+        begun_ahead t (env_view site.entry.env) w result ≡ from_stmt (env_view site.entry.env) n (trees.for_do x.now (expr_view a.now) down b pass place q)
+        (remainder_of w) (from_remainder (env_view site.entry.env) (remainder_of w)) }
 {
     let variable = site.variable(x);
     let at = Counter {

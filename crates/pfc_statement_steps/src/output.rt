@@ -20,7 +20,8 @@ use pfc_typing::expr_type;
 
 /// The items that are left of a `write` with this line; a `writeln` has a newline behind them.
 pub fn writes<'t>(items: Actuals<'t>, newline: bool, line: u32) -> Step<'t>
-    ensures { (t : Tables) (env : Known) (w : Waiting) → step_ahead t (context env line) w result ≡ ahead t (context env line) w (at.Writes items.entry newline) }
+    ensures { (t : Tables) (env : Known) (w : Waiting) →
+        step_ahead t (context env line) w result ≡ ahead t (context env line) w (at.Writes items.entry newline) }
 {
     match first(items) {
         Some((item, behind)) => Step::Under(
@@ -39,7 +40,8 @@ pub fn writes<'t>(items: Actuals<'t>, newline: bool, line: u32) -> Step<'t>
 
 /// One item, perhaps with its width.
 pub fn item<'t>(a: &'t Actual, env: Env) -> Step<'t>
-    ensures { (t : Tables) (line : ℕ) (w : Waiting) → step_ahead t (context (env_view env.entry) line) w result ≡ ahead t (context (env_view env.entry) line) w (at.Item a.entry) }
+    ensures { (t : Tables) (line : ℕ) (w : Waiting) →
+        step_ahead t (context (env_view env.entry) line) w result ≡ ahead t (context (env_view env.entry) line) w (at.Item a.entry) }
 {
     match &a.width {
         None => plain_item(&a.value, env),
@@ -49,7 +51,8 @@ pub fn item<'t>(a: &'t Actual, env: Env) -> Step<'t>
 
 #[tactic(auto, using(crate::proofs::Rules::output))]
 fn plain_item<'t>(e: &'t Expr, env: Env) -> Step<'t>
-    ensures { (t : Tables) (line : ℕ) (w : Waiting) → step_ahead t (context (env_view env.entry) line) w result ≡ statements.from_item (context (env_view env.entry) line) (trees.actual (expr_view e.now)) (remainder_of w) }
+    ensures { (t : Tables) (line : ℕ) (w : Waiting) → step_ahead t (context (env_view env.entry) line) w result ≡ statements.from_item
+        (context (env_view env.entry) line) (trees.actual (expr_view e.now)) (remainder_of w) }
 {
     match as_string(e) {
         Some(text) => Step::On(At::Deed(Deed::Prints(Piece::Text(text.bytes()), None))),
@@ -60,7 +63,8 @@ fn plain_item<'t>(e: &'t Expr, env: Env) -> Step<'t>
 /// The value comes before its width.
 #[tactic(auto, using(crate::proofs::Rules::output))]
 fn wide_item<'t>(e: &'t Expr, width: &'t Expr, env: Env) -> Step<'t>
-    ensures { (t : Tables) (line : ℕ) (w : Waiting) → step_ahead t (context (env_view env.entry) line) w result ≡ statements.from_item (context (env_view env.entry) line) (trees.actual_width (expr_view e.now) (expr_view width.now)) (remainder_of w) }
+    ensures { (t : Tables) (line : ℕ) (w : Waiting) → step_ahead t (context (env_view env.entry) line) w result ≡ statements.from_item
+        (context (env_view env.entry) line) (trees.actual_width (expr_view e.now) (expr_view width.now)) (remainder_of w) }
 {
     match as_string(e) {
         Some(text) => Step::Under(Pending::Pad(Piece::Text(text.bytes())), At::Expr(width)),

@@ -42,7 +42,8 @@ pub fn arrive_in<'t>(
     line: u32,
     site: Site<'t, '_>,
 ) -> Result<Step<'t>, Memory>
-    ensures { IfOk result (λ step. (t : Tables) (w : Waiting) → step_ahead t (context (env_view site.entry.env) line) w step ≡ from_value (context (env_view site.entry.env) line) (awaits_of (point_over n (stmt_at s.entry) w point)) (value_view v.now)) }
+    ensures { IfOk result (λ step. (t : Tables) (w : Waiting) → step_ahead t (context (env_view site.entry.env) line) w step ≡ from_value
+        (context (env_view site.entry.env) line) (awaits_of (point_over n (stmt_at s.entry) w point)) (value_view v.now)) }
 {
     match point {
         Point::Choose => choose(n, node(s), v),
@@ -72,7 +73,8 @@ fn no_step<'t>() -> Step<'t>
 /// The test of an `if`.
 #[tactic(auto, using(crate::proofs::Rules::points))]
 fn choose<'t>(n: u32, found: Option<&'t Stmt>, v: &Value) -> Result<Step<'t>, Memory>
-    ensures { IfOk result (λ step. (t : Tables) (c : Context) (w : Waiting) → step_ahead t c w step ≡ from_value c (choose_of n (node_view (option_copied found.entry)) (remainder_of w)) (value_view v.now)) }
+    ensures { IfOk result (λ step. (t : Tables) (c : Context) (w : Waiting) →
+        step_ahead t c w step ≡ from_value c (choose_of n (node_view (option_copied found.entry)) (remainder_of w)) (value_view v.now)) }
 {
     let Some(Stmt::If(_, then, other, _)) = found else {
         return Ok(Step::On(At::Rest))
@@ -92,7 +94,9 @@ fn choose<'t>(n: u32, found: Option<&'t Stmt>, v: &Value) -> Result<Step<'t>, Me
 /// The value of a `case`.
 #[tactic(auto, using(crate::proofs::Rules::points))]
 fn choose_arm<'t>(n: u32, found: Option<&'t Stmt>, v: &Value, env: Env) -> Result<Step<'t>, Memory>
-    ensures { IfOk result (λ step. (t : Tables) (line : ℕ) (w : Waiting) → step_ahead t (context (env_view env.entry) line) w step ≡ from_value (context (env_view env.entry) line) (choose_arm_of n (node_view (option_copied found.entry)) (remainder_of w)) (value_view v.now)) }
+    ensures { IfOk result (λ step. (t : Tables) (line : ℕ) (w : Waiting) →
+        step_ahead t (context (env_view env.entry) line) w step ≡ from_value (context (env_view env.entry) line)
+        (choose_arm_of n (node_view (option_copied found.entry)) (remainder_of w)) (value_view v.now)) }
 {
     match found {
         Some(Stmt::Case(_, arms, _, _)) => arm(n, v.ordinal(), arms, env),
@@ -110,7 +114,8 @@ fn while_true<'t>(
     line: u32,
 ) -> Result<Step<'t>, Memory>
     requires { node_view (option_copied found) ≡ stmt_at s }
-    ensures { IfOk result (λ step. (t : Tables) (env : Known) (w : Waiting) → step_ahead t (context env line) w step ≡ from_value (context env line) (while_true_of n (stmt_at s.entry) (remainder_of w)) (value_view v.now)) }
+    ensures { IfOk result (λ step. (t : Tables) (env : Known) (w : Waiting) → step_ahead t (context env line) w step ≡ from_value (context env line)
+        (while_true_of n (stmt_at s.entry) (remainder_of w)) (value_view v.now)) }
 {
     let Some(Stmt::While(_, pass, place)) = found else {
         return Ok(Step::On(At::Rest))
@@ -129,7 +134,8 @@ fn while_true<'t>(
 #[tactic(auto, using(crate::proofs::Rules::points))]
 fn until_true<'t>(n: u32, s: OneStmt<'t>, found: Option<&'t Stmt>, v: &Value) -> Step<'t>
     requires { node_view (option_copied found) ≡ stmt_at s }
-    ensures { (t : Tables) (c : Context) (w : Waiting) → step_ahead t c w result ≡ from_value c (until_true_of n (stmt_at s.entry) (remainder_of w)) (value_view v.now) }
+    ensures { (t : Tables) (c : Context) (w : Waiting) →
+        step_ahead t c w result ≡ from_value c (until_true_of n (stmt_at s.entry) (remainder_of w)) (value_view v.now) }
 {
     let Some(Stmt::Repeat(_, Some(_), _)) = found else {
         return Step::On(At::Rest)
@@ -151,7 +157,8 @@ fn count_from<'t>(
     v: &Value,
 ) -> Step<'t>
     requires { node_view (option_copied found) ≡ stmt_at s }
-    ensures { (t : Tables) (c : Context) (w : Waiting) → step_ahead t c w result ≡ from_value c (count_from_of n (stmt_at s.entry) (by_reference (counter_view at)) (remainder_of w)) (value_view v.now) }
+    ensures { (t : Tables) (c : Context) (w : Waiting) →
+        step_ahead t c w result ≡ from_value c (count_from_of n (stmt_at s.entry) (by_reference (counter_view at)) (remainder_of w)) (value_view v.now) }
 {
     let Some(Stmt::For(_, _, _, b, _, _, _)) = found else {
         return Step::On(At::Rest)
@@ -161,7 +168,9 @@ fn count_from<'t>(
 
 /// The first bound has this value: the second is evaluated.
 fn count_on<'t>(n: u32, s: OneStmt<'t>, b: &'t Expr, at: Counter, from: i64) -> Step<'t>
-    ensures { (t : Tables) (c : Context) (w : Waiting) → step_ahead t c w result ≡ from_expr c (expr_view b.now) (count_to_of n (stmt_at s.entry) (by_reference (counter_view at)) from (remainder_of w)) (from_value c (count_to_of n (stmt_at s.entry) (by_reference (counter_view at)) from (remainder_of w))) }
+    ensures { (t : Tables) (c : Context) (w : Waiting) →
+        step_ahead t c w result ≡ from_expr c (expr_view b.now) (count_to_of n (stmt_at s.entry) (by_reference (counter_view at)) from (remainder_of w))
+        (from_value c (count_to_of n (stmt_at s.entry) (by_reference (counter_view at)) from (remainder_of w))) }
 {
     Step::Under(Pending::Within(n, s, Point::CountTo(at, from)), At::Expr(b))
 }
@@ -186,7 +195,8 @@ fn count_to<'t>(
     alloc: Global,
 ) -> Result<Step<'t>, Memory>
     requires { node_view (option_copied found) ≡ stmt_at s }
-    ensures { IfOk result (λ step. (t : Tables) (env : Known) (w : Waiting) → step_ahead t (context env line) w step ≡ from_value (context env line) (count_to_of n (stmt_at s.entry) (by_reference (counter_view at)) kept (remainder_of w)) (value_view v.now)) }
+    ensures { IfOk result (λ step. (t : Tables) (env : Known) (w : Waiting) → step_ahead t (context env line) w step ≡ from_value (context env line)
+        (count_to_of n (stmt_at s.entry) (by_reference (counter_view at)) kept (remainder_of w)) (value_view v.now)) }
 {
     let Some(Stmt::For(_, _, down, _, _, place, _)) = found else {
         return Ok(Step::On(At::Rest))
@@ -203,7 +213,8 @@ fn count_to<'t>(
 
 /// The kept value is written, and then the statement is performed.
 fn begin_pass<'t>(n: u32, s: OneStmt<'t>, count: Count, alloc: Global) -> Step<'t>
-    ensures { (t : Tables) (c : Context) (w : Waiting) → step_ahead t c w result ≡ writes c (counter_view count.at) (ordinal count.kept) (remainder_of (point_over n (stmt_at s.entry) w (point.Pass count))) }
+    ensures { (t : Tables) (c : Context) (w : Waiting) → step_ahead t c w result ≡ writes c (counter_view count.at) (ordinal count.kept)
+        (remainder_of (point_over n (stmt_at s.entry) w (point.Pass count))) }
 {
     let spot = Spot {
         scope: count.at.scope,
@@ -222,7 +233,8 @@ pub fn resume_in<'t>(
     point: Point,
     alloc: Global,
 ) -> Result<Begun<'t>, Memory>
-    ensures { IfOk result (λ begun. (t : Tables) (env : Known) (w : Waiting) → begun_ahead t env w begun ≡ from_remainder env (remainder_of (point_over n (stmt_at s.entry) w point))) }
+    ensures { IfOk result (λ begun. (t : Tables) (env : Known) (w : Waiting) →
+        begun_ahead t env w begun ≡ from_remainder env (remainder_of (point_over n (stmt_at s.entry) w point))) }
 {
     match point {
         Point::Turn => Ok(turn(n, s, node(s))),
@@ -262,7 +274,8 @@ fn line_of(found: Option<&Stmt>) -> u32
 /// The way back of a loop.
 fn turn<'t>(n: u32, s: OneStmt<'t>, found: Option<&'t Stmt>) -> Begun<'t>
     requires { node_view (option_copied found) ≡ stmt_at s }
-    ensures { (t : Tables) (env : Known) (w : Waiting) → begun_ahead t env w result ≡ from_remainder env (remainder_of (point_over n (stmt_at s.entry) w point.Turn)) }
+    ensures { (t : Tables) (env : Known) (w : Waiting) →
+        begun_ahead t env w result ≡ from_remainder env (remainder_of (point_over n (stmt_at s.entry) w point.Turn)) }
 {
     Begun {
         line: line_of(found),
@@ -284,7 +297,8 @@ fn until<'t>(n: u32, s: OneStmt<'t>, found: Option<&'t Stmt>) -> Begun<'t>
 /// The test of a `repeat`, which belongs to it and has its line; without one there is nothing.
 #[tactic(auto, using(crate::proofs::Repeats::tests))]
 fn test_again<'t>(n: u32, s: OneStmt<'t>, test: &'t Option<Expr>, place: Place) -> Begun<'t>
-    ensures { (t : Tables) (env : Known) (w : Waiting) (ss : StmtTrees) → repeat_of ss (option_map expr_view test.now) place ≡ stmt_at s.entry → begun_ahead t env w result ≡ from_remainder env (until_of n (stmt_at s.entry) (remainder_of w)) }
+    ensures { (t : Tables) (env : Known) (w : Waiting) (ss : StmtTrees) → repeat_of ss (option_map expr_view test.now) place ≡ stmt_at s.entry →
+        begun_ahead t env w result ≡ from_remainder env (until_of n (stmt_at s.entry) (remainder_of w)) }
 {
     match test {
         Some(e) => Begun {
@@ -299,7 +313,8 @@ fn test_again<'t>(n: u32, s: OneStmt<'t>, test: &'t Option<Expr>, place: Place) 
 #[tactic(auto, using(crate::proofs::Rules::points))]
 fn pass<'t>(n: u32, s: OneStmt<'t>, found: Option<&'t Stmt>, count: Count) -> Begun<'t>
     requires { node_view (option_copied found) ≡ stmt_at s }
-    ensures { (t : Tables) (env : Known) (w : Waiting) → begun_ahead t env w result ≡ from_remainder env (counting_of n (stmt_at s.entry) count pass_over (remainder_of w)) }
+    ensures { (t : Tables) (env : Known) (w : Waiting) →
+        begun_ahead t env w result ≡ from_remainder env (counting_of n (stmt_at s.entry) count pass_over (remainder_of w)) }
 {
     let Some(Stmt::For(_, _, _, _, pass, _, _)) = found else {
         return quiet(Step::On(At::Rest))
@@ -317,7 +332,8 @@ fn behind<'t>(
     count: Count,
 ) -> Result<Begun<'t>, Memory>
     requires { node_view (option_copied found) ≡ stmt_at s }
-    ensures { IfOk result (λ begun. (t : Tables) (env : Known) (w : Waiting) → begun_ahead t env w begun ≡ from_remainder env (counting_of n (stmt_at s.entry) count behind_pass (remainder_of w))) }
+    ensures { IfOk result (λ begun. (t : Tables) (env : Known) (w : Waiting) →
+        begun_ahead t env w begun ≡ from_remainder env (counting_of n (stmt_at s.entry) count behind_pass (remainder_of w))) }
 {
     let Some(Stmt::For(_, _, down, _, _, place, _)) = found else {
         return Ok(quiet(Step::On(At::Rest)))
@@ -360,7 +376,8 @@ fn next<'t>(
     alloc: Global,
 ) -> Begun<'t>
     requires { node_view (option_copied found) ≡ stmt_at s }
-    ensures { (t : Tables) (env : Known) (w : Waiting) → begun_ahead t env w result ≡ from_remainder env (counting_of n (stmt_at s.entry) count next_pass (remainder_of w)) }
+    ensures { (t : Tables) (env : Known) (w : Waiting) →
+        begun_ahead t env w result ≡ from_remainder env (counting_of n (stmt_at s.entry) count next_pass (remainder_of w)) }
 {
     let Some(Stmt::For(_, _, _, _, _, place, _)) = found else {
         return quiet(Step::On(At::Rest))

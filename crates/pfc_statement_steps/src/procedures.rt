@@ -21,7 +21,9 @@ use pfc_tree::Actual;
 /// A call of a predeclared procedure.
 #[tactic(auto, using(crate::proofs::Rules::procedures))]
 pub(crate) fn procedure<'t>(p: Procedure, args: &'t Vec<Actual>, site: Site<'t, '_>) -> Step<'t>
-    ensures { (t : Tables) (line : ℕ) (w : Waiting) → step_ahead t (context (env_view site.entry.env) line) w result ≡ from_procedure (context (env_view site.entry.env) line) (procedure_view p) (actuals_view args.now.items) (remainder_of w) (on_rest (context (env_view site.entry.env) line) w) }
+    ensures { (t : Tables) (line : ℕ) (w : Waiting) → step_ahead t (context (env_view site.entry.env) line) w result ≡ from_procedure
+        (context (env_view site.entry.env) line) (procedure_view p) (actuals_view args.now.items) (remainder_of w)
+        (on_rest (context (env_view site.entry.env) line) w) }
 {
     match p {
         Procedure::Reader(skip) => Step::On(At::Reads(all(args), skip)),
@@ -39,7 +41,9 @@ pub(crate) fn procedure<'t>(p: Procedure, args: &'t Vec<Actual>, site: Site<'t, 
 /// `initial(s, n)`: the semaphore before its count.
 #[tactic(auto, using(crate::proofs::Rules::procedures))]
 fn initial<'t>(args: &'t [Actual], site: Site<'t, '_>) -> Step<'t>
-    ensures { (t : Tables) (line : ℕ) (w : Waiting) → step_ahead t (context (env_view site.entry.env) line) w result ≡ from_initial (context (env_view site.entry.env) line) (actuals_view args.now) (remainder_of w) (expr_of (behind_first (actuals_view args.now))) (on_rest (context (env_view site.entry.env) line) w) }
+    ensures { (t : Tables) (line : ℕ) (w : Waiting) → step_ahead t (context (env_view site.entry.env) line) w result ≡ from_initial
+        (context (env_view site.entry.env) line) (actuals_view args.now) (remainder_of w) (expr_of (behind_first (actuals_view args.now)))
+        (on_rest (context (env_view site.entry.env) line) w) }
 {
     match second(args) {
         Some(count) => Step::On(reference(args, Goal::InitialTo(count), site)),
@@ -49,7 +53,8 @@ fn initial<'t>(args: &'t [Actual], site: Site<'t, '_>) -> Step<'t>
 
 #[tactic(auto, using(crate::proofs::Rules::arguments))]
 fn sleep<'t>(args: &'t [Actual]) -> Step<'t>
-    ensures { (t : Tables) (c : Context) (w : Waiting) → step_ahead t c w result ≡ from_argument c (actuals_view args.now) (sleep_for (remainder_of w)) (from_value c (sleep_for (remainder_of w))) }
+    ensures { (t : Tables) (c : Context) (w : Waiting) → step_ahead t c w result ≡ from_argument c (actuals_view args.now) (sleep_for (remainder_of w))
+        (from_value c (sleep_for (remainder_of w))) }
 {
     match args {
         [] => Step::On(At::Deed(Deed::Sleeps(0))),

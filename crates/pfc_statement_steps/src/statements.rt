@@ -29,7 +29,8 @@ use pfc_tree::{Alt, Desig, Expr, Stmt};
 /// A statement, before which the next scope of the text has the number n. Its only refusal is a number of more than 32 bits, which
 /// counts as want of memory.
 pub fn stmt<'t>(n: u32, s: OneStmt<'t>, site: Site<'t, '_>) -> Result<Begin<'t>, Memory>
-    ensures { IfOk result (λ b. (t : Tables) (w : Waiting) → begin_ahead t (env_view site.entry.env) n w b ≡ from_stmt (env_view site.entry.env) n (stmt_at s.entry) (remainder_of w) (from_remainder (env_view site.entry.env) (remainder_of w))) }
+    ensures { IfOk result (λ b. (t : Tables) (w : Waiting) → begin_ahead t (env_view site.entry.env) n w b ≡ from_stmt (env_view site.entry.env) n
+        (stmt_at s.entry) (remainder_of w) (from_remainder (env_view site.entry.env) (remainder_of w))) }
 {
     match node(s) {
         Some(found) => known(n, s, found, site),
@@ -53,7 +54,8 @@ fn known<'t>(
     site: Site<'t, '_>,
 ) -> Result<Begin<'t>, Memory>
     requires { stmt_at s ≡ stmt_view found.now }
-    ensures { IfOk result (λ b. (t : Tables) (w : Waiting) → begin_ahead t (env_view site.entry.env) n w b ≡ from_stmt (env_view site.entry.env) n (stmt_view found.now) (remainder_of w) (from_remainder (env_view site.entry.env) (remainder_of w))) }
+    ensures { IfOk result (λ b. (t : Tables) (w : Waiting) → begin_ahead t (env_view site.entry.env) n w b ≡ from_stmt (env_view site.entry.env) n
+        (stmt_view found.now) (remainder_of w) (from_remainder (env_view site.entry.env) (remainder_of w))) }
 {
     match found {
         Stmt::Empty | Stmt::Null(_) => at_line(0, Step::On(At::Rest)),
@@ -85,7 +87,8 @@ fn known<'t>(
 /// `d := e`: the variable before the value. One without selectors is there at once.
 #[tactic(auto, using(crate::proofs::Rules::kinds))]
 fn assign<'t>(d: &'t Desig, e: &'t Expr, site: Site<'t, '_>) -> Step<'t>
-    ensures { (t : Tables) (line : ℕ) (w : Waiting) → step_ahead t (context (env_view site.entry.env) line) w result ≡ from_assign (context (env_view site.entry.env) line) (desig_view d.now) (expr_view e.now) (remainder_of w) }
+    ensures { (t : Tables) (line : ℕ) (w : Waiting) → step_ahead t (context (env_view site.entry.env) line) w result ≡ from_assign
+        (context (env_view site.entry.env) line) (desig_view d.now) (expr_view e.now) (remainder_of w) }
 {
     match d.selectors.as_slice() {
         [] => Step::Under(Pending::StoreAt(site.spot(&d.name).spot), At::Expr(e)),
@@ -95,7 +98,8 @@ fn assign<'t>(d: &'t Desig, e: &'t Expr, site: Site<'t, '_>) -> Step<'t>
 
 /// A select without an `else` part.
 fn plain_select<'t>(pri: bool, alts: &'t Vec<Alt>, line: u32) -> Select<'t>
-    ensures { (env : Known) (n : ℕ) (w : Waiting) (p q : Place) → line ≡ p.line → select_ahead env n w result ≡ from_stmt env n (trees.select pri (alts_view alts.now.items) p q) (remainder_of w) (from_remainder env (remainder_of w)) }
+    ensures { (env : Known) (n : ℕ) (w : Waiting) (p q : Place) → line ≡ p.line →
+        select_ahead env n w result ≡ from_stmt env n (trees.select pri (alts_view alts.now.items) p q) (remainder_of w) (from_remainder env (remainder_of w)) }
 {
     Select {
         pri,
@@ -113,7 +117,9 @@ fn select_else<'t>(
     list: &'t Vec<Stmt>,
     line: u32,
 ) -> Result<Select<'t>, Memory>
-    ensures { IfOk result (λ select. (env : Known) (w : Waiting) (at p q : Place) → line ≡ p.line → select_ahead env n w select ≡ from_stmt env n (trees.select_else pri (alts_view alts.now.items) (stmts_view list.now.items) at p q) (remainder_of w) (from_remainder env (remainder_of w))) }
+    ensures { IfOk result (λ select. (env : Known) (w : Waiting) (at p q : Place) → line ≡ p.line →
+        select_ahead env n w select ≡ from_stmt env n (trees.select_else pri (alts_view alts.now.items) (stmts_view list.now.items) at p q) (remainder_of w)
+        (from_remainder env (remainder_of w))) }
 {
     let next = behind_alts(alts, n)?;
     let stmts = Stmts { list, from: 0 };

@@ -41,6 +41,7 @@ pub values_next :
 values_next before f layout n i d from below =
     append_assoc before (drop n (take i (map f layout))) (f (get_or layout i d) ∷ [])
     ∙ ap (λ l. before ++ l)
-    (sym (drop-append-le n (take i (map f layout)) (f (get_or layout i d) ∷ []) (omega (arith, from, below, length-take-le i (map f layout) (omega (arith, below, length-map layout f)))))
+    (sym (drop-append-le n (take i (map f layout)) (f (get_or layout i d) ∷ [])
+    (omega (arith, from, below, length-take-le i (map f layout) (omega (arith, below, length-map layout f)))))
     ∙ ap (λ x. drop n (take i (map f layout) ++ x ∷ [])) (sym (get_or-map f layout i d (f d) below))
     ∙ ap (drop n) (sym (take_more (map f layout) i (f d) (omega (arith, below, length-map layout f)))))

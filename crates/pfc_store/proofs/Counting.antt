@@ -29,13 +29,16 @@ use Rattle.pfc_semantics.proofs.Tables.{built_length, built_at, built_below, bui
 abbrev pub unknown : Numbering
 unknown = unnumbered (ordinal (pos 0))
 
-pub numbering_of_form : (forms : Forms) (t : TypeId) (form : TypeForm) → form_of forms t ≡ Some form → numbering_of (all_numberings forms) t ≡ numbering_form (all_numberings (take t.place forms)) form
+pub numbering_of_form : (forms : Forms) (t : TypeId) (form : TypeForm) → form_of forms t ≡ Some form →
+    numbering_of (all_numberings forms) t ≡ numbering_form (all_numberings (take t.place forms)) form
 numbering_of_form forms t form e = built_form Numbering numbering_next forms t form unknown e
 
-pub part_before : (forms : Forms) (whole t : TypeId) → t.place < whole.place → whole.place ≤ length forms → numbering_of (all_numberings forms) t ≡ numbering_of (all_numberings (take whole.place forms)) t
+pub part_before : (forms : Forms) (whole t : TypeId) → t.place < whole.place → whole.place ≤ length forms →
+    numbering_of (all_numberings forms) t ≡ numbering_of (all_numberings (take whole.place forms)) t
 part_before forms whole t below within = sym (built_below Numbering numbering_next forms whole.place t.place unknown below within)
 
-pub part_past : (forms : Forms) (whole t : TypeId) → whole.place ≤ t.place → whole.place ≤ length forms → numbering_of (all_numberings (take whole.place forms)) t ≡ unknown
+pub part_past : (forms : Forms) (whole t : TypeId) → whole.place ≤ t.place → whole.place ≤ length forms →
+    numbering_of (all_numberings (take whole.place forms)) t ≡ unknown
 part_past forms whole t past within =
     get_or_past (all_numberings (take whole.place forms)) t.place unknown
     (omega (arith, past, built_length Numbering numbering_next [] (take whole.place forms), length-take-le whole.place forms within))
@@ -54,7 +57,8 @@ predeclared (suc (suc (suc (suc (suc zero))))) = refl
 predeclared (suc (suc (suc (suc (suc (suc n)))))) =
     let k : ℕ = suc (suc (suc (suc (suc (suc n))))) in
     sym
-    (ap₂ (λ (condition semaphore : Bool). if semaphore then a_semaphore else (if condition then a_condition else unknown)) (unlike k 4 (λ e. absurd (omega (arith, e))))
+    (ap₂ (λ (condition semaphore : Bool). if semaphore then a_semaphore else (if condition then a_condition else unknown))
+    (unlike k 4 (λ e. absurd (omega (arith, e))))
     (unlike k 3 (λ e. absurd (omega (arith, e)))))
 
 pub simple_numbering : (forms : Forms) (t : TypeId) → form_of forms t ≡ None → numbering_of (all_numberings forms) t ≡ by_held (held_of forms t)
@@ -64,7 +68,8 @@ simple_numbering forms t e =
           let below : t.place < length forms = grind (arith, nat_tests) in
           let there : slice_get forms t.place ≡ Some None = slice_get-get_or forms t.place None below ∙ ap Some e in
           let count : length (take t.place forms) ≡ t.place = length-take-le t.place forms (omega (arith, below)) in
-          let numberings : length (all_numberings (take t.place forms)) ≡ t.place = built_length Numbering numbering_next [] (take t.place forms) ∙ omega (arith, count) in
+          let numberings : length (all_numberings (take t.place forms)) ≡ t.place =
+          built_length Numbering numbering_next [] (take t.place forms) ∙ omega (arith, count) in
           let helds : length (all_held (take t.place forms)) ≡ t.place = built_length Held held_next [] (take t.place forms) ∙ omega (arith, count) in
           built_at Numbering numbering_next forms t.place None unknown there
           ∙ ap (λ n. get_or predeclared_numberings n unknown) numberings
@@ -100,7 +105,8 @@ abbrev pub parts_with : Values → Objects → Numbered Values
 parts_with vs o = record { is = vs; objects = o }
 
 -- one more, from the objects behind the one before
-pub one_pushed : (vs : List Value) (v : Value) (o : Objects) (rest : Objects → Numbered Values) → in_front (vs ++ v ∷ []) (rest o) ≡ in_front vs (one_more (value_with v o) rest)
+pub one_pushed : (vs : List Value) (v : Value) (o : Objects) (rest : Objects → Numbered Values) →
+    in_front (vs ++ v ∷ []) (rest o) ≡ in_front vs (one_more (value_with v o) rest)
 one_pushed vs v o rest = ap (λ is. parts_with is (rest o).objects) (onto_push vs v (rest o).is)
 
 pub copies_next :
@@ -111,7 +117,8 @@ copies_next vs v f m n left o after count e =
     ∙ ap (λ x. in_front vs (one_more x (numbered_copies n f m))) (sym e)
     ∙ ap (λ k. in_front vs (numbered_copies k f m o)) (sym count)
 
-pub copies_done : (vs : List Value) (f : Numbering) (m left : ℕ) (o : Objects) → left ≡ 0 → in_front vs (numbered_copies left f m o) ≡ parts_with (values_from vs) o
+pub copies_done : (vs : List Value) (f : Numbering) (m left : ℕ) (o : Objects) → left ≡ 0 →
+    in_front vs (numbered_copies left f m o) ≡ parts_with (values_from vs) o
 copies_done vs f m left o none = ap (λ k. in_front vs (numbered_copies k f m o)) none ∙ ap (λ is. parts_with is o) (onto_none vs)
 
 pub fields_next :
@@ -125,7 +132,8 @@ fields_next vs v before fields i t m o after h read e =
     ∙ ap (λ x. in_front vs (one_more x (numbered_fields before rest m))) (sym e ∙ ap (λ u. numbering_of before u m o) (read d))
     ∙ ap (λ fs. in_front vs (numbered_fields before fs m o)) (sym (drop_more fields i d h))
 
-pub fields_done : (vs : List Value) (before : List Numbering) (fields : FieldList) (m : ℕ) (o : Objects) → fields ≡ [] → in_front vs (numbered_fields before fields m o) ≡ parts_with (values_from vs) o
+pub fields_done : (vs : List Value) (before : List Numbering) (fields : FieldList) (m : ℕ) (o : Objects) → fields ≡ [] →
+    in_front vs (numbered_fields before fields m o) ≡ parts_with (values_from vs) o
 fields_done vs before fields m o none = ap (λ fs. in_front vs (numbered_fields before fs m o)) none ∙ ap (λ is. parts_with is o) (onto_none vs)
 
 -- ## Variables, one behind the other
@@ -137,7 +145,8 @@ variables_with vs o = record { is = vs; objects = o }
 abbrev pub followed : (Objects → Numbered (List Value)) → Numbered (List Value) → Numbered (List Value)
 followed rest r = record { is = r.is ++ (rest r.objects).is; objects = (rest r.objects).objects }
 
-pub followed_behind : (vs : List Value) (one : Numbered (List Value)) (rest : Objects → Numbered (List Value)) → followed rest (behind vs one) ≡ behind vs (followed rest one)
+pub followed_behind : (vs : List Value) (one : Numbered (List Value)) (rest : Objects → Numbered (List Value)) →
+    followed rest (behind vs one) ≡ behind vs (followed rest one)
 followed_behind vs one rest = ap (λ is. variables_with is (rest one.objects).objects) (append_assoc vs one.is (rest one.objects).is)
 
 -- a name of a monitor or a resource stands for itself
@@ -156,7 +165,8 @@ names_one all x Faulty names monitor o = refl
 
 pub names_next :
     (all : List Numbering) (names : Names) (k : ℕ) (m : Meaning) (monitor : ℕ) (vs after_vs : List Value) (o after : Objects)
-    → k < length names → ((d : List ℕ × Meaning) → m ≡ (get_or names k d).1) → behind vs (numbered_names all (([], m) ∷ []) monitor o) ≡ variables_with after_vs after
+    → k < length names → ((d : List ℕ × Meaning) → m ≡ (get_or names k d).1) →
+    behind vs (numbered_names all (([], m) ∷ []) monitor o) ≡ variables_with after_vs after
     → behind after_vs (numbered_names all (drop (k + 1) names) monitor after) ≡ behind vs (numbered_names all (drop k names) monitor o)
 names_next all names k m monitor vs after_vs o after h read e =
     let d : List ℕ × Meaning = ([], m) in
@@ -183,10 +193,12 @@ main_next b all names k m vs after_vs o after h read e =
 pub behind_nothing : (vs : List Value) (o : Objects) → behind vs (variables_with [] o) ≡ variables_with vs o
 behind_nothing vs o = ap (λ is. variables_with is o) (append-nil vs)
 
-pub names_done : (all : List Numbering) (names : Names) (monitor : ℕ) (vs : List Value) (o : Objects) → names ≡ [] → behind vs (numbered_names all names monitor o) ≡ variables_with vs o
+pub names_done : (all : List Numbering) (names : Names) (monitor : ℕ) (vs : List Value) (o : Objects) → names ≡ [] →
+    behind vs (numbered_names all names monitor o) ≡ variables_with vs o
 names_done all names monitor vs o none = ap (λ ns. behind vs (numbered_names all ns monitor o)) none ∙ behind_nothing vs o
 
-pub main_done : (b : Blocks) (all : List Numbering) (names : Names) (vs : List Value) (o : Objects) → names ≡ [] → behind vs (numbered_main b all names o) ≡ variables_with vs o
+pub main_done : (b : Blocks) (all : List Numbering) (names : Names) (vs : List Value) (o : Objects) → names ≡ [] →
+    behind vs (numbered_main b all names o) ≡ variables_with vs o
 main_done b all names vs o none = ap (λ ns. behind vs (numbered_main b all ns o)) none ∙ behind_nothing vs o
 
 -- ## Modules of a kind
@@ -195,12 +207,15 @@ pub kind_append : (resource : Bool) (xs ys : List ModuleHead) → of_kind resour
 kind_append resource [] ys = omega arith
 kind_append resource (m ∷ xs) ys =
     let induction = kind_append resource xs ys in
-    elim (same_truth m.resource resource) as (λ b. (if b then 1 + of_kind resource (xs ++ ys) else of_kind resource (xs ++ ys)) ≡ (if b then 1 + of_kind resource xs else of_kind resource xs) + of_kind resource ys)
+    elim (same_truth m.resource resource) as (λ b. (if b then 1 + of_kind resource (xs ++ ys) else of_kind resource (xs ++ ys)) ≡ (if b then
+    1 + of_kind resource xs else of_kind resource xs) + of_kind resource ys)
     [ true ↦ omega (arith, induction) | false ↦ induction ]
 
-pub kind_next : (resource : Bool) (ms : List ModuleHead) (k : ℕ) (m d : ModuleHead) → k < length ms → m ≡ get_or ms k d → of_kind resource (take (k + 1) ms) ≡ of_kind resource (take k ms) + (if same_truth m.resource resource then 1 else 0)
+pub kind_next : (resource : Bool) (ms : List ModuleHead) (k : ℕ) (m d : ModuleHead) → k < length ms → m ≡ get_or ms k d →
+    of_kind resource (take (k + 1) ms) ≡ of_kind resource (take k ms) + (if same_truth m.resource resource then 1 else 0)
 kind_next resource ms k m d h read =
     ap (of_kind resource) (take_more ms k d h)
     ∙ kind_append resource (take k ms) (get_or ms k d ∷ [])
     ∙ ap (λ u. of_kind resource (take k ms) + of_kind resource (u ∷ [])) (sym read)
-    ∙ ap (λ n. of_kind resource (take k ms) + n) (elim (same_truth m.resource resource) as (λ b. (if b then 1 + 0 else 0) ≡ (if b then 1 else 0)) [ true ↦ refl | false ↦ refl ])
+    ∙ ap (λ n. of_kind resource (take k ms) + n) (elim (same_truth m.resource resource) as (λ b. (if b then 1 + 0 else 0) ≡ (if b then
+    1 else 0)) [ true ↦ refl | false ↦ refl ])

@@ -15,7 +15,8 @@ abbrev pub no_frame : HeldFrame
 no_frame = record { scope = 0; activation = 0; first = 0 }
 
 -- the frame of the scope is found, or passed
-pub outward_found : (frames : List HeldFrame) (i scope : ℕ) (d : HeldFrame) → i < length frames → (get_or frames i d).scope ≡ scope → outward (frames_view (drop i frames)) scope ≡ frames_view (drop i frames)
+pub outward_found : (frames : List HeldFrame) (i scope : ℕ) (d : HeldFrame) → i < length frames → (get_or frames i d).scope ≡ scope →
+    outward (frames_view (drop i frames)) scope ≡ frames_view (drop i frames)
 outward_found frames i scope d h e =
     let at = drop_more frames i d h in
     let f = get_or frames i d in
@@ -24,7 +25,8 @@ outward_found frames i scope d h e =
     ∙ ap (λ b. if b then frame_view f ∷ behind else outward behind scope) (same_number f.scope scope e)
     ∙ ap frames_view (sym at)
 
-pub outward_passed : (frames : List HeldFrame) (i scope : ℕ) (d : HeldFrame) → i < length frames → ((get_or frames i d).scope == scope) ≡ false → outward (frames_view (drop i frames)) scope ≡ outward (frames_view (drop (i + 1) frames)) scope
+pub outward_passed : (frames : List HeldFrame) (i scope : ℕ) (d : HeldFrame) → i < length frames → ((get_or frames i d).scope == scope) ≡ false →
+    outward (frames_view (drop i frames)) scope ≡ outward (frames_view (drop (i + 1) frames)) scope
 outward_passed frames i scope d h e =
     let behind = frames_view (drop (i + 1) frames) in
     ap (λ l. outward (frames_view l) scope) (drop_more frames i d h) ∙ ap (λ b. if b then frame_view (get_or frames i d) ∷ behind else outward behind scope) e
@@ -49,14 +51,16 @@ first_seen (f ∷ frames) i d h = refl
 pub laid_append : (xs ys : Names) → laid_names (xs ++ ys) ≡ laid_names xs ++ laid_names ys
 laid_append [] ys = refl
 laid_append (x ∷ xs) ys =
-    elim (is_laid x.1) as (λ b. (if b then x.1 ∷ laid_names (xs ++ ys) else laid_names (xs ++ ys)) ≡ (if b then x.1 ∷ laid_names xs else laid_names xs) ++ laid_names ys)
+    elim (is_laid x.1) as (λ b. (if b then x.1 ∷ laid_names (xs ++ ys) else laid_names (xs ++ ys)) ≡ (if b then
+    x.1 ∷ laid_names xs else laid_names xs) ++ laid_names ys)
     [ true ↦ ap (λ l. x.1 ∷ l) (laid_append xs ys) | false ↦ laid_append xs ys ]
 
 pub laid_one : (x : List ℕ × Meaning) → length (laid_names (x ∷ [])) ≡ (if is_laid x.1 then 1 else 0)
 laid_one x = elim (is_laid x.1) as (λ b. length (if b then x.1 ∷ [] else []) ≡ (if b then 1 else 0)) [ true ↦ refl | false ↦ refl ]
 
 -- one name more
-pub laid_more : (names : Names) (k : ℕ) (m : Meaning) → k < length names → ((d : List ℕ × Meaning) → m ≡ (get_or names k d).1) → length (laid_names (take (k + 1) names)) ≡ length (laid_names (take k names)) + (if is_laid m then 1 else 0)
+pub laid_more : (names : Names) (k : ℕ) (m : Meaning) → k < length names → ((d : List ℕ × Meaning) → m ≡ (get_or names k d).1) →
+    length (laid_names (take (k + 1) names)) ≡ length (laid_names (take k names)) + (if is_laid m then 1 else 0)
 laid_more names k m h read =
     let d : List ℕ × Meaning = ([], m) in
     let x = get_or names k d in
@@ -71,5 +75,7 @@ laid_more names k m h read =
 -- one more is pushed
 pub accept_next :
     (b : Blocks) (before : Display) (a n i first : ℕ)
-    → (before ++ record { scope = i; activation = a; first = first } ∷ []) ++ accept_frames b a n (i + 1) (first + length (laid_names (scope_at b.scopes i))) ≡ before ++ accept_frames b a (suc n) i first
-accept_next b before a n i first = append_assoc before (record { scope = i; activation = a; first = first } ∷ []) (accept_frames b a n (i + 1) (first + length (laid_names (scope_at b.scopes i))))
+    → (before ++ record { scope = i; activation = a; first = first } ∷ []) ++ accept_frames b a n (i + 1) (first + length (laid_names (scope_at b.scopes i))) ≡
+    before ++ accept_frames b a (suc n) i first
+accept_next b before a n i first = append_assoc before (record { scope = i; activation = a; first = first } ∷ [])
+    (accept_frames b a n (i + 1) (first + length (laid_names (scope_at b.scopes i))))

@@ -22,7 +22,8 @@ pub last_first : (rooms : List HeldRoom) (room : HeldRoom) → rooms_view (room 
 last_first rooms room = reverse-append (room_view room ∷ []) (map room_view rooms)
 
 -- a room, those behind it and those before it
-pub parted : (rooms : List HeldRoom) (i : ℕ) (d : HeldRoom) → i < length rooms → rooms_view rooms ≡ rooms_view (drop (i + 1) rooms) ++ room_view (get_or rooms i d) ∷ rooms_view (take i rooms)
+pub parted : (rooms : List HeldRoom) (i : ℕ) (d : HeldRoom) → i < length rooms →
+    rooms_view rooms ≡ rooms_view (drop (i + 1) rooms) ++ room_view (get_or rooms i d) ∷ rooms_view (take i rooms)
 parted rooms i d h =
     ap rooms_view (sym (take-append-drop i rooms) ∙ ap (λ l. take i rooms ++ l) (drop_more rooms i d h))
     ∙ ap reverse (map-append room_view (take i rooms) (get_or rooms i d ∷ drop (i + 1) rooms))
@@ -74,7 +75,8 @@ without_none a (x ∷ xs) p = ap (λ b. if b then xs else x ∷ without xs a) p.
 
 -- one step of the search from the end
 pub none_behind :
-    (a : ℕ) (rooms : List HeldRoom) (i : ℕ) (d : HeldRoom) → i < length rooms → ((get_or rooms i d).activation == a) ≡ false → NoneOf a (rooms_view (drop (i + 1) rooms))
+    (a : ℕ) (rooms : List HeldRoom) (i : ℕ) (d : HeldRoom) → i < length rooms → ((get_or rooms i d).activation == a) ≡ false →
+    NoneOf a (rooms_view (drop (i + 1) rooms))
     → NoneOf a (rooms_view (drop i rooms))
 none_behind a rooms i d h other p =
     subst (NoneOf a) (sym (ap rooms_view (drop_more rooms i d h) ∙ last_first (drop (i + 1) rooms) (get_or rooms i d)))
@@ -83,10 +85,12 @@ none_behind a rooms i d h other p =
 -- main's number is that of no other activation
 pub none_is_main : (rooms : List HeldRoom) → NoneOf 0 (rooms_view rooms)
 none_is_main [] = tt
-none_is_main (room ∷ rooms) = subst (NoneOf 0) (sym (last_first rooms room)) (none_append 0 (rooms_view rooms) (room_view room ∷ []) (none_is_main rooms) (other_number 0 room.activation room.later, tt))
+none_is_main (room ∷ rooms) = subst (NoneOf 0) (sym (last_first rooms room)) (none_append 0 (rooms_view rooms) (room_view room ∷ []) (none_is_main rooms)
+    (other_number 0 room.activation room.later, tt))
 
 -- an activation that is neither main's nor among the others
-pub nowhere : (a : ℕ) (rooms : List HeldRoom) (main : Option (Vec HeldValue Global)) → 0 < a → NoneOf a (rooms_view rooms) → NoneOf a (rooms_view rooms ++ main_view main)
+pub nowhere : (a : ℕ) (rooms : List HeldRoom) (main : Option (Vec HeldValue Global)) → 0 < a → NoneOf a (rooms_view rooms) →
+    NoneOf a (rooms_view rooms ++ main_view main)
 nowhere a rooms None h p = none_append a (rooms_view rooms) [] p tt
 nowhere a rooms (Some values) h p = none_append a (rooms_view rooms) (main_view (Some values)) p (unlike 0 a (λ e. absurd (omega (arith, e, h))), tt)
 
@@ -133,22 +137,30 @@ module _ (rooms : List HeldRoom) (a i : ℕ) (d : HeldRoom) (at : IsLatest rooms
       ∙ without_past a behind (room_view found ∷ (before ++ main)) at.behind
       ∙ ap (λ b. behind ++ (if b then before ++ main else room_view found ∷ without (before ++ main) a)) is_there
 
-  pub with_found : (new : List Value) → with_values (rooms_view rooms ++ main) a new ≡ behind ++ record { activation = found.activation; values = new } ∷ (before ++ main)
+  pub with_found : (new : List Value) → with_values (rooms_view rooms ++ main) a new ≡ behind ++ record {
+    activation =
+        found.activation;
+    values = new;
+  } ∷ (before ++ main)
   with_found new =
       ap (λ s. with_values s a new) in_order
       ∙ with_past a new behind (room_view found ∷ (before ++ main)) at.behind
-      ∙ ap (λ b. behind ++ (if b then record (room_view found) { values = new } ∷ (before ++ main) else room_view found ∷ with_values (before ++ main) a new)) is_there
+      ∙ ap (λ b. behind ++ (if b then
+      record (room_view found) { values = new } ∷ (before ++ main) else room_view found ∷ with_values (before ++ main) a new)) is_there
 
   -- the rooms without it, and with it changed
   pub removed : rooms_view (remove rooms i) ++ main ≡ behind ++ (before ++ main)
   removed =
-      ap (λ l. l ++ main) (ap (λ k. rooms_view (take i rooms ++ drop k rooms)) (sym (add-one i)) ∙ ap reverse (map-append room_view (take i rooms) (drop (i + 1) rooms)) ∙ reverse-append (map room_view (take i rooms)) (map room_view (drop (i + 1) rooms)))
+      ap (λ l. l ++ main) (ap (λ k. rooms_view (take i rooms ++ drop k rooms)) (sym (add-one i)) ∙
+      ap reverse (map-append room_view (take i rooms) (drop (i + 1) rooms)) ∙
+      reverse-append (map room_view (take i rooms)) (map room_view (drop (i + 1) rooms)))
       ∙ append_assoc behind before main
 
   pub changed : (new : HeldRoom) → rooms_view (set rooms i new) ++ main ≡ behind ++ room_view new ∷ (before ++ main)
   changed new =
       ap (λ l. l ++ main) (parted (set rooms i new) i d (omega (arith, at.within, length-set rooms i new)))
-      ∙ ap₂ (λ b f. (b ++ room_view (get_or (set rooms i new) i d) ∷ f) ++ main) (ap rooms_view (drop-set-lt (i + 1) rooms i new (omega arith))) (ap rooms_view (take-set rooms i new))
+      ∙ ap₂ (λ b f. (b ++ room_view (get_or (set rooms i new) i d) ∷ f) ++ main)
+      (ap rooms_view (drop-set-lt (i + 1) rooms i new (omega arith))) (ap rooms_view (take-set rooms i new))
       ∙ ap (λ r. (behind ++ room_view r ∷ before) ++ main) (get_or-set_same rooms i new d at.within)
       ∙ append_assoc behind (room_view new ∷ before) main
 

@@ -27,7 +27,8 @@ pub part_seen : (vs : List Held) (i : ℕ) → part_at (values_from (values_view
 part_seen vs i = part_of_list (values_view vs) i ∙ one_seen vs i
 
 -- what a look-up gives
-pub looked_up : (vs : List Held) (i : ℕ) (o : Option (Bor Held)) → unwrap_or (option_map (λ (x : Bor Held). x.now) o) nothing ≡ get_or vs i nothing → part_view (option_copied o) ≡ part_at (values_from (values_view vs)) i
+pub looked_up : (vs : List Held) (i : ℕ) (o : Option (Bor Held)) → unwrap_or (option_map (λ (x : Bor Held). x.now) o) nothing ≡ get_or vs i nothing →
+    part_view (option_copied o) ≡ part_at (values_from (values_view vs)) i
 looked_up vs i None e = sym (ordinal_seen (pos 0)) ∙ ap value_view e ∙ sym (part_seen vs i)
 looked_up vs i (Some x) e = ap value_view e ∙ sym (part_seen vs i)
 
@@ -46,7 +47,8 @@ pub nothing_there :
     (steps : List HeldSelector) (i : ℕ) (d : HeldSelector) (v : Value) → i < length steps → part_of v (get_or steps i d).place ≡ ordinal (pos 0)
     → part (places (drop i steps)) v ≡ ordinal (pos 0)
 nothing_there steps i d v h e =
-    ap (λ l. part (places l) v) (drop_more steps i d h) ∙ ap (λ u. part (places (drop (i + 1) steps)) u) e ∙ part_of_ordinal (places (drop (i + 1) steps)) (pos 0)
+    ap (λ l. part (places l) v) (drop_more steps i d h) ∙ ap (λ u. part (places (drop (i + 1) steps)) u) e ∙
+    part_of_ordinal (places (drop (i + 1) steps)) (pos 0)
 
 abbrev pub no_step : HeldSelector
 no_step = record { place = 0; index = pos 0 }
@@ -66,7 +68,8 @@ not_put vs i new past = sym (set_past (values_view vs) i new (omega (arith, past
 
 -- one that is there
 pub put_there :
-    (vs : List Held) (i : ℕ) (path : List ℕ) (new : Value) (old between made : Held) → old ≡ get_or vs i nothing → value_view made ≡ with_part path (value_view old) new
+    (vs : List Held) (i : ℕ) (path : List ℕ) (new : Value) (old between made : Held) → old ≡ get_or vs i nothing →
+    value_view made ≡ with_part path (value_view old) new
     → values_view (set (set vs i between) i made) ≡ set (values_view vs) i (with_part path (get_or (values_view vs) i (ordinal (pos 0))) new)
 put_there vs i path new old between made was is =
     ap values_view (set-set vs i between made)
@@ -75,7 +78,8 @@ put_there vs i path new old between made was is =
 
 -- a part of what is made of parts
 pub put_in :
-    (vs ws : List Held) (i : ℕ) (path : List ℕ) (new : Value) → values_view ws ≡ set (values_view vs) i (with_part path (get_or (values_view vs) i (ordinal (pos 0))) new)
+    (vs ws : List Held) (i : ℕ) (path : List ℕ) (new : Value) →
+    values_view ws ≡ set (values_view vs) i (with_part path (get_or (values_view vs) i (ordinal (pos 0))) new)
     → compound (values_from (values_view ws)) ≡ with_part (i ∷ path) (compound (values_from (values_view vs))) new
 put_in vs ws i path new e =
     ap (λ us. compound (values_from us)) e
@@ -89,4 +93,5 @@ pub taken_last :
 taken_last first [] y vs = ap (λ k. set vs k y) (omega arith)
 taken_last first (x ∷ xs) y vs =
     taken_last (first + 1) xs y (set vs first x)
-    ∙ ap (taken_from (first + 1) xs) (ap (λ k. set (set vs first x) k y) (omega arith) ∙ set_comm vs first (first + suc (length xs)) x y (λ e. absurd (omega (arith, e))))
+    ∙ ap (taken_from (first + 1) xs) (ap (λ k. set (set vs first x) k y) (omega arith) ∙
+    set_comm vs first (first + suc (length xs)) x y (λ e. absurd (omega (arith, e))))

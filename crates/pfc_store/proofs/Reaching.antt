@@ -18,8 +18,10 @@ behind_steps store (compound vs) steps = part (path_of steps) (compound vs)
 abbrev pub whole : ℕ → ℕ → Location
 whole a k = record { activation = a; variable = k; selectors = [] }
 
-pub value_there : (store : Store) (a k : ℕ) (v : Value) (steps : List Selector) → variable store (whole a k) ≡ v → value_at store (reached v (whole a k) steps) ≡ behind_steps store v steps
+pub value_there : (store : Store) (a k : ℕ) (v : Value) (steps : List Selector) → variable store (whole a k) ≡ v →
+    value_at store (reached v (whole a k) steps) ≡ behind_steps store v steps
 value_there store a k (points l) steps e =
-    ap (λ p. part p (variable store l)) (map-append (λ (s : Selector). s.place) l.selectors steps) ∙ part_append (path_of l.selectors) (path_of steps) (variable store l)
+    ap (λ p. part p (variable store l)) (map-append (λ (s : Selector). s.place) l.selectors steps) ∙
+    part_append (path_of l.selectors) (path_of steps) (variable store l)
 value_there store a k (ordinal n) steps e = ap (part (path_of steps)) e
 value_there store a k (compound vs) steps e = ap (part (path_of steps)) e

@@ -161,7 +161,8 @@ impl Display {
         accepts: u32,
         next: u32,
     ) -> Result<Display, Memory>
-        ensures { IfOk result (λ d. d ≡ frame_view own ∷ accept_frames scopes.now own.activation accepts next (length (laid_names (scope_at scopes.now.scopes own.scope)))) }
+        ensures { IfOk result (λ d. d ≡ frame_view own ∷ accept_frames scopes.now own.activation accepts next
+            (length (laid_names (scope_at scopes.now.scopes own.scope)))) }
     {
         let mut frames = Vec::new(alloc);
         frames.push(own)?;

@@ -116,7 +116,8 @@ pub fn new_values(
     layout: &[Meaning],
     args: Vec<Value>,
 ) -> Result<Vec<Value>, Memory>
-    ensures { IfOk result (λ vs. values_view vs.items ≡ values_view args.items ++ drop (length args.items) (map (first_in_layout (all_first types.now)) layout.now)) }
+    ensures { IfOk result (λ vs. values_view vs.items ≡ values_view args.items ++ drop (length args.items)
+        (map (first_in_layout (all_first types.now)) layout.now)) }
 {
     let mut values = args;
     for i in values.len()..layout.len() {

@@ -170,7 +170,8 @@ fn numbered_elements(
     objects: &mut Objects,
 ) -> Result<Vec<Value>, Memory>
     requires { whole.place ≤ length types.now }
-    ensures { IfOk result (λ vs. numbered_copies count (numbering_of (all_numberings (take whole.place types.now)) element) monitor (objects_view objects.old) ≡ numbered_parts vs.items objects.new) }
+    ensures { IfOk result (λ vs. numbered_copies count (numbering_of (all_numberings (take whole.place types.now)) element) monitor
+        (objects_view objects.old) ≡ numbered_parts vs.items objects.new) }
 {
     let mut items = Vec::new(alloc);
     for _ in 0..count {
@@ -190,7 +191,8 @@ fn numbered_fields(
     objects: &mut Objects,
 ) -> Result<Vec<Value>, Memory>
     requires { whole.place ≤ length types.now }
-    ensures { IfOk result (λ vs. fields_in_order (all_numberings (take whole.place types.now)) fields.now monitor (objects_view objects.old) ≡ numbered_parts vs.items objects.new) }
+    ensures { IfOk result (λ vs. fields_in_order (all_numberings (take whole.place types.now)) fields.now monitor
+        (objects_view objects.old) ≡ numbered_parts vs.items objects.new) }
 {
     let mut items = Vec::new(alloc);
     for i in 0..fields.len() {
@@ -208,7 +210,8 @@ fn add_name(
     values: &mut Vec<Value>,
     objects: &mut Objects,
 ) -> Result<(), Memory>
-    ensures { OnOk result (behind (values_view values.old.items) (numbered_names (all_numberings types.now) (([], meaning) ∷ []) monitor (objects_view objects.old)) ≡ numbered_variables values.new.items objects.new) }
+    ensures { OnOk result (behind (values_view values.old.items) (numbered_names (all_numberings types.now) (([], meaning) ∷ []) monitor
+        (objects_view objects.old)) ≡ numbered_variables values.new.items objects.new) }
 {
     match meaning {
         Meaning::Variable { t, reference: _ } => {
@@ -235,7 +238,8 @@ fn add_names(
     values: &mut Vec<Value>,
     objects: &mut Objects,
 ) -> Result<(), Memory>
-    ensures { OnOk result (behind (values_view values.old.items) (numbered_names (all_numberings types.now) names.now monitor (objects_view objects.old)) ≡ numbered_variables values.new.items objects.new) }
+    ensures { OnOk result (behind (values_view values.old.items) (numbered_names (all_numberings types.now) names.now monitor (objects_view objects.old)) ≡
+        numbered_variables values.new.items objects.new) }
 {
     for k in 0..names.len() {
         add_name(alloc, types, names.meaning_at(k), monitor, values, objects)?;
@@ -273,7 +277,9 @@ fn add_module(
     values: &mut Vec<Value>,
     objects: &mut Objects,
 ) -> Result<(), Memory>
-    ensures { OnOk result (behind (values_view values.old.items) (numbered_names (all_numberings types.now) (scope_at scopes.now.scopes (module_at scopes.now n).scope) (number_of_module scopes.now n) (objects_view objects.old)) ≡ numbered_variables values.new.items objects.new) }
+    ensures { OnOk result (behind (values_view values.old.items) (numbered_names (all_numberings types.now)
+        (scope_at scopes.now.scopes (module_at scopes.now n).scope) (number_of_module scopes.now n) (objects_view objects.old)) ≡
+        numbered_variables values.new.items objects.new) }
 {
     let scope = scopes.module(n).scope;
     if scopes.len() <= scope {
@@ -292,7 +298,8 @@ fn add_of_main(
     values: &mut Vec<Value>,
     objects: &mut Objects,
 ) -> Result<(), Memory>
-    ensures { OnOk result (behind (values_view values.old.items) (of_main scopes.now (all_numberings types.now) meaning (objects_view objects.old)) ≡ numbered_variables values.new.items objects.new) }
+    ensures { OnOk result (behind (values_view values.old.items) (of_main scopes.now (all_numberings types.now) meaning (objects_view objects.old)) ≡
+        numbered_variables values.new.items objects.new) }
 {
     match meaning {
         Meaning::Variable { t, reference: _ } => {

@@ -52,7 +52,8 @@ pub(crate) fn with_part(whole: Value, steps: &[Selector], new: Value) -> Value
 /// Puts another value into one of these, where some steps lead to. Where there is no such part nothing changes.
 #[cycle(put)]
 pub(crate) fn put_among(values: &mut Vec<Value>, place: usize, steps: &[Selector], new: Value)
-    ensures { values_view values.new.items ≡ set (values_view values.old.items) place (with_other_part (path_of (selectors_view steps.now)) (get_or (values_view values.old.items) place (ordinal (pos 0))) (value_view new)) }
+    ensures { values_view values.new.items ≡ set (values_view values.old.items) place (with_other_part (path_of (selectors_view steps.now))
+        (get_or (values_view values.old.items) place (ordinal (pos 0))) (value_view new)) }
 {
     if place < values.len() {
         let old = exchanged(values, place, Value::Ordinal(0));

@@ -21,7 +21,8 @@ impl Room {
     /// Puts another value into a variable, where some steps lead to. Where there is no such part nothing changes.
     pub(crate) fn put(&mut self, place: usize, steps: &[Selector], new: Value)
         ensures same { self.new.activation ≡ self.old.activation }
-        ensures put { values_view self.new.values.items ≡ set (values_view self.old.values.items) place (with_part (path_of (selectors_view steps.now)) (get_or (values_view self.old.values.items) place (ordinal (pos 0))) (value_view new)) }
+        ensures put { values_view self.new.values.items ≡ set (values_view self.old.values.items) place (with_part (path_of (selectors_view steps.now))
+            (get_or (values_view self.old.values.items) place (ordinal (pos 0))) (value_view new)) }
     {
         put_among(&mut self.values, place, steps, new);
     }

@@ -201,7 +201,8 @@ impl Store {
 
     /// The parameters of an accept take their values: variables of an activation, from one place on, one behind the other.
     pub fn take_parameters(&mut self, activation: u64, first: u32, args: Vec<Value>)
-        ensures { store_view self.new ≡ with_values (store_view self.old) activation (taken_from first (values_view args.items) (values_in (store_view self.old) activation)) }
+        ensures { store_view self.new ≡ with_values (store_view self.old) activation (taken_from first (values_view args.items)
+            (values_in (store_view self.old) activation)) }
     {
         if activation == 0 {
             if let Some(mut values) = self.main.take() {

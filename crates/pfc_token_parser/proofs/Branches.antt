@@ -18,17 +18,20 @@ pub branch_taken : {O A : Type 0} (f : Symbol → Option O) (g : O × Place → 
     taken f ts ≡ Some (o, more) → branch f g r ts ≡ g o more
 unfolding branch
 branch_taken f g r [] more o e = cc
-branch_taken f g r (t ∷ ts) more o e = elim (f t.kind) as (λ b. taken_at b t.place ts ≡ Some (o, more) → branch_at b g r t ts ≡ g o more) [ Some x ↦ λ h. let p = some_is ((x, t.place), ts) (o, more) h in ap (λ q. g q.0 q.1) p | None ↦ λ h. cc ] e
+branch_taken f g r (t ∷ ts) more o e = elim (f t.kind) as (λ b. taken_at b t.place ts ≡ Some (o, more) → branch_at b g r t ts ≡ g o more)
+    [ Some x ↦ λ h. let p = some_is ((x, t.place), ts) (o, more) h in ap (λ q. g q.0 q.1) p | None ↦ λ h. cc ] e
 
 pub branch_not_taken : {O A : Type 0} (f : Symbol → Option O) (g : O × Place → Reader A) (r : Reader A) (ts : List Token) →
     taken f ts ≡ None → branch f g r ts ≡ r ts
 unfolding branch
 branch_not_taken f g r [] e = refl
-branch_not_taken f g r (t ∷ ts) e = elim (f t.kind) as (λ b. taken_at b t.place ts ≡ None → branch_at b g r t ts ≡ r (t ∷ ts)) [ Some x ↦ λ h. cc | None ↦ λ h. refl ] e
+branch_not_taken f g r (t ∷ ts) e = elim (f t.kind) as (λ b. taken_at b t.place ts ≡ None → branch_at b g r t ts ≡ r (t ∷ ts))
+    [ Some x ↦ λ h. cc | None ↦ λ h. refl ] e
 
 pub taken_shorter : {O : Type 0} (f : Symbol → Option O) (ts more : List Token) (o : O × Place) → taken f ts ≡ Some (o, more) → length ts ≡ suc (length more)
 taken_shorter f [] more o e = cc
-taken_shorter f (t ∷ ts) more o e = elim (f t.kind) as (λ b. taken_at b t.place ts ≡ Some (o, more) → length (t ∷ ts) ≡ suc (length more)) [ Some x ↦ λ h. let p = some_is ((x, t.place), ts) (o, more) h in ap (λ q. suc (length q.1)) p | None ↦ λ h. cc ] e
+taken_shorter f (t ∷ ts) more o e = elim (f t.kind) as (λ b. taken_at b t.place ts ≡ Some (o, more) → length (t ∷ ts) ≡ suc (length more))
+    [ Some x ↦ λ h. let p = some_is ((x, t.place), ts) (o, more) h in ap (λ q. suc (length q.1)) p | None ↦ λ h. cc ] e
 
 -- what a choice comes to, by what is seen
 pub choose_seen : {A : Type 0} (p : Symbol → Bool) (g r : Reader A) (ts : List Token) → sees p ts ≡ true → choose p g r ts ≡ g ts
@@ -51,7 +54,8 @@ seen_not_taken f [] e = refl
 seen_not_taken f (t ∷ ts) e = elim (f t.kind) as (λ b. taken_at b t.place ts ≡ None → takes b ≡ false) [ Some x ↦ λ h. cc | None ↦ λ h. refl ] e
 
 -- what going on comes to, by what the first reader gives
-pub bind_given : {A B : Type 0} (r : Reader A) (g : A → Reader B) (ts rest : List Token) (x : A) (out : Outcome B) → r ts ≡ Ok (x, rest) → g x rest ≡ out → bind r g ts ≡ out
+pub bind_given : {A B : Type 0} (r : Reader A) (g : A → Reader B) (ts rest : List Token) (x : A) (out : Outcome B) →
+    r ts ≡ Ok (x, rest) → g x rest ≡ out → bind r g ts ≡ out
 unfolding bind
 bind_given r g ts rest x out e k = ap (λ w. then_read w g) e ∙ k
 

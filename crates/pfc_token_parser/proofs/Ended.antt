@@ -13,12 +13,14 @@ use Rattle.pfc_token_parser.proofs.Branches.{branch_taken, branch_not_taken, tak
 
 -- What comes of a list from here, where xs are read and ts are left: the outcome of the whole loop. The turns that are left are
 -- enough for the tokens.
-pub record Ending {O A : Type 0} (f : Symbol → Option O) (p : Symbol → Bool) (r : Reader A) (xs : List A) (ts : List Token) (out : Outcome (List A × Bool)) : Type 0 where
+pub record Ending {O A : Type 0} (f : Symbol → Option O) (p : Symbol → Bool) (r : Reader A) (xs : List A) (ts : List Token)
+    (out : Outcome (List A × Bool)) : Type 0 where
   pub turns : ℕ
   pub enough : length ts ≤ turns
   pub gives : end_turns turns xs f p r ts ≡ out
 
-pub ending_begins : {O A : Type 0} (f : Symbol → Option O) (p : Symbol → Bool) (r : Reader A) (xs ys : List A) (ts : List Token) (out : Outcome (List A × Bool)) →
+pub ending_begins : {O A : Type 0} (f : Symbol → Option O) (p : Symbol → Bool) (r : Reader A) (xs ys : List A)
+    (ts : List Token) (out : Outcome (List A × Bool)) →
     ys ≡ xs → out ≡ end_onto xs f p r ts → Ending f p r ys ts out
 unfolding end_onto
 ending_begins f p r xs ys ts out e k = record { turns = length ts; enough = omega arith; gives = ap (λ zs. end_turns (length ts) zs f p r ts) e ∙ sym k }
@@ -28,7 +30,8 @@ stays : {O A : Type 0} (f : Symbol → Option O) (p : Symbol → Bool) (r : Read
     taken f ts ≡ None → end_turns k xs f p r ts ≡ out → out ≡ Ok ((xs, false), ts)
 unfolding end_turns pure
 stays f p r xs ts out zero a t = sym t
-stays f p r xs ts out (suc k) a t = sym t ∙ branch_not_taken f (λ o. choose p (pure (xs, true)) (bind r (λ x. end_turns k (xs ++ x ∷ []) f p r))) (pure (xs, false)) ts a
+stays f p r xs ts out (suc k) a t = sym t ∙
+    branch_not_taken f (λ o. choose p (pure (xs, true)) (bind r (λ x. end_turns k (xs ++ x ∷ []) f p r))) (pure (xs, false)) ts a
 
 pub ending_ends : {O A : Type 0} (f : Symbol → Option O) (p : Symbol → Bool) (r : Reader A) (xs : List A) (ts : List Token) (out : Outcome (List A × Bool)) →
     Ending f p r xs ts out → taken f ts ≡ None → out ≡ Ok ((xs, false), ts)
@@ -41,24 +44,31 @@ unfolding end_turns
 behind f p r xs ts more o k a = branch_taken f (λ o. choose p (pure (xs, true)) (bind r (λ x. end_turns k (xs ++ x ∷ []) f p r))) (pure (xs, false)) ts more o a
 
 -- a token that is taken, and behind it the one that ends the list
-closes : {O A : Type 0} (f : Symbol → Option O) (p : Symbol → Bool) (r : Reader A) (xs : List A) (ts more : List Token) (o : O × Place) (out : Outcome (List A × Bool)) (k : ℕ) →
+closes : {O A : Type 0} (f : Symbol → Option O) (p : Symbol → Bool) (r : Reader A) (xs : List A) (ts more : List Token) (o : O ×
+    Place) (out : Outcome (List A × Bool)) (k : ℕ) →
     taken f ts ≡ Some (o, more) → sees p more ≡ true → length ts ≤ k → end_turns k xs f p r ts ≡ out → out ≡ Ok ((xs, true), more)
 unfolding pure
 closes f p r xs ts more o out zero a b n t = absurd (omega (arith, taken_shorter f ts more o a))
-closes f p r xs ts more o out (suc k) a b n t = sym t ∙ behind f p r xs ts more o k a ∙ choose_seen p (pure (xs, true)) (bind r (λ x. end_turns k (xs ++ x ∷ []) f p r)) more b
+closes f p r xs ts more o out (suc k) a b n t = sym t ∙ behind f p r xs ts more o k a ∙
+    choose_seen p (pure (xs, true)) (bind r (λ x. end_turns k (xs ++ x ∷ []) f p r)) more b
 
-pub ending_closes : {O A : Type 0} (f : Symbol → Option O) (p : Symbol → Bool) (r : Reader A) (xs : List A) (ts more : List Token) (o : O × Place) (out : Outcome (List A × Bool)) →
+pub ending_closes : {O A : Type 0} (f : Symbol → Option O) (p : Symbol → Bool) (r : Reader A) (xs : List A) (ts more : List Token) (o : O ×
+    Place) (out : Outcome (List A × Bool)) →
     Ending f p r xs ts out → taken f ts ≡ Some (o, more) → sees p more ≡ true → out ≡ Ok ((xs, true), more)
 ending_closes f p r xs ts more o out t a b = closes f p r xs ts more o out t.turns a b t.enough t.gives
 
 -- a token that is taken and an item behind it
-item : {O A : Type 0} (f : Symbol → Option O) (p : Symbol → Bool) (r : Reader A) (xs : List A) (ts more : List Token) (o : O × Place) (out : Outcome (List A × Bool)) (k : ℕ) →
+item : {O A : Type 0} (f : Symbol → Option O) (p : Symbol → Bool) (r : Reader A) (xs : List A) (ts more : List Token) (o : O ×
+    Place) (out : Outcome (List A × Bool)) (k : ℕ) →
     taken f ts ≡ Some (o, more) → sees p more ≡ false → end_turns (suc k) xs f p r ts ≡ out → then_read (r more) (λ x. end_turns k (xs ++ x ∷ []) f p r) ≡ out
 unfolding bind
-item f p r xs ts more o out k a b t = sym (choose_not_seen p (pure (xs, true)) (bind r (λ x. end_turns k (xs ++ x ∷ []) f p r)) more b) ∙ sym (behind f p r xs ts more o k a) ∙ t
+item f p r xs ts more o out k a b t = sym (choose_not_seen p (pure (xs, true)) (bind r (λ x. end_turns k (xs ++ x ∷ []) f p r)) more b) ∙
+    sym (behind f p r xs ts more o k a) ∙ t
 
-goes : {O A : Type 0} (f : Symbol → Option O) (p : Symbol → Bool) (r : Reader A) (xs : List A) (x : A) (ts more rest : List Token) (o : O × Place) (out : Outcome (List A × Bool)) (k : ℕ) →
-    taken f ts ≡ Some (o, more) → sees p more ≡ false → r more ≡ Ok (x, rest) → length rest ≤ length more → length ts ≤ k → end_turns k xs f p r ts ≡ out → Ending f p r (xs ++ x ∷ []) rest out
+goes : {O A : Type 0} (f : Symbol → Option O) (p : Symbol → Bool) (r : Reader A) (xs : List A) (x : A) (ts more rest : List Token) (o : O ×
+    Place) (out : Outcome (List A × Bool)) (k : ℕ) →
+    taken f ts ≡ Some (o, more) → sees p more ≡ false → r more ≡ Ok (x, rest) → length rest ≤ length more → length ts ≤ k →
+    end_turns k xs f p r ts ≡ out → Ending f p r (xs ++ x ∷ []) rest out
 goes f p r xs x ts more rest o out zero a b c l n t = absurd (omega (arith, taken_shorter f ts more o a))
 goes f p r xs x ts more rest o out (suc k) a b c l n t = record {
   turns = k;
@@ -66,17 +76,22 @@ goes f p r xs x ts more rest o out (suc k) a b c l n t = record {
   gives = ap (λ w. then_read w (λ y. end_turns k (xs ++ y ∷ []) f p r)) (sym c) ∙ item f p r xs ts more o out k a b t;
 }
 
-pub ending_goes : {O A : Type 0} (f : Symbol → Option O) (p : Symbol → Bool) (r : Reader A) (xs ys : List A) (x : A) (ts more rest : List Token) (o : O × Place) (out : Outcome (List A × Bool)) →
-    Ending f p r xs ts out → taken f ts ≡ Some (o, more) → sees p more ≡ false → r more ≡ Ok (x, rest) → length rest ≤ length more → ys ≡ xs ++ x ∷ [] → Ending f p r ys rest out
-ending_goes f p r xs ys x ts more rest o out t a b c l e = subst (λ zs. Ending f p r zs rest out) (sym e) (goes f p r xs x ts more rest o out t.turns a b c l t.enough t.gives)
+pub ending_goes : {O A : Type 0} (f : Symbol → Option O) (p : Symbol → Bool) (r : Reader A) (xs ys : List A) (x : A) (ts more rest : List Token) (o : O ×
+    Place) (out : Outcome (List A × Bool)) →
+    Ending f p r xs ts out → taken f ts ≡ Some (o, more) → sees p more ≡ false → r more ≡ Ok (x, rest) → length rest ≤ length more →
+    ys ≡ xs ++ x ∷ [] → Ending f p r ys rest out
+ending_goes f p r xs ys x ts more rest o out t a b c l e =
+    subst (λ zs. Ending f p r zs rest out) (sym e) (goes f p r xs x ts more rest o out t.turns a b c l t.enough t.gives)
 
 -- an item that halts
-halts : {O A : Type 0} (f : Symbol → Option O) (p : Symbol → Bool) (r : Reader A) (xs : List A) (ts more : List Token) (o : O × Place) (h : Halt) (out : Outcome (List A × Bool)) (k : ℕ) →
+halts : {O A : Type 0} (f : Symbol → Option O) (p : Symbol → Bool) (r : Reader A) (xs : List A) (ts more : List Token) (o : O ×
+    Place) (h : Halt) (out : Outcome (List A × Bool)) (k : ℕ) →
     taken f ts ≡ Some (o, more) → sees p more ≡ false → r more ≡ Err h → length ts ≤ k → end_turns k xs f p r ts ≡ out → out ≡ Err h
 halts f p r xs ts more o h out zero a b c n t = absurd (omega (arith, taken_shorter f ts more o a))
 halts f p r xs ts more o h out (suc k) a b c n t = sym (item f p r xs ts more o out k a b t) ∙ ap (λ w. then_read w (λ y. end_turns k (xs ++ y ∷ []) f p r)) c
 
-pub ending_halts : {O A : Type 0} (f : Symbol → Option O) (p : Symbol → Bool) (r : Reader A) (xs : List A) (ts more : List Token) (o : O × Place) (h : fault.Halt) (out : Outcome (List A × Bool)) →
+pub ending_halts : {O A : Type 0} (f : Symbol → Option O) (p : Symbol → Bool) (r : Reader A) (xs : List A) (ts more : List Token) (o : O ×
+    Place) (h : fault.Halt) (out : Outcome (List A × Bool)) →
     Ending f p r xs ts out → taken f ts ≡ Some (o, more) → sees p more ≡ false → Halts h (r more) → Halts h out
 ending_halts f p r xs ts more o (Unexpected n) out t a b c = halts f p r xs ts more o (bad n) out t.turns a b c t.enough t.gives
 ending_halts f p r xs ts more o (Deep n) out t a b c = halts f p r xs ts more o (deep n) out t.turns a b c t.enough t.gives

@@ -48,7 +48,8 @@ module _ (tree : ProgramTree) (image : PlainImage) (is : IsImage tree image) whe
   pub image_lines : length image.lines ≡ length image.code
   image_lines =
       subst (λ (i : PlainImage). length i.lines ≡ length i.code) (sym (main_image tree image is))
-      (length-map (main_code (main_env tree) tree.body) (λ (c : Instr × ℕ). c.1) ∙ sym (length-map (main_code (main_env tree) tree.body) (λ (c : Instr × ℕ). c.0)))
+      (length-map (main_code (main_env tree) tree.body) (λ (c : Instr × ℕ). c.1) ∙
+      sym (length-map (main_code (main_env tree) tree.body) (λ (c : Instr × ℕ). c.0)))
 
 -- any other ending than these two has a report
 pub has_report : (ending : Ending) → (ending ≡ SinkFailed → ⊥) → (ending ≡ Memory → ⊥) → HasReport ending
@@ -78,14 +79,16 @@ module _ (tree : ProgramTree) (settings : Settings) where
   from_start = run_left (program_of tree) settings.limit (first_picking settings.policy) (start tree settings.input settings.seed)
 
   same_run : from_start ≡ run_of tree settings
-  same_run = ap (λ (n : ℕ). run_from (main_env tree) settings.limit n (first_picking settings.policy) (start tree settings.input settings.seed)) (let all : settings.limit - 0 ≡ settings.limit = omega arith in all)
+  same_run = ap (λ (n : ℕ). run_from (main_env tree) settings.limit n (first_picking settings.policy) (start tree settings.input settings.seed))
+      (let all : settings.limit - 0 ≡ settings.limit = omega arith in all)
 
   -- the start of the run
   abbrev pub from : Config
   from = start tree settings.input settings.seed
 
   -- a course with a report is whole, and the course of the run from its start is the run
-  pub completed : (ending : Ending) (session : State) (old mid : Option (List ℕ)) → HasReport ending → IsCourse (program_of tree) from_start from session ending old mid
+  pub completed : (ending : Ending) (session : State) (old mid : Option (List ℕ)) → HasReport ending →
+      IsCourse (program_of tree) from_start from session ending old mid
       → Completes (program_of tree) (run_of tree settings) from session ending old mid
   completed ending session old mid h course = at ending h (subst (λ (f : Final). IsCourse (program_of tree) f from session ending old mid) same_run course)
     where
@@ -99,9 +102,11 @@ module _ (tree : ProgramTree) (settings : Settings) where
       at SinkFailed h course = absurd h
       at Memory h course = absurd h
 
-  module _ (ending : Ending) (session : State) (old mid new : Option (List ℕ)) (p : Completes (program_of tree) (run_of tree settings) from session ending old mid) where
+  module _ (ending : Ending) (session : State) (old mid new : Option (List ℕ))
+      (p : Completes (program_of tree) (run_of tree settings) from session ending old mid) where
     -- its output, and then the report
-    pub written_whole : Appends mid new (report_by tree settings) → (status : ℕ) → status ≡ status_of ending → Gives (ran_with source_meaning tree settings) (record { status = status; session = Some session }) old new
+    pub written_whole : Appends mid new (report_by tree settings) → (status : ℕ) → status ≡ status_of ending →
+        Gives (ran_with source_meaning tree settings) (record { status = status; session = Some session }) old new
     written_whole report status is = record {
       status = is ∙ ap status_of p.ends;
       session = p.stands;
@@ -123,16 +128,20 @@ module _ (tree : ProgramTree) (settings : Settings) where
       (AppendsFront-append old new p.bytes (report_by tree settings) p.front)
 
   -- the course as `run` gives it
-  pub course_from : (limit : ℕ) (picking : Picking) (session : State) (ending : Ending) (old new : Option (List ℕ)) → limit ≡ settings.limit → picking ≡ first_picking settings.policy
-      → IsCourse (program_of tree) (run_left (program_of tree) limit picking from) from session ending old new → IsCourse (program_of tree) from_start from session ending old new
+  pub course_from : (limit : ℕ) (picking : Picking) (session : State) (ending : Ending) (old new : Option (List ℕ)) → limit ≡ settings.limit →
+      picking ≡ first_picking settings.policy
+      → IsCourse (program_of tree) (run_left (program_of tree) limit picking from) from session ending old new →
+      IsCourse (program_of tree) from_start from session ending old new
   course_from limit picking session ending old new most picks course =
       subst (λ (p : Picking). IsCourse (program_of tree) (run_left (program_of tree) settings.limit p from) from session ending old new) picks
       (subst (λ (n : ℕ). IsCourse (program_of tree) (run_left (program_of tree) n picking from) from session ending old new) most course)
 
 -- the course of a run that was begun
-module _ (tree : ProgramTree) (settings : Settings) (image : PlainImage) (session : State) (policy : Policy) (limit : ℕ) (b : IsBegun tree settings image session policy limit) where
+module _ (tree : ProgramTree) (settings : Settings) (image : PlainImage) (session : State) (policy : Policy) (limit : ℕ)
+    (b : IsBegun tree settings image session policy limit) where
   pub begun_course : (picking : Picking) → picking ≡ first_picking policy → (after : State) (ending : Ending) (old mid : Option (List ℕ))
-      → ((g : Program) (c : Config) → IsProgram g image → IsChecked g → Stands g session c → c.fault ≡ None → IsCourse g (run_left g limit picking c) c after ending old mid)
+      → ((g : Program) (c : Config) → IsProgram g image → IsChecked g → Stands g session c → c.fault ≡ None →
+      IsCourse g (run_left g limit picking c) c after ending old mid)
       → IsCourse (program_of tree) (from_start tree settings) (from tree settings) after ending old mid
   begun_course picking picks after ending old mid ran =
       course_from tree settings limit picking after ending old mid b.most (picks ∙ ap first_picking b.picks)

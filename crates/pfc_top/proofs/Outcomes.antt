@@ -92,20 +92,26 @@ err_always (Ok x) P h = tt
 err_always (Err s) P h = h
 
 -- an answer where nothing ran
-pub gives_unrun : (answer : Answer) (status : ℕ) (heading bytes : List ℕ) (old new : Option (List ℕ)) → answer ≡ record { status = status; session = None } → Appends old new (heading ++ bytes)
+pub gives_unrun : (answer : Answer) (status : ℕ) (heading bytes : List ℕ) (old new : Option (List ℕ)) → answer ≡ record {
+  status = status;
+  session =
+      None;
+} → Appends old new (heading ++ bytes)
     → Gives (behind heading (without_run status bytes)) answer old new
 gives_unrun answer status heading bytes old new same written =
     subst (λ (a : Answer). Gives (behind heading (without_run status bytes)) a old new) (sym same) (record { status = refl; session = tt; written = written })
 
 -- nothing is written
-pub gives_nothing : (answer : Answer) (status : ℕ) (w : Option (List ℕ)) → answer ≡ record { status = status; session = None } → Gives (without_run status []) answer w w
+pub gives_nothing : (answer : Answer) (status : ℕ) (w : Option (List ℕ)) → answer ≡ record { status = status; session = None } →
+    Gives (without_run status []) answer w w
 gives_nothing answer status w same =
     subst (λ (a : Answer). Gives (without_run status []) a w w) (sym same) (record { status = refl; session = tt; written = Appends-nil w })
 
 -- ## Written outcomes
 
 -- bytes were appended first
-pub written_behind : (heading : List ℕ) (outcome : Outcome) (reply : Result Answer Stop) (old mid new : Option (List ℕ)) → Appends old mid heading → IsWritten outcome reply mid new
+pub written_behind : (heading : List ℕ) (outcome : Outcome) (reply : Result Answer Stop) (old mid new : Option (List ℕ)) →
+    Appends old mid heading → IsWritten outcome reply mid new
     → IsWritten (behind heading outcome) reply old new
 written_behind heading outcome (Ok answer) old mid new first h = record {
   status = h.status;
@@ -119,7 +125,8 @@ pub written_as : (a b : Outcome) (reply : Result Answer Stop) (old new : Option 
 written_as a b reply old new same h = subst (λ (o : Outcome). IsWritten o reply old new) same h
 
 -- what was written is the one outcome of its kind
-pub replied : (is : Outcome → Type 0) (outcome : Outcome) → is outcome → ((a b : Outcome) → is a → is b → a ≡ b) → (reply : Result Answer Stop) (old new : Option (List ℕ))
+pub replied : (is : Outcome → Type 0) (outcome : Outcome) → is outcome → ((a b : Outcome) → is a → is b → a ≡ b) →
+    (reply : Result Answer Stop) (old new : Option (List ℕ))
     → IsWritten outcome reply old new → Replies is reply old new
 replied is outcome here one (Ok answer) old new h = (outcome, here, h)
 replied is outcome here one (Err WriteFailed) old new h = (outcome, here, h)
@@ -136,7 +143,8 @@ listed_outcome text request outcome is = record { unlisted = outcome; is = is; l
 pub program_outcome_is : (text : List ℕ) (image : PlainImage) (is : IsCompiled text image) (request : Request)
     → IsOutcomeOfText source_meaning text request (program_outcome text is.compiled.tree request)
 program_outcome_is text image is request =
-    listed_outcome text request (behind (code_written source_meaning is.compiled.tree request) (run_under source_meaning is.compiled.tree request (policy_of request)))
+    listed_outcome text request (behind (code_written source_meaning is.compiled.tree request)
+    (run_under source_meaning is.compiled.tree request (policy_of request)))
     (record {
       cutting = tokens is.ts is.end;
       cut = is.cut;
@@ -146,15 +154,18 @@ program_outcome_is text image is request =
     })
 
 -- the run under a policy, or a script that is no list of numbers, behind what is listed
-pub program_as : (text : List ℕ) (tree : ProgramTree) (image : PlainImage) (request : Request) (p : Result Policy ℕ) → image ≡ image_of tree → policy_of request ≡ p
-    → behind ((if request.list then listing_text text else []) ++ (if request.code then code_text image else [])) (run_under source_meaning tree request p) ≡ program_outcome text tree request
+pub program_as : (text : List ℕ) (tree : ProgramTree) (image : PlainImage) (request : Request) (p : Result Policy ℕ) →
+    image ≡ image_of tree → policy_of request ≡ p
+    → behind ((if request.list then listing_text text else []) ++ (if request.code then code_text image else []))
+    (run_under source_meaning tree request p) ≡ program_outcome text tree request
 program_as text tree image request p same picks =
     let ran : Outcome = run_under source_meaning tree request p in
     let with_bytes : List ℕ → Outcome = λ bytes. record { status = ran.status; bytes = bytes; ran = ran.ran } in
     ap with_bytes
     (append_assoc (listing_written request text) (if request.code then code_text image else []) ran.bytes
     ∙ ap (λ (i : PlainImage). listing_written request text ++ ((if request.code then code_text i else []) ++ ran.bytes)) same)
-    ∙ ap (λ (q : Result Policy ℕ). behind (listing_written request text) (behind (code_written source_meaning tree request) (run_under source_meaning tree request q))) (sym picks)
+    ∙ ap (λ (q : Result Policy ℕ). behind (listing_written request text) (behind (code_written source_meaning tree request)
+    (run_under source_meaning tree request q))) (sym picks)
 
 -- ## What was loaded
 
@@ -179,14 +190,16 @@ module _ (files : List File) (asked : Asked) (loaded : Loaded) (are : AreLoaded 
       subst (λ (r : Request). IsOutcomeOfText source_meaning loaded.text r outcome) request_is
       (subst (λ (x : List ℕ). IsOutcomeOfText source_meaning x (request_by files asked) outcome) are.text whole)
 
-  pub files_replies : (reply : Result Answer Stop) (old new : Option (List ℕ)) → Replies (IsOutcomeOfText source_meaning loaded.text loaded_request) reply old new
+  pub files_replies : (reply : Result Answer Stop) (old new : Option (List ℕ)) →
+      Replies (IsOutcomeOfText source_meaning loaded.text loaded_request) reply old new
       → Replies (IsOutcomeOf source_meaning asked files) reply old new
   files_replies (Ok answer) old new h = (h.0, files_up h.0 h.1, h.2)
   files_replies (Err WriteFailed) old new h = (h.0, files_up h.0 h.1, h.2)
   files_replies (Err Memory) old new h = λ outcome is. h outcome (files_down outcome is)
 
 -- a file that is too long
-pub long_outcome : (told : Option (List File)) (files : List File) (asked : Asked) → told ≡ Some files → Lacks told (names_by asked) long → IsOutcomeOf source_meaning asked files (without_run 9 [])
+pub long_outcome : (told : Option (List File)) (files : List File) (asked : Asked) → told ≡ Some files → Lacks told (names_by asked) long →
+    IsOutcomeOf source_meaning asked files (without_run 9 [])
 long_outcome told files asked tells lacks =
     let h : first_lack files (names_by asked) ≡ Some long = subst (λ (t : Option (List File)). Lacks t (names_by asked) long) tells lacks in
     subst (λ (l : Option Lack). IsOutcomeOfFiles source_meaning l files asked (without_run 9 [])) (sym h) refl
@@ -194,7 +207,8 @@ long_outcome told files asked tells lacks =
 -- ## Answers
 
 -- the statuses of an answer to a text are among those of every answer
-pub sound_reply : (reply : Result Answer Stop) → IfOk reply (λ answer. IsAnswerToText answer.status answer.session) → IsSound (ended reply).status (ended reply).session
+pub sound_reply : (reply : Result Answer Stop) → IfOk reply (λ answer. IsAnswerToText answer.status answer.session) →
+    IsSound (ended reply).status (ended reply).session
 sound_reply (Ok answer) h = sound answer.status answer.session h
   where
     sound : (status : ℕ) (session : Option State) → IsAnswerToText status session → IsSound status session
@@ -205,7 +219,8 @@ sound_reply (Err WriteFailed) h = inr (inr (inr (inl refl)))
 sound_reply (Err Memory) h = inr (inr (inr (inr (inl refl))))
 
 -- the status of an answer to a text is none of these
-pub other_status : (n : ℕ) → (n ≡ 2) ⊎ (n ≡ 6) ⊎ (n ≡ 7) ⊎ (n ≡ 8) ⊎ (n ≡ 9) → (reply : Result Answer Stop) → IfOk reply (λ answer. IsAnswerToText answer.status answer.session)
+pub other_status : (n : ℕ) → (n ≡ 2) ⊎ (n ≡ 6) ⊎ (n ≡ 7) ⊎ (n ≡ 8) ⊎ (n ≡ 9) → (reply : Result Answer Stop) →
+    IfOk reply (λ answer. IsAnswerToText answer.status answer.session)
     → IfOk reply (λ answer. (answer.status ≡ n) → ⊥)
 other_status n these (Ok answer) h = other answer.status answer.session h
   where
@@ -215,17 +230,20 @@ other_status n these (Ok answer) h = other answer.status answer.session h
 other_status n these (Err stop) h = tt
 
 module _ (is : Outcome → Type 0) (old new : Option (List ℕ)) where
-  pub ended_one : (reply : Result Answer Stop) → Replies is reply old new → (ended reply).status ≢ 7 → (ended reply).status ≢ 8 → GivesOne is (ended reply) old new
+  pub ended_one : (reply : Result Answer Stop) → Replies is reply old new → (ended reply).status ≢ 7 →
+      (ended reply).status ≢ 8 → GivesOne is (ended reply) old new
   ended_one (Ok answer) h seven eight = h
   ended_one (Err WriteFailed) h seven eight = absurd (seven refl)
   ended_one (Err Memory) h seven eight = absurd (eight refl)
 
-  pub ended_cut : (reply : Result Answer Stop) → Replies is reply old new → IfOk reply (λ answer. (answer.status ≡ 7) → ⊥) → (ended reply).status ≡ 7 → GivesFront is old new
+  pub ended_cut : (reply : Result Answer Stop) → Replies is reply old new → IfOk reply (λ answer. (answer.status ≡ 7) → ⊥) →
+      (ended reply).status ≡ 7 → GivesFront is old new
   ended_cut (Ok answer) h other seven = absurd (other seven)
   ended_cut (Err WriteFailed) h other seven = h
   ended_cut (Err Memory) h other seven = absurd (let no : 8 ≡ 7 = seven in omega arith)
 
-  pub ended_memory : (reply : Result Answer Stop) → Replies is reply old new → IfOk reply (λ answer. (answer.status ≡ 8) → ⊥) → (ended reply).status ≡ 8 → GivesFrontOfAll is old new
+  pub ended_memory : (reply : Result Answer Stop) → Replies is reply old new → IfOk reply (λ answer. (answer.status ≡ 8) → ⊥) →
+      (ended reply).status ≡ 8 → GivesFrontOfAll is old new
   ended_memory (Ok answer) h other eight = absurd (other eight)
   ended_memory (Err WriteFailed) h other eight = absurd (let no : 7 ≡ 8 = eight in omega arith)
   ended_memory (Err Memory) h other eight = h
@@ -241,11 +259,14 @@ module _ (is : Outcome → Type 0) (old new : Option (List ℕ)) (reply : Result
   answered_cut seven = ended_cut is old new reply replies (other_status 7 (inr (inr (inl refl))) reply sound) (sym (ap (λ (a : Answer). a.status) same) ∙ seven)
 
   pub answered_memory : answer.status ≡ 8 → GivesFrontOfAll is old new
-  answered_memory eight = ended_memory is old new reply replies (other_status 8 (inr (inr (inr (inl refl)))) reply sound) (sym (ap (λ (a : Answer). a.status) same) ∙ eight)
+  answered_memory eight = ended_memory is old new reply replies (other_status 8 (inr (inr (inr (inl refl)))) reply sound)
+      (sym (ap (λ (a : Answer). a.status) same) ∙ eight)
 
 -- refused words that were not written whole
-pub refused_front : (outcome : Outcome) (reply : Result Answer Stop) (old new : Option (List ℕ)) → IsWritten outcome reply old new → IfOk reply (λ a. a ≡ record { status = 2; session = None })
+pub refused_front : (outcome : Outcome) (reply : Result Answer Stop) (old new : Option (List ℕ)) → IsWritten outcome reply old new →
+    IfOk reply (λ a. a ≡ record { status = 2; session = None })
     → (answer : Answer) → answer ≡ ended reply → answer.status ≡ 7 → AppendsFront old new outcome.bytes
 refused_front outcome (Ok a) old new h only answer same seven =
-    absurd (let two : a.status ≡ 2 = ap (λ (x : Answer). x.status) only in let is : a.status ≡ 7 = sym (ap (λ (x : Answer). x.status) same) ∙ seven in omega (arith, two, is))
+    absurd (let two : a.status ≡ 2 = ap (λ (x : Answer). x.status) only in let is : a.status ≡ 7 =
+    sym (ap (λ (x : Answer). x.status) same) ∙ seven in omega (arith, two, is))
 refused_front outcome (Err stop) old new h only answer same seven = h

@@ -73,7 +73,8 @@ fn refuse<O: Sink>(
     line: &[u8],
     sink: &mut O,
 ) -> Result<Answer, Stop>
-    ensures written { IsWritten (behind (if list then listing_text text.now else []) (without_run 1 line.now)) result (O.written sink.old) (O.written sink.new) }
+    ensures written { IsWritten (behind (if list then listing_text text.now else []) (without_run 1 line.now)) result
+        (O.written sink.old) (O.written sink.new) }
     ensures sound { IfOk result (λ answer. IsAnswerToText answer.status answer.session) }
     ensures cut { IsErrOf result Stop.WriteFailed → Rose (O.faults sink.old) (O.faults sink.new) }
 {
@@ -135,7 +136,8 @@ fn stop_at<O: Sink>(
 ) -> Result<Answer, Stop>
     requires { (tree : ProgramTree) × IsImage tree (plain_image image.now) }
     ensures written { (tree : ProgramTree) → IsImage tree (plain_image image.now)
-        → IsWritten (behind (list_text options.now text.now (plain_image image.now)) (stopped_at source_meaning tree item)) result (O.written sink.old) (O.written sink.new) }
+        → IsWritten (behind (list_text options.now text.now (plain_image image.now)) (stopped_at source_meaning tree item)) result
+        (O.written sink.old) (O.written sink.new) }
     ensures sound { IfOk result (λ answer. IsAnswerToText answer.status answer.session) }
     ensures cut { IsErrOf result Stop.WriteFailed → Rose (O.faults sink.old) (O.faults sink.new) }
 {

@@ -67,9 +67,11 @@ fn write_report<O: Sink>(
     requires report { HasReport ending.now }
     requires main { IsOfMain ending.now }
     requires end { (tree : ProgramTree) × (settings : Settings) × IsImage tree (plain_image image.now) × IsAtEnd tree settings session.now }
-    ensures whole { (tree : ProgramTree) (settings : Settings) → IsImage tree (plain_image image.now) → IsAtEnd tree settings session.now → ending.now ≡ (run_of tree settings).ending
+    ensures whole { (tree : ProgramTree) (settings : Settings) → IsImage tree (plain_image image.now) → IsAtEnd tree settings session.now →
+        ending.now ≡ (run_of tree settings).ending
         → IfOk result (λ done. Appends (O.written sink.old) (O.written sink.new) (report_by tree settings)) }
-    ensures front { (tree : ProgramTree) (settings : Settings) → IsImage tree (plain_image image.now) → IsAtEnd tree settings session.now → ending.now ≡ (run_of tree settings).ending
+    ensures front { (tree : ProgramTree) (settings : Settings) → IsImage tree (plain_image image.now) → IsAtEnd tree settings session.now →
+        ending.now ≡ (run_of tree settings).ending
         → IfErr result (λ stop. AppendsFront (O.written sink.old) (O.written sink.new) (report_by tree settings)) }
     ensures cut { IsErrOf result Stop.WriteFailed → Rose (O.faults sink.old) (O.faults sink.new) }
     ensures faults { O.faults sink.old ≤ O.faults sink.new }

@@ -2,7 +2,8 @@
 use Rattle.std.specs.Prelude.{◌≡◌, Some, codes, refl}
 use Rattle.pfc_translation_samples.specs.Shows.{code_of}
 
-sum_of_two_numbers : code_of (codes "program a; begin writeln(1+2) end.") ≡ Some (codes "     0     1 LIT 1\n     1     1 LIT 2\n     2     1 ADD\n     3     1 WRI 0\n     4     1 WRNL\n     5     1 END\n")
+sum_of_two_numbers : code_of (codes "program a; begin writeln(1+2) end.") ≡ Some
+    (codes "     0     1 LIT 1\n     1     1 LIT 2\n     2     1 ADD\n     3     1 WRI 0\n     4     1 WRNL\n     5     1 END\n")
 unfolding code_of
 sum_of_two_numbers = refl
 

@@ -9,7 +9,11 @@ one_place i j below above = omega (arith, below, above)
 
 -- an unexpected place is at most the length
 within : (kinds : List Symbol) (i : ℕ) → IsUnexpected kinds i → i ≤ length kinds
-within kinds i u = elim u.here [ inl stops ↦ let inside : i < length kinds = stops.inside in omega arith | inr ends ↦ let at_end : i ≡ length kinds = ends.end in omega arith ]
+within kinds i u = elim u.here [
+  | inl stops ↦ let inside : i < length kinds =
+      stops.inside in omega arith
+  | inr ends ↦ let at_end : i ≡ length kinds = ends.end in omega arith
+]
 
 -- no unexpected place is before another
 not_before : (kinds : List Symbol) (i j : ℕ) → IsUnexpected kinds i → IsUnexpected kinds j → i < j → ⊥

@@ -135,7 +135,8 @@ consts_hold s i outer (c ∷ cs) h =
     let view = here s.blocks.scopes i outer in
     let noted : State = note s (broken_constant s.blocks.scopes view c.value) in
     consts_hold (const_state s i outer c) i outer cs
-    (declare_holds noted i (c.name, c.place) (constant_meaning (constant_value s.blocks.scopes view c.value)) (note_holds s (broken_constant s.blocks.scopes view c.value) h) (constant_placed noted.forms (constant_value s.blocks.scopes view c.value)))
+    (declare_holds noted i (c.name, c.place) (constant_meaning (constant_value s.blocks.scopes view c.value))
+    (note_holds s (broken_constant s.blocks.scopes view c.value) h) (constant_placed noted.forms (constant_value s.blocks.scopes view c.value)))
 
 types_hold : (s : State) (i : ℕ) (outer : List Level) (ds : List TypeItemTree) → Holds s → Holds (types_state s i outer ds)
 types_hold s i outer [] h = h
@@ -143,7 +144,8 @@ types_hold s i outer (d ∷ ds) h =
     let view = here s.blocks.scopes i outer in
     let m = type_made false s view d.form h in
     types_hold (type_state s i outer d) i outer ds
-    (declare_holds (made false s view d.form).state i (d.name, d.place) (type_meaning (made false s view d.form).t) m.holds (type_placed (made false s view d.form).state.forms (made false s view d.form).t m.place))
+    (declare_holds (made false s view d.form).state i (d.name, d.place) (type_meaning (made false s view d.form).t) m.holds
+    (type_placed (made false s view d.form).state.forms (made false s view d.form).t m.place))
 
 population_holds : (s : State) (n : ℕ) → Holds s → Holds (set_population s n)
 population_holds s n h = record { built = h.built; placed = h.placed }
@@ -151,11 +153,15 @@ population_holds s n h = record { built = h.built; placed = h.placed }
 populated_holds : (s : State) (i more : ℕ) (x : Text × Place) (m : Meaning) → Holds s → IsPlaced s.forms (Some m) → Holds (populated s i more x m)
 populated_holds s i more x m h placed = by (passes_most s.blocks.population more)
   where
-    by : (b : Bool) → Holds (if b then declare (note (set_population s (most_processes (s.blocks.population + more))) (unless false x.1 424)) i x Faulty else declare (set_population s (most_processes (s.blocks.population + more))) i x m)
+    by : (b : Bool) → Holds (if b then
+        declare (note (set_population s (most_processes (s.blocks.population + more))) (unless false x.1 424)) i x Faulty else declare
+        (set_population s (most_processes (s.blocks.population + more))) i x m)
     by true =
         declare_holds (note (set_population s (most_processes (s.blocks.population + more))) (unless false x.1 424)) i x Faulty
-        (note_holds (set_population s (most_processes (s.blocks.population + more))) (unless false x.1 424) (population_holds s (most_processes (s.blocks.population + more)) h)) tt
-    by false = declare_holds (set_population s (most_processes (s.blocks.population + more))) i x m (population_holds s (most_processes (s.blocks.population + more)) h) placed
+        (note_holds (set_population s (most_processes (s.blocks.population + more))) (unless false x.1 424)
+        (population_holds s (most_processes (s.blocks.population + more)) h)) tt
+    by false = declare_holds (set_population s (most_processes (s.blocks.population + more))) i x m
+        (population_holds s (most_processes (s.blocks.population + more)) h) placed
 
 var_name_holds : (s : State) (i : ℕ) (t : Option TypeId) (x : Text × Place) → Holds s → HasPlace s.forms t → NoSignal t → Holds (var_name_state s i t x)
 var_name_holds s i t x h place value = by (is_some (meaning_in (scope_at s.blocks.scopes i) x.0))
@@ -177,7 +183,8 @@ vars_hold owner s i outer (more_vars (var_item xs t) vs) h =
     let view = here s.blocks.scopes i outer in
     let m = type_made false s view t h in
     vars_hold owner (var_state owner s i outer (var_item xs t)) i outer vs
-    (var_names_hold (note (made false s view t).state (owner_rules owner (made false s view t).state.forms (made false s view t).t (type_place t))) i (owned_type owner (made false s view t).state.forms (made false s view t).t) xs
+    (var_names_hold (note (made false s view t).state (owner_rules owner (made false s view t).state.forms (made false s view t).t (type_place t))) i
+    (owned_type owner (made false s view t).state.forms (made false s view t).t) xs
     (note_holds (made false s view t).state (owner_rules owner (made false s view t).state.forms (made false s view t).t (type_place t)) m.holds)
     (has_place (made false s view t).state.forms
     (note (made false s view t).state (owner_rules owner (made false s view t).state.forms (made false s view t).t (type_place t))).forms
@@ -218,7 +225,8 @@ accept_groups_hold i view h (g ∷ gs) held =
 heading_holds : (s : State) (view : List Level) (gs : List GroupTree) → Holds s → Holds (heading (open_scope s) (length s.blocks.scopes) view gs).state
 heading_holds s view gs h = groups_hold (length s.blocks.scopes) view (record { state = open_scope s; formals = []; whole = true }) gs (open_holds s h)
 
-entry_formals_hold : (reference : Bool) (t : Option TypeId) (h : EntryHeading) (xs : List (Text × Place)) → Holds h.state → Holds (entry_formals reference t h xs).state
+entry_formals_hold : (reference : Bool) (t : Option TypeId) (h : EntryHeading) (xs : List (Text × Place)) → Holds h.state →
+    Holds (entry_formals reference t h xs).state
 entry_formals_hold reference t h [] held = held
 entry_formals_hold reference t h (x ∷ xs) held =
     entry_formals_hold reference t (entry_formal reference t h x) xs (note_holds h.state (unless (not (is_some (meaning_in h.own x.0))) x.1 302) held)
@@ -235,7 +243,8 @@ entries_hold s i outer k (e ∷ es) held =
     let h : EntryHeading = entry_groups (here s.blocks.scopes i outer) (record { state = s; own = []; formals = []; whole = true }) e.formals in
     let groups = entry_groups_hold (here s.blocks.scopes i outer) (record { state = s; own = []; formals = []; whole = true }) e.formals held in
     entries_hold (entry_state s i outer k e) i outer (k + 1) es
-    (declare_holds (add_entry h.state h.formals) i (e.name, e.place) (entry_meaning h.whole k) (record { built = groups.built; placed = groups.placed }) (entry_placed h.state.forms h.whole k))
+    (declare_holds (add_entry h.state h.formals) i (e.name, e.place) (entry_meaning h.whole k) (record { built = groups.built; placed = groups.placed })
+    (entry_placed h.state.forms h.whole k))
 
 -- ## Exports and processes
 
@@ -251,7 +260,8 @@ export_holds s m p h = note_holds s (unless false p 409) h
 export_list_holds : (s : State) (i : ℕ) (xs : List (Text × Place)) → Holds s → Holds (export_list s i xs)
 export_list_holds s i [] h = h
 export_list_holds s i (x ∷ xs) h =
-    export_list_holds (export_state s (meaning_in (scope_at s.blocks.scopes i) x.0) x.1) i xs (export_holds s (meaning_in (scope_at s.blocks.scopes i) x.0) x.1 h)
+    export_list_holds (export_state s (meaning_in (scope_at s.blocks.scopes i) x.0) x.1) i xs
+    (export_holds s (meaning_in (scope_at s.blocks.scopes i) x.0) x.1 h)
 
 exports_hold : (s : State) (i : ℕ) (lists : List (List (Text × Place))) → Holds s → Holds (exports_state s i lists)
 exports_hold s i [] h = h
@@ -281,7 +291,8 @@ label_holds (Some c) p r h = by (list_any (same_ordinal c) r.seen)
 labels_hold : (view : List Level) (r : Labels) (cs : List Constant) → Holds r.state → Holds (labels_noted view r cs).state
 labels_hold view r [] h = h
 labels_hold view r (c ∷ cs) h =
-    labels_hold view (label_noted (constant_value r.state.blocks.scopes view c) (constant_place c) r) cs (label_holds (constant_value r.state.blocks.scopes view c) (constant_place c) r h)
+    labels_hold view (label_noted (constant_value r.state.blocks.scopes view c) (constant_place c) r) cs
+    (label_holds (constant_value r.state.blocks.scopes view c) (constant_place c) r h)
 
 accepted_holds : (s : State) (view : List Level) (x : Text) (gs : List GroupTree) (p : Place) → Holds s → Holds (accepted s view x gs p)
 accepted_holds s view x gs p held =
@@ -341,7 +352,8 @@ init_holds s view (Some b) h = body_holds s view b h
 
 -- ## Parts
 
-sub_headed_holds : (s : State) (i : ℕ) (outer : List Level) (x : Text × Place) (gs : List GroupTree) (kind : KindTree) → Holds s → Holds (sub_headed s i outer x gs kind)
+sub_headed_holds : (s : State) (i : ℕ) (outer : List Level) (x : Text × Place) (gs : List GroupTree) (kind : KindTree) →
+    Holds s → Holds (sub_headed s i outer x gs kind)
 sub_headed_holds s i outer x gs kind held =
     let own = length s.blocks.scopes in
     let around = here s.blocks.scopes i outer in
@@ -350,10 +362,12 @@ sub_headed_holds s i outer x gs kind held =
     let sort = sort_of h.state view kind in
     let head : SubHead = record { formals = h.formals; sort = sort; scope = own; exported = false } in
     let noted = note_holds h.state (broken_sort h.state view kind) (heading_holds s around gs held) in
-    declare_holds (add_sub (note h.state (broken_sort h.state view kind)) head) i x (sub_meaning (h.whole && whole_sort sort) (length s.blocks.subs)) (record { built = noted.built; placed = noted.placed })
+    declare_holds (add_sub (note h.state (broken_sort h.state view kind)) head) i x (sub_meaning (h.whole && whole_sort sort) (length s.blocks.subs))
+    (record { built = noted.built; placed = noted.placed })
     (sub_placed (note h.state (broken_sort h.state view kind)).forms (h.whole && whole_sort sort) (length s.blocks.subs))
 
-process_headed_holds : (s : State) (i : ℕ) (outer : List Level) (many : Bool) (x : Text × Place) (gs : List GroupTree) → Holds s → Holds (process_headed s i outer many x gs)
+process_headed_holds : (s : State) (i : ℕ) (outer : List Level) (many : Bool) (x : Text × Place) (gs : List GroupTree) → Holds s →
+    Holds (process_headed s i outer many x gs)
 process_headed_holds s i outer many x gs held =
     let own = length s.blocks.scopes in
     let h : Heading = heading (open_scope s) own (here s.blocks.scopes i outer) gs in
@@ -361,10 +375,12 @@ process_headed_holds s i outer many x gs held =
     let k = heading_holds s (here s.blocks.scopes i outer) gs held in
     process_named_holds (add_process h.state head) i many h.whole x (length s.blocks.processes) (record { built = k.built; placed = k.placed })
 
-module_closed_holds : (is_resource : Bool) (s : State) (i own : ℕ) (x : Text × Place) (exports : List (List (Text × Place))) → Holds s → Holds (module_closed is_resource s i own x exports)
+module_closed_holds : (is_resource : Bool) (s : State) (i own : ℕ) (x : Text × Place) (exports : List (List (Text × Place))) → Holds s →
+    Holds (module_closed is_resource s i own x exports)
 module_closed_holds is_resource s i own x exports h =
     let k = exports_hold s own exports h in
-    declare_holds (add_module (exports_state s own exports) (record { scope = own; resource = is_resource })) i x (Module (length s.blocks.modules)) (record { built = k.built; placed = k.placed }) tt
+    declare_holds (add_module (exports_state s own exports) (record { scope = own; resource = is_resource })) i x (Module (length s.blocks.modules))
+    (record { built = k.built; placed = k.placed }) tt
 
 mutual
   part_holds : (owner : Owner) (s : State) (i : ℕ) (outer : List Level) (q : PartTree) → Holds s → Holds (part_state owner s i outer q)
@@ -388,7 +404,8 @@ mutual
       let declared = parts_state elsewhere headed own around ps in
       let done = body_state declared (here declared.blocks.scopes own around) inside in
       note_holds done (cells_rule (scope_cells done.forms (scope_at done.blocks.scopes own) + result_cells kind) p)
-      (body_holds declared (here declared.blocks.scopes own around) inside (parts_hold elsewhere headed own around ps (sub_headed_holds s i outer (x, p) gs kind h)))
+      (body_holds declared (here declared.blocks.scopes own around) inside (parts_hold elsewhere headed own around ps
+      (sub_headed_holds s i outer (x, p) gs kind h)))
 
   module_holds : (is_resource : Bool) (s : State) (i : ℕ) (outer : List Level) (q : ModuleTree) → Holds s → Holds (module_state is_resource s i outer q)
   module_holds is_resource s i outer (the_module x exports ps b last p) h =
@@ -407,7 +424,8 @@ mutual
       let declared = parts_state elsewhere entered own around ps in
       let done = body_state declared (here declared.blocks.scopes own around) inside in
       note_holds done (cells_rule (process_cells done own (length declared.blocks.scopes)) p)
-      (body_holds declared (here declared.blocks.scopes own around) inside (parts_hold elsewhere entered own around ps (entries_hold headed own around 0 es (process_headed_holds s i outer many (x, p) gs h))))
+      (body_holds declared (here declared.blocks.scopes own around) inside (parts_hold elsewhere entered own around ps
+      (entries_hold headed own around 0 es (process_headed_holds s i outer many (x, p) gs h))))
 
 -- ## The whole
 

@@ -63,7 +63,8 @@ placed_grown forms more (Some (Named t)) h = omega (arith, h, length-append form
 placed_grown forms more (Some (Variable t reference)) h = (omega (arith, h.0, length-append forms more), h.1)
 placed_grown forms more m h = tt
 
-form_pushed : (forms : Forms) (f : TypeForm) (n : ℕ) (form : TypeForm) → get_or (forms ++ Some f ∷ []) n None ≡ Some form → (get_or forms n None ≡ Some form) ⊎ ((n ≡ length forms) × (f ≡ form))
+form_pushed : (forms : Forms) (f : TypeForm) (n : ℕ) (form : TypeForm) → get_or (forms ++ Some f ∷ []) n None ≡ Some form →
+    (get_or forms n None ≡ Some form) ⊎ ((n ≡ length forms) × (f ≡ form))
 form_pushed [] f zero form e = let same : f ≡ form = cc in inr (refl, same)
 form_pushed [] f (suc n) form e = absurd (cc)
 form_pushed (g ∷ forms) f zero form e = inl e
@@ -135,7 +136,11 @@ scope_pushed (names ∷ scopes) (suc i) P h empty = scope_pushed scopes i P h em
 
 -- a scope that is opened is empty
 pub open_holds : (s : State) → Holds s → Holds (open_scope s)
-open_holds s h = record { built = h.built; placed = λ i x. scope_pushed s.blocks.scopes i (λ (names : Names). IsPlaced s.forms (meaning_in names x)) (h.placed i x) tt }
+open_holds s h = record {
+  built = h.built;
+  placed =
+      λ i x. scope_pushed s.blocks.scopes i (λ (names : Names). IsPlaced s.forms (meaning_in names x)) (h.placed i x) tt;
+}
 
 -- what is true of a scope and of what is written there is true of the scope behind the write
 pub scope_set : (scopes : List Names) (i j : ℕ) (names : Names) (P : Names → Type 0) → P (scope_at scopes j) → P names → P (scope_at (set scopes i names) j)
@@ -146,7 +151,8 @@ scope_set (others ∷ scopes) (suc i) zero names P h k = h
 scope_set (others ∷ scopes) (suc i) (suc j) names P h k = scope_set scopes i j names P h k
 
 -- a name more at the end of a scope
-pub name_pushed : (names : Names) (x y : Text) (m : Meaning) (P : Option Meaning → Type 0) → P (meaning_in names y) → P (Some m) → P (meaning_in (names ++ (x, m) ∷ []) y)
+pub name_pushed : (names : Names) (x y : Text) (m : Meaning) (P : Option Meaning → Type 0) → P (meaning_in names y) → P (Some m) →
+    P (meaning_in (names ++ (x, m) ∷ []) y)
 name_pushed [] x y m P h k = by (bytes_eq y x)
   where
     by : (b : Bool) → P (cond b (Some m) None)
@@ -154,7 +160,8 @@ name_pushed [] x y m P h k = by (bytes_eq y x)
     by false = h
 name_pushed (e ∷ names) x y m P h k = by (bytes_eq y e.0) h (λ g. name_pushed names x y m P g k)
   where
-    by : (b : Bool) → P (cond b (Some e.1) (meaning_in names y)) → (P (meaning_in names y) → P (meaning_in (names ++ (x, m) ∷ []) y)) → P (cond b (Some e.1) (meaning_in (names ++ (x, m) ∷ []) y))
+    by : (b : Bool) → P (cond b (Some e.1) (meaning_in names y)) → (P (meaning_in names y) → P (meaning_in (names ++ (x, m) ∷ []) y)) →
+        P (cond b (Some e.1) (meaning_in (names ++ (x, m) ∷ []) y))
     by true g others = g
     by false g others = others g
 
@@ -168,7 +175,8 @@ declare_holds s i x m h placed = by (is_some (meaning_in (scope_at s.blocks.scop
         record {
           built = h.built;
           placed = λ j y.
-              scope_set s.blocks.scopes i j (scope_at s.blocks.scopes i ++ (x.0, m) ∷ []) (λ (names : Names). IsPlaced s.forms (meaning_in names y)) (h.placed j y)
+              scope_set s.blocks.scopes i j (scope_at s.blocks.scopes i ++ (x.0, m) ∷ [])
+              (λ (names : Names). IsPlaced s.forms (meaning_in names y)) (h.placed j y)
               (name_pushed (scope_at s.blocks.scopes i) x.0 y m (IsPlaced s.forms) (h.placed i y) placed);
         }
 
@@ -191,21 +199,24 @@ name_is P test x (e ∷ names) absent h some = by (bytes_eq x e.0) refl (name_is
 
 -- what is true of a name in each scope and of the predeclared one is true of the name in view
 pub look_is :
-    (P : Option Meaning → Type 0) (scopes : List Names) (x : Text) → P (meaning_in predeclared_names x) → ((i : ℕ) → P (meaning_in (scope_at scopes i) x)) → (view : List Level)
+    (P : Option Meaning → Type 0) (scopes : List Names) (x : Text) → P (meaning_in predeclared_names x) →
+    ((i : ℕ) → P (meaning_in (scope_at scopes i) x)) → (view : List Level)
     → P (look scopes view x)
 look_is P scopes x outermost h [] = by (meaning_in predeclared_names x) outermost
   where
     by : (m : Option Meaning) → P m → P (meaning_of (option_map (λ y. record { scope = None; place = 0; meaning = y }) m))
     by None g = g
     by (Some y) g = g
-look_is P scopes x outermost h (level ∷ view) = by (position_in (scope_at scopes level.scope) x) (meaning_in (scope_at scopes level.scope) x) (h level.scope) (look_is P scopes x outermost h view)
+look_is P scopes x outermost h (level ∷ view) = by (position_in (scope_at scopes level.scope) x) (meaning_in (scope_at scopes level.scope) x)
+    (h level.scope) (look_is P scopes x outermost h view)
   where
     by : (p : Option ℕ) (m : Option Meaning) → P m → P (look scopes view x) → P (meaning_of (option_or (within level p m) (found_in scopes view x)))
     by None m g outside = outside
     by (Some k) None g outside = outside
     by (Some k) (Some y) g outside = seen (nat_lt k level.count)
       where
-        seen : (b : Bool) → P (meaning_of (option_or (cond b (Some (record { scope = Some level.scope; place = k; meaning = y })) None) (found_in scopes view x)))
+        seen : (b : Bool) → P
+            (meaning_of (option_or (cond b (Some (record { scope = Some level.scope; place = k; meaning = y })) None) (found_in scopes view x)))
         seen true = g
         seen false = outside
 
@@ -387,7 +398,9 @@ mutual
   type_made carried s view (named x p) h =
       record {
         holds = note_holds s (type_name_rules carried (look s.blocks.scopes view x) p) h;
-        place = subst (λ (forms : Forms). HasPlace forms (named_type carried (look s.blocks.scopes view x))) (sym (note_forms s (type_name_rules carried (look s.blocks.scopes view x) p))) (named_placed s.forms carried (look s.blocks.scopes view x) (look_placed s h view x));
+        place = subst (λ (forms : Forms). HasPlace forms (named_type carried (look s.blocks.scopes view x)))
+            (sym (note_forms s (type_name_rules carried (look s.blocks.scopes view x) p)))
+            (named_placed s.forms carried (look s.blocks.scopes view x) (look_placed s h view x));
       }
   type_made carried s view (channel t p) h = channel_made (made true s view t) (type_place t) p (type_made true s view t h)
   type_made carried s view (array rs t p) h =
@@ -396,7 +409,8 @@ mutual
       (type_no_signal (note s (broken_ranges s.blocks.scopes view rs)) view t (note_holds s (broken_ranges s.blocks.scopes view rs) h))
   type_made carried s view (fields vs last p) h =
       let r = items_made view (fields_begun s) vs (record { holds = h; before = tt; values = tt }) in
-      added_made (made_items view (fields_begun s) vs).state (record_form (made_items view (fields_begun s) vs)) p r.holds (record_behind (made_items view (fields_begun s) vs) r)
+      added_made (made_items view (fields_begun s) vs).state (record_form (made_items view (fields_begun s) vs)) p r.holds
+      (record_behind (made_items view (fields_begun s) vs) r)
 
   -- and one that does not stand directly after `channel of` is not `synchronous`
   pub type_no_signal : (s : State) (view : List Level) (t : TypeTree) → Holds s → NoSignal (made false s view t).t

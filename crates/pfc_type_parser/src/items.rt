@@ -91,7 +91,8 @@ fn type_items_behind(
     tokens: &[Token],
     alloc: Global,
 ) -> Result<(Vec<TypeItem>, &[Token]), Halt>
-    ensures gives { Gives (λ r. (map type_item_view r.0.items, r.1.now)) result (many_onto (type_item_view first ∷ []) as_name (type_item_behind (type_at levels)) tokens.now) }
+    ensures gives { Gives (λ r. (map type_item_view r.0.items, r.1.now)) result (many_onto (type_item_view first ∷ []) as_name
+        (type_item_behind (type_at levels)) tokens.now) }
     ensures kept { IfOk result (λ r. length r.1.now ≤ length tokens.now) }
 {
     let mut items = Vec::new(alloc);
@@ -147,7 +148,8 @@ fn var_items_behind(
     tokens: &[Token],
     alloc: Global,
 ) -> Result<(Vec<VarItem>, &[Token]), Halt>
-    ensures gives { Gives (λ r. (map var_view r.0.items, r.1.now)) result (many_onto (var_view first ∷ []) as_name (var_item_behind (type_at levels)) tokens.now) }
+    ensures gives { Gives (λ r. (map var_view r.0.items, r.1.now)) result (many_onto (var_view first ∷ []) as_name
+        (var_item_behind (type_at levels)) tokens.now) }
     ensures kept { IfOk result (λ r. length r.1.now ≤ length tokens.now) }
 {
     let mut items = Vec::new(alloc);

@@ -151,7 +151,8 @@ fn fields_behind(
     tokens: &[Token],
     alloc: Global,
 ) -> Result<((Vec<VarItem>, bool), &[Token]), Halt>
-    ensures gives { Gives (λ r. ((map var_view r.0.0.items, r.0.1), r.1.now)) result (end_onto (var_view first ∷ []) (as_sign SEMICOLON) (is_word END) (var_with (type_at levels)) tokens.now) }
+    ensures gives { Gives (λ r. ((map var_view r.0.0.items, r.0.1), r.1.now)) result (end_onto (var_view first ∷ []) (as_sign SEMICOLON) (is_word END)
+        (var_with (type_at levels)) tokens.now) }
     ensures kept { IfOk result (λ r. length r.1.now ≤ length tokens.now) }
 {
     let mut groups = Vec::new(alloc);

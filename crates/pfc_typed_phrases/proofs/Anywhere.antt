@@ -39,7 +39,8 @@ expressions_typed s known =
 pub selectors_are : (s : Site) → AreKnown s → SelectorsAreTyped s
 selectors_are s known =
     anywhere s SelectorsAreTyped known
-    (λ k ss t h. selectors_typed s.program s.block s.env.view s.env.around s.line k ss t (listed-clean (broken_selectors (with_state s s.program.state).env (Some t) ss) h))
+    (λ k ss t h. selectors_typed s.program s.block s.env.view s.env.around s.line k ss t
+    (listed-clean (broken_selectors (with_state s s.program.state).env (Some t) ss) h))
 
 pub arguments_wanted : (s : Site) → AreKnown s → ArgumentsAreWanted s
 arguments_wanted s known =
@@ -80,7 +81,8 @@ desig_part s known (desig x ss p) h = by (meaning_of (find s.env x)) refl h
     by (Some Faulty) e h = absurd (known.faulty x e)
     by (Some (Variable t r)) e h =
         let laid = known.variables x t r e in
-        let part = selectors_are s known ss t (clean-listed (broken_selectors s.env (Some t) ss) (and-right true (clean (broken_selectors s.env (Some t) ss)) h)) in
+        let part = selectors_are s known ss t (clean-listed (broken_selectors s.env (Some t) ss)
+        (and-right true (clean (broken_selectors s.env (Some t) ss)) h)) in
         let v = spot_of s.env (find s.env x) in (
           part.0,
           ap (λ (m : Option Meaning). selected s.env (variable_type m) ss) e ∙ part.1,

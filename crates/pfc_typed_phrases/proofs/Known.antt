@@ -33,7 +33,8 @@ not_faulty true h = refl
 not_faulty false h = never (sym h)
 
 -- a name of a sub that is not faulty has a whole heading
-found_whole : (b : Blocks) (found : Option Found) (n : ℕ) → meaning_of found ≡ Some (Sub n) → is_faulty_found b found ≡ false → all_typed (sub_at b n).formals ≡ true
+found_whole : (b : Blocks) (found : Option Found) (n : ℕ) → meaning_of found ≡ Some (Sub n) →
+    is_faulty_found b found ≡ false → all_typed (sub_at b n).formals ≡ true
 found_whole b None n e h = absurd (cc)
 found_whole b (Some f) n e h =
     let same : f.meaning ≡ Sub n = cc in
@@ -48,7 +49,8 @@ module _ (t : ProgramTree) (s : Site) (lawful : broken t ≡ []) (program : s.pr
   constant_simple : (x : Text) (c : TypeId) (n : ℤ) → meaning_of (find s.env x) ≡ Some (Constant c n) → is_simple c ≡ true
   constant_simple x c n e =
       subst IsSimpleConstant e
-      (subst (λ (k : State). IsSimpleConstant (look k.blocks.scopes s.env.view x)) (sym state) (look_simple (scopes_of t).scopes (constants_simple t) s.env.view x))
+      (subst (λ (k : State). IsSimpleConstant (look k.blocks.scopes s.env.view x)) (sym state)
+      (look_simple (scopes_of t).scopes (constants_simple t) s.env.view x))
 
   sub_whole : (x : Text) (n : ℕ) → meaning_of (find s.env x) ≡ Some (Sub n) → all_typed (sub_at (blocks_of s) n).formals ≡ true
   sub_whole x n e =
@@ -71,7 +73,8 @@ module _ (t : ProgramTree) (s : Site) (lawful : broken t ≡ []) (program : s.pr
         state = state ∙ sym program;
         table = subst (λ (k : State). IsBuiltUp k.forms) (sym program) (types_built t);
         of_variables = variable_of_table;
-        bounds = subst (λ (k : State). (u : TypeId) (form : TypeForm) → form_of k.forms u ≡ Some form → has_bounds form ≡ true) (sym program) (types_built t).bounds;
+        bounds = subst (λ (k : State). (u : TypeId) (form : TypeForm) → form_of k.forms u ≡ Some form →
+            has_bounds form ≡ true) (sym program) (types_built t).bounds;
         constants = constant_simple;
         variables = λ x u r e. variable_laid s x u r (state ∙ sym program) e (places.variables x u r e);
         subs = λ x n e. record { formals = sub_whole x n e; block = places.subs x n e };

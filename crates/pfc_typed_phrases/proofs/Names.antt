@@ -171,7 +171,8 @@ first_simple : (s : Site) (args : ActualTrees) (wants : List Want) → AreWanted
 first_simple s no_actuals wants h = absurd h
 first_simple s (more_actuals a rest) wants h = h.0
 
-first_lent : (s : Site) (args : ActualTrees) (wants : List Want) → AreWanted s (a_variable_of (Some condition) ∷ wants) args → IsLentFirst s args (Some condition)
+first_lent : (s : Site) (args : ActualTrees) (wants : List Want) →
+    AreWanted s (a_variable_of (Some condition) ∷ wants) args → IsLentFirst s args (Some condition)
 first_lent s no_actuals wants h = absurd h
 first_lent s (more_actuals a rest) wants h = h.0
 
@@ -189,7 +190,8 @@ first_typed s (more_actuals (actual_width e w) rest) wants h = never h
 called_type : (fit : Bool) (o : Option TypeId) (t : TypeId) → fit ≡ true → o ≡ Some t → (if true && fit then o else None) ≡ Some t
 called_type fit o t f e = ap (λ (b : Bool). if b then o else None) f ∙ e
 
-site_holds : (s : Site) (stand : Stand) (first : Option TypeId) (p : Place) → clean (site_rule s.env.around stand first p) ≡ true → site_fits s.env.around stand first ≡ true
+site_holds : (s : Site) (stand : Stand) (first : Option TypeId) (p : Place) → clean (site_rule s.env.around stand first p) ≡ true →
+    site_fits s.env.around stand first ≡ true
 site_holds s anywhere first p h = refl
 site_holds s in_main first p h = holds s.env.around.main p 403 h
 site_holds s in_monitor_sub first p h = holds (site_fits s.env.around in_monitor_sub first) p 408 h
@@ -197,29 +199,47 @@ site_holds s in_monitor_sub first p h = holds (site_fits s.env.around in_monitor
 -- a function that is called with arguments in which no rule is broken
 abbrev Called : Site → Callee → Option TypeId → ActualTrees → (Shape → Type 0) → Type 0
 Called s callee value args is =
-    (t : TypeId) × ((if true && (args_fit s.env callee.wants args && site_fits s.env.around callee.site (first_type s.env args)) then value else None) ≡ Some t) × is (shape_of t)
+    (t : TypeId) × ((if true && (args_fit s.env callee.wants args && site_fits s.env.around callee.site (first_type s.env args)) then
+    value else None) ≡ Some t) × is (shape_of t)
 
 routine_called :
     (s : Site) (args : ActualTrees) (p : Place) (r : Routine) (f : AFunction) → IsPair r f → is_function_routine r ≡ true → Fit s args
     → clean (count_rule (called_routine r) args p) ≡ true → clean (broken_actuals s.env None (called_routine r).known (called_routine r).wants args) ≡ true
     → clean (site_rule s.env.around (called_routine r).site (first_type s.env args) p) ≡ true
-    → Called s (called_routine r) (routine_value r (first_type s.env args)) args (λ h. IsFunction f h (IsGivenFirst s args) (IsLentFirst s args (Some condition)))
+    → Called s (called_routine r) (routine_value r (first_type s.env args)) args
+    (λ h. IsFunction f h (IsGivenFirst s args) (IsLentFirst s args (Some condition)))
 routine_called s args p r f (of_integer t simple takes) is fit count actuals stands =
-    let a = fit one_integer ((integer, refl), tt) (holds _ p 316 count) actuals in
-    (t, called_type _ (Some t) t (both _ _ a.1 refl) refl, of_number f (shape_of t) (IsGivenFirst s args) _ takes (simple_shape t simple) (first_given s args [] a.0))
+    let a = fit one_integer ((integer, refl), tt) (holds _ p 316 count) actuals in (
+      t,
+      called_type _ (Some t) t (both _ _ a.1 refl) refl,
+      of_number f (shape_of t) (IsGivenFirst s args) _ takes
+          (simple_shape t simple) (first_given s args [] a.0),
+    )
 routine_called s args p r f (of_simple t simple takes) is fit count actuals stands =
-    let a = fit one_simple (tt, tt) (holds _ p 316 count) actuals in
-    (t, called_type _ (Some t) t (both _ _ a.1 refl) refl, of_number f (shape_of t) (IsGivenFirst s args) _ takes (simple_shape t simple) (first_simple s args [] a.0))
+    let a = fit one_simple (tt, tt) (holds _ p 316 count) actuals in (
+      t,
+      called_type _ (Some t) t (both _ _ a.1 refl) refl,
+      of_number f (shape_of t) (IsGivenFirst s args) _ takes
+          (simple_shape t simple) (first_simple s args [] a.0),
+    )
 routine_called s args p r f (alike takes) is fit count actuals stands =
     let a = fit one_simple (tt, tt) (holds _ p 316 count) actuals in
-    let first = first_typed s args [] a.1 in
-    (first.0, called_type _ (first_type s.env args) first.0 (both _ _ a.1 refl) first.1, of_number f (shape_of first.0) (IsGivenFirst s args) _ takes (simple_shape first.0 first.2) (first_simple s args [] a.0))
+    let first = first_typed s args [] a.1 in (
+      first.0,
+      called_type _ (first_type s.env args) first.0 (both _ _ a.1 refl) first.1,
+      of_number f (shape_of first.0) (IsGivenFirst s args) _ takes
+          (simple_shape first.0 first.2) (first_simple s args [] a.0),
+    )
 routine_called s args p r f (of_nothing t simple takes) is fit count actuals stands =
     let a = fit [] tt (holds _ p 316 count) actuals in
     (t, called_type _ (Some t) t (both _ _ a.1 refl) refl, of_none f (shape_of t) (IsGivenFirst s args) _ takes (simple_shape t simple))
 routine_called s args p r f of_condition is fit count actuals stands =
-    let a = fit one_condition ((condition, refl), tt) (holds _ p 316 count) actuals in
-    (boolean, called_type _ (Some boolean) boolean (both _ _ a.1 (site_holds s in_monitor_sub (first_type s.env args) p stands)) refl, (refl, first_lent s args [] a.0))
+    let a = fit one_condition ((condition, refl), tt) (holds _ p 316 count) actuals in (
+      boolean,
+      called_type _ (Some boolean) boolean (both _ _ a.1 (site_holds s in_monitor_sub (first_type s.env args) p stands))
+          refl,
+      (refl, first_lent s args [] a.0),
+    )
 routine_called s args p r f (no_pair other) is fit count actuals stands = never (sym other ∙ is)
 
 -- a sub in view is as is asked of it
@@ -265,7 +285,8 @@ sub_called s args p head whole is fit count actuals = by head.sort is whole.bloc
 -- selectors in which no rule is broken lead to a part
 abbrev pub Lead : Site → SelectorTrees → Type 0
 Lead s ss =
-    (t : TypeId) → clean (broken_selectors s.env (Some t) ss) ≡ true → (u : TypeId) × (selected s.env (Some t) ss ≡ Some u) × AreSelectors s (Some t) ss (Some u)
+    (t : TypeId) → clean (broken_selectors s.env (Some t) ss) ≡ true → (u : TypeId) ×
+    (selected s.env (Some t) ss ≡ Some u) × AreSelectors s (Some t) ss (Some u)
 
 abbrev pub site_in : Program → Block → List Level → Around → ℕ → Site
 site_in g block view around line = record { program = g; block = block; env = record { state = g.state; view = view; around = around }; line = line }
@@ -314,9 +335,11 @@ module _ (g : Program) (block : Block) (view : List Level) (around : Around) (li
       → not (is_any (Some m) && (no_selector ss && no_actual args)) ≡ true
       → clean (broken_selectors s.env (variable_type (Some m)) ss) ≡ true
       → (let callee = (if no_selector ss then called_function s.env.state.blocks (Some m) else nothing_called) in
-      (clean (count_rule callee args p) ≡ true) × (clean (broken_actuals s.env None callee.known callee.wants args) ≡ true) × (clean (site_rule s.env.around callee.site (first_type s.env args) p) ≡ true))
+      (clean (count_rule callee args p) ≡ true) × (clean (broken_actuals s.env None callee.known callee.wants args) ≡ true) ×
+      (clean (site_rule s.env.around callee.site (first_type s.env args) p) ≡ true))
       → Uses x ss args (Some m) (gives_of m ss args)
-  meaning_used x ss args p (Constant t n) e lead fit fits any sel rest = (t, where_true (no_selector ss && no_actual args) t fits, simple_shape t (known.constants x t n e))
+  meaning_used x ss args p (Constant t n) e lead fit fits any sel rest =
+      (t, where_true (no_selector ss && no_actual args) t fits, simple_shape t (known.constants x t n e))
   meaning_used x ss args p (Named t) e lead fit fits any sel rest = never fits
   meaning_used x ss args p (Variable t r) e lead fit fits any sel rest = variable_used x ss args t r e lead fits sel
   meaning_used x (more_selectors a ss) args p (Sub n) e lead fit fits any sel rest = never fits
@@ -327,7 +350,8 @@ module _ (g : Program) (block : Block) (view : List Level) (around : Around) (li
   meaning_used x ss args p (Entry n) e lead fit fits any sel rest = never fits
   meaning_used x (more_selectors a ss) args p (Predeclared k) e lead fit fits any sel rest = never fits
   meaning_used x no_selectors args p (Predeclared k) e lead fit fits any sel rest =
-      routine_called s args p (routine_of k) (function_of k) (function_pair k) (function (is_function_routine (routine_of k)) (is_signal (routine_of k)) (no_actual args) fits any) fit rest.0 rest.1 rest.2
+      routine_called s args p (routine_of k) (function_of k) (function_pair k) (function (is_function_routine (routine_of k)) (is_signal (routine_of k))
+      (no_actual args) fits any) fit rest.0 rest.1 rest.2
     where
       function : (f a b : Bool) → (f || (a && b)) ≡ true → not (a && b) ≡ true → f ≡ true
       function true a b h k = refl
@@ -348,11 +372,13 @@ module _ (g : Program) (block : Block) (view : List Level) (around : Around) (li
       holds (guard_allows s.env.around.guard (Some f)) p 420 (and-right (clean b) (clean c) (and-right (clean a) (clean b && clean c) rules))
 
   pub name_used :
-      (x : Text) (ss : SelectorTrees) (args : ActualTrees) (p : Place) (found : Option Found) → meaning_of (find s.env x) ≡ meaning_of found → Lead s ss → Fit s args
+      (x : Text) (ss : SelectorTrees) (args : ActualTrees) (p : Place) (found : Option Found) →
+      meaning_of (find s.env x) ≡ meaning_of found → Lead s ss → Fit s args
       → clean (use_rules s.env found (no_selector ss) (no_actual args) p) ≡ true
       → clean (broken_selectors s.env (variable_type (meaning_of found)) ss) ≡ true
       → (let callee = (if no_selector ss then called_function s.env.state.blocks (meaning_of found) else nothing_called) in
-      (clean (count_rule callee args p) ≡ true) × (clean (broken_actuals s.env None callee.known callee.wants args) ≡ true) × (clean (site_rule s.env.around callee.site (first_type s.env args) p) ≡ true))
+      (clean (count_rule callee args p) ≡ true) × (clean (broken_actuals s.env None callee.known callee.wants args) ≡ true) ×
+      (clean (site_rule s.env.around callee.site (first_type s.env args) p) ≡ true))
       → Uses x ss args (meaning_of found)
       (use_type s.env found (no_selector ss) (no_actual args) (selected s.env (variable_type (meaning_of found)) ss)
       (args_fit s.env (called_function s.env.state.blocks (meaning_of found)).wants args

@@ -166,7 +166,8 @@ module _ (g : Program) (block : Block) (view : List Level) (around : Around) (li
       let p = expr_place e in
       let rules = subst (λ (o : Option TypeId). clean (want_rules g.state.forms (a_value (Some w)) (is_variable s.env ending e) o p) ≡ true) typed h in
       let suit = and-left (clean (unless (may_suit (Some w) (Some u)) p 317)) (clean (value_rule g.state.forms (Some u) p)) rules in
-      let object = holds (not (has_object g.state.forms (Some u))) p 406 (and-right (clean (unless (may_suit (Some w) (Some u)) p 317)) (clean (value_rule g.state.forms (Some u) p)) rules) in (
+      let object = holds (not (has_object g.state.forms (Some u))) p 406 (and-right (clean (unless (may_suit (Some w) (Some u)) p 317))
+      (clean (value_rule g.state.forms (Some u) p)) rules) in (
         (
           subst (λ (k : TypeId). HasShape s e (shape_of k)) (suited w u p suit) is,
           subst (λ (k : TypeId). IsValueType g.state.forms k) (suited w u p suit) (expr_value s known e u is (not_true (is_object g.state.forms u) object)),
@@ -228,8 +229,12 @@ module _ (g : Program) (block : Block) (view : List Level) (around : Around) (li
         let behind = and-right (clean (broken_term s.env first)) (clean rule && tail) h in
         let signed = signed_known sign x.0 (subst (λ (o : Option TypeId). clean (signed_rule (Some sign) o) ≡ true) x.1 (and-left (clean rule) tail behind)) in
         let is = ap (λ (o : Option TypeId). signed_type (Some sign) o) x.1 ∙ signed.1 in
-        let y = more_typed rest integer (subst (λ (o : Option TypeId). clean (broken_summands s.env o rest) ≡ true) is (and-right (clean rule) tail behind)) in
-        (y.0, ap (λ (o : Option TypeId). summed s.env o rest) is ∙ y.1, (simple_shape y.0 (summed_simple rest integer y.0 y.2 refl), as_term first x.0 x.2 (ap is_simple signed.0), y.3))
+        let y = more_typed rest integer (subst (λ (o : Option TypeId). clean (broken_summands s.env o rest) ≡ true) is (and-right (clean rule) tail behind)) in (
+          y.0,
+          ap (λ (o : Option TypeId). summed s.env o rest) is ∙
+              y.1,
+          (simple_shape y.0 (summed_simple rest integer y.0 y.2 refl), as_term first x.0 x.2 (ap is_simple signed.0), y.3),
+        )
 
     -- what comes behind the first operand
     more_typed :
@@ -242,7 +247,8 @@ module _ (g : Program) (block : Block) (view : List Level) (around : Around) (li
         let tail = clean (broken_summands s.env (operated o (Some t) (term_type s.env u)) rest) in
         let x = term_typed u (and-left (clean (broken_term s.env u)) (clean rule && tail) h) in
         let behind = and-right (clean (broken_term s.env u)) (clean rule && tail) h in
-        let known = operator_known o t x.0 op.1 (subst (λ (k : Option TypeId). clean (operator_rule o (Some t) k op.1) ≡ true) x.1 (and-left (clean rule) tail behind)) in
+        let known = operator_known o t x.0 op.1 (subst (λ (k : Option TypeId). clean (operator_rule o (Some t) k op.1) ≡ true) x.1
+        (and-left (clean rule) tail behind)) in
         let is = ap (λ (k : Option TypeId). operated o (Some t) k) x.1 ∙ known.gives in
         let y = more_typed rest o (subst (λ (k : Option TypeId). clean (broken_summands s.env k rest) ≡ true) is (and-right (clean rule) tail behind)) in (
           y.0,
@@ -257,7 +263,8 @@ module _ (g : Program) (block : Block) (view : List Level) (around : Around) (li
         let multipliers = more_multipliers op u rest in
         let x = factor_typed f (and-left (clean (broken_factor s.env f)) (clean (broken_multipliers s.env (factor_type s.env f) multipliers)) h) in
         let behind = and-right (clean (broken_factor s.env f)) (clean (broken_multipliers s.env (factor_type s.env f) multipliers)) h in
-        let y = times_typed (more_multipliers op u rest) x.0 (subst (λ (o : Option TypeId). clean (broken_multipliers s.env o multipliers) ≡ true) x.1 behind) in
+        let y = times_typed (more_multipliers op u rest) x.0
+        (subst (λ (o : Option TypeId). clean (broken_multipliers s.env o multipliers) ≡ true) x.1 behind) in
         (y.0, ap (λ (o : Option TypeId). multiplied s.env o multipliers) x.1 ∙ y.1, (simple_shape y.0 y.2.1, as_factor f x.0 x.2 y.2.0, y.3))
 
     times_typed :
@@ -270,7 +277,8 @@ module _ (g : Program) (block : Block) (view : List Level) (around : Around) (li
         let tail = clean (broken_multipliers s.env (operated o (Some t) (factor_type s.env u)) rest) in
         let x = factor_typed u (and-left (clean (broken_factor s.env u)) (clean rule && tail) h) in
         let behind = and-right (clean (broken_factor s.env u)) (clean rule && tail) h in
-        let known = operator_known o t x.0 op.1 (subst (λ (k : Option TypeId). clean (operator_rule o (Some t) k op.1) ≡ true) x.1 (and-left (clean rule) tail behind)) in
+        let known = operator_known o t x.0 op.1 (subst (λ (k : Option TypeId). clean (operator_rule o (Some t) k op.1) ≡ true) x.1
+        (and-left (clean rule) tail behind)) in
         let is = ap (λ (k : Option TypeId). operated o (Some t) k) x.1 ∙ known.gives in
         let y = times_typed rest o (subst (λ (k : Option TypeId). clean (broken_multipliers s.env k rest) ≡ true) is (and-right (clean rule) tail behind)) in (
           y.0,
@@ -335,16 +343,26 @@ module _ (g : Program) (block : Block) (view : List Level) (around : Around) (li
         let rest = clean (broken_indexes s.env (element_type g.state.forms (Some t) (expr_type s.env e)) es p) in
         let i = expr_typed e (and-left one (two && rest) h) in
         let behind = and-right one (two && rest) h in
-        let known_index = index_known g.state.forms t i.0 p (subst (λ (o : Option TypeId). clean (index_rule g.state.forms (Some t) o p) ≡ true) i.1 (and-left two rest behind)) in
+        let known_index = index_known g.state.forms t i.0 p
+        (subst (λ (o : Option TypeId). clean (index_rule g.state.forms (Some t) o p) ≡ true) i.1 (and-left two rest behind)) in
         let is = ap (λ (o : Option TypeId). element_type g.state.forms (Some t) o) i.1 ∙ known_index.gives in
-        let y = indexes_typed es p known_index.element (subst (λ (o : Option TypeId). clean (broken_indexes s.env o es p) ≡ true) is (and-right two rest behind)) in
+        let y = indexes_typed es p known_index.element
+        (subst (λ (o : Option TypeId). clean (broken_indexes s.env o es p) ≡ true) is (and-right two rest behind)) in
         let inner = ap (λ (f : Option TypeForm). option_map (λ (k : TypeId × TypeId). k.1) (array_form f)) known_index.form in
         let bounds = known.bounds t (Array known_index.over known_index.low known_index.high known_index.element) known_index.form in
         let simple = ap is_simple known_index.same ∙ and-left (is_simple known_index.over) (int_le known_index.low known_index.high) bounds in (
           y.0,
           ap (λ (o : Option TypeId). indexed s.env o es) is ∙ y.1,
           (
-            record { whole = t; over = known_index.over; element = known_index.element; low = known_index.low; high = known_index.high; typed = refl; form = known_index.form },
+            record {
+              whole = t;
+              over = known_index.over;
+              element = known_index.element;
+              low = known_index.low;
+              high = known_index.high;
+              typed = refl;
+              form = known_index.form;
+            },
             as_number e i.0 i.2 simple,
             subst (λ (o : Option TypeId). AreIndices s o es) (sym inner) y.2,
           ),
@@ -358,7 +376,8 @@ module _ (g : Program) (block : Block) (view : List Level) (around : Around) (li
     actuals_typed ending (w ∷ wants) no_actuals asked count h = absurd (some_none (length wants) count)
     actuals_typed ending [] (more_actuals a rest) asked count h = absurd (none_some (actual_count rest) count)
     actuals_typed ending (w ∷ wants) (more_actuals (actual_width e k) rest) asked count h =
-        let inner = and-left (clean (broken_actual s.env true (actual_width e k))) (clean (broken_wanted s.env ending w (actual_width e k)) && clean (broken_actuals s.env ending true wants rest)) h in
+        let inner = and-left (clean (broken_actual s.env true (actual_width e k))) (clean (broken_wanted s.env ending w (actual_width e k)) && clean
+        (broken_actuals s.env ending true wants rest)) h in
         never (and-right (clean (broken_expr s.env k)) false (and-right (clean (broken_expr s.env e)) (clean (broken_expr s.env k) && false) inner))
     actuals_typed ending (w ∷ wants) (more_actuals (actual e) rest) asked count h =
         let one = clean (broken_expr s.env e) in

@@ -78,7 +78,8 @@ multiply_simple Div = refl
 multiply_simple Mod = refl
 multiply_simple And = refl
 
-pub signed_known : (sign : Sign × Place) (t : TypeId) → clean (signed_rule (Some sign) (Some t)) ≡ true → (t ≡ integer) × (signed_type (Some sign) (Some t) ≡ Some integer)
+pub signed_known : (sign : Sign × Place) (t : TypeId) → clean (signed_rule (Some sign) (Some t)) ≡ true → (t ≡ integer) ×
+    (signed_type (Some sign) (Some t) ≡ Some integer)
 signed_known sign t h = let is = holds (is_same t integer) sign.1 311 h in (same_type t integer is, where_true (is_same t integer) integer is)
 
 -- a relation compares numbers
@@ -152,23 +153,40 @@ among (f ∷ fields) x t h = let is = by (bytes_eq x f.0) h (λ e. among fields 
         let next : suc n ≡ 1 + n = omega arith in
         (omega (arith, rest.below), (rest.name, subst (λ (k : ℕ). slice_get (f ∷ fields) k ≡ Some (rest.name, t)) next rest.held))
 
-position_within : (fields : FieldList) (x : Text) → position_or_len (bytes_eq x) (keys_of fields) < length (keys_of fields) → position_of fields x ≡ Some (position_or_len (bytes_eq x) (keys_of fields))
+position_within : (fields : FieldList) (x : Text) → position_or_len (bytes_eq x) (keys_of fields) < length (keys_of fields) →
+    position_of fields x ≡ Some (position_or_len (bytes_eq x) (keys_of fields))
 position_within fields x below =
     let n = position_or_len (bytes_eq x) (keys_of fields) in
     let test : nat_lt n (length (keys_of fields)) ≡ true = grind (arith, nat_tests) in
     ap (λ (b : Bool). cond b (Some n) None) test
 
-pub field_known : (forms : Forms) (t : TypeId) (x : Text) (p : Place) → clean (field_rule forms (Some t) x p) ≡ true → (u : TypeId) × (field_type forms (Some t) x ≡ Some u) × IsField forms (Some t) x
+pub field_known : (forms : Forms) (t : TypeId) (x : Text) (p : Place) → clean (field_rule forms (Some t) x p) ≡ true → (u : TypeId) ×
+    (field_type forms (Some t) x ≡ Some u) × IsField forms (Some t) x
 field_known forms t x p h = by (form_of forms t) refl (holds (is_field (field_form (form_of forms t) x)) p 315 h)
   where
     there : (fields : FieldList) → form_of forms t ≡ Some (Record fields) → (o : Option TypeId) → type_named fields x ≡ o → is_field o ≡ true
         → (u : TypeId) × (field_type forms (Some t) x ≡ Some u) × IsField forms (Some t) x
     there fields e None n is = never is
     there fields e (Some u) n is =
-        let a = among fields x u n in
-        (u, ap (λ (f : Option TypeForm). field_form f x) e ∙ n, record { whole = t; fields = fields; place = position_or_len (bytes_eq x) (keys_of fields); name = a.name; part = u; typed = refl; form = e; position = position_within fields x a.below; held = a.held; named = n })
+        let a = among fields x u n in (
+          u,
+          ap (λ (f : Option TypeForm). field_form f x) e ∙ n,
+          record {
+            whole = t;
+            fields = fields;
+            place = position_or_len (bytes_eq x) (keys_of fields);
+            name = a.name;
+            part = u;
+            typed = refl;
+            form = e;
+            position = position_within fields x a.below;
+            held = a.held;
+            named = n;
+          },
+        )
 
-    by : (form : Option TypeForm) → form_of forms t ≡ form → is_field (field_form form x) ≡ true → (u : TypeId) × (field_type forms (Some t) x ≡ Some u) × IsField forms (Some t) x
+    by : (form : Option TypeForm) → form_of forms t ≡ form → is_field (field_form form x) ≡ true → (u : TypeId) ×
+        (field_type forms (Some t) x ≡ Some u) × IsField forms (Some t) x
     by None e is = never is
     by (Some (Channel u)) e is = never is
     by (Some (Array over low high element)) e is = never is

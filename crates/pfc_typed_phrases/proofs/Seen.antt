@@ -66,10 +66,12 @@ within_scope level (Some k) (Some m) f e = by (nat_lt k level.count) e
     by true e = let same : record { scope = Some level.scope; place = k; meaning = m } ≡ f = cc in ap (λ (g : Found). g.scope) (sym same)
     by false e = absurd (cc)
 
-found_view : (scopes : List Names) (view : List Level) (x : Text) (f : Found) (t : TypeId) (r : Bool) → found_in scopes view x ≡ Some f → f.meaning ≡ Variable t r → IsInView view f
+found_view : (scopes : List Names) (view : List Level) (x : Text) (f : Found) (t : TypeId) (r : Bool) → found_in scopes view x ≡ Some f →
+    f.meaning ≡ Variable t r → IsInView view f
 found_view scopes [] x f t r e is = by (meaning_in predeclared_names x) refl e
   where
-    by : (o : Option Meaning) → meaning_in predeclared_names x ≡ o → option_map (λ m. let g : Found = record { scope = None; place = 0; meaning = m } in g) o ≡ Some f → IsInView [] f
+    by : (o : Option Meaning) → meaning_in predeclared_names x ≡ o →
+        option_map (λ m. let g : Found = record { scope = None; place = 0; meaning = m } in g) o ≡ Some f → IsInView [] f
     by None h e = absurd (cc)
     by (Some m) h e =
         let same : record { scope = None; place = 0; meaning = m } ≡ f = cc in
@@ -77,15 +79,22 @@ found_view scopes [] x f t r e is = by (meaning_in predeclared_names x) refl e
         never (sym (ap is_fixed meant) ∙ fixed_found predeclared_names refl x m h)
 found_view scopes (level ∷ view) x f t r e is = by (found_at scopes level x) refl e (λ k. found_view scopes view x f t r k is)
   where
-    by : (o : Option Found) → found_at scopes level x ≡ o → option_or o (found_in scopes view x) ≡ Some f → (found_in scopes view x ≡ Some f → IsInView view f) → IsInView (level ∷ view) f
+    by : (o : Option Found) → found_at scopes level x ≡ o → option_or o (found_in scopes view x) ≡ Some f →
+        (found_in scopes view x ≡ Some f → IsInView view f) → IsInView (level ∷ view) f
     by (Some g) h e k =
         let same : g ≡ f = cc in
         record {
           i = level.scope;
-          scope = ap (λ (j : Found). j.scope) (sym same) ∙ within_scope level (position_in (scope_at scopes level.scope) x) (meaning_in (scope_at scopes level.scope) x) g h;
+          scope = ap (λ (j : Found). j.scope) (sym same) ∙
+              within_scope level (position_in (scope_at scopes level.scope) x) (meaning_in (scope_at scopes level.scope) x) g h;
           seen = same_place level.scope (list_any (λ (l : Level). l.scope == level.scope) view);
         }
-    by None h e k = let rest = k e in record { i = rest.i; scope = rest.scope; seen = or_last (level.scope == rest.i) (list_any (λ (l : Level). l.scope == rest.i) view) rest.seen }
+    by None h e k = let rest = k e in record {
+      i = rest.i;
+      scope = rest.scope;
+      seen =
+          or_last (level.scope == rest.i) (list_any (λ (l : Level). l.scope == rest.i) view) rest.seen;
+    }
 
 -- ## The variables of a scope
 
@@ -181,7 +190,8 @@ variable_laid s x t r state e stands = by (find s.env x) refl e
         let is : f.meaning ≡ Variable t r = cc in
         let at = found_view b.scopes s.env.view x f t r h is in
         let spot : spot_of s.env (find s.env x) ≡ spot_in at.i (variable_place b at.i f.place) (Some t) =
-        ap (λ (o : Option Found). spot_of s.env o) h ∙ ap (λ (i : Option ℕ). found_spot b i f) at.scope ∙ ap (λ (m : Meaning). named_spot b at.i f.place m) is in
+        ap (λ (o : Option Found). spot_of s.env o) h ∙ ap (λ (i : Option ℕ). found_spot b i f) at.scope ∙
+        ap (λ (m : Meaning). named_spot b at.i f.place m) is in
         let scope : (spot_of s.env (find s.env x)).spot.scope ≡ at.i = ap (λ (v : TypedSpot). v.spot.scope) spot in
         let named = subst (λ (m : Meaning). IsAt (scope_at b.scopes at.i) f.place m) is (found_place b.scopes s.env.view x f at.i h at.scope) in
         let there : IsAt (scope_at (blocks_of s).scopes (spot_of s.env (find s.env x)).spot.scope) f.place (Variable t r)
@@ -194,7 +204,8 @@ variable_laid s x t r state e stands = by (find s.env x) refl e
           typed = ap (λ (v : TypedSpot). v.t) spot;
           declared =
               record {
-                seen = or_last (is_mains (blocks_of s) (spot_of s.env (find s.env x)).spot.scope) (list_any (λ (l : Level). l.scope == (spot_of s.env (find s.env x)).spot.scope) s.env.view)
+                seen = or_last (is_mains (blocks_of s) (spot_of s.env (find s.env x)).spot.scope)
+                    (list_any (λ (l : Level). l.scope == (spot_of s.env (find s.env x)).spot.scope) s.env.view)
                     (subst (λ (v : TypedSpot). list_any (λ (l : Level). l.scope == v.spot.scope) s.env.view ≡ true) (sym spot) at.seen);
                 own = own_variable s (spot_of s.env (find s.env x)).spot f.place (Variable t r) place there refl stands;
                 meaning = Variable t r;

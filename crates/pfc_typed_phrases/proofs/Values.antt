@@ -77,7 +77,8 @@ module _ (s : Site) (known : AreKnown s) where
   indexed_of (more_exprs e es) t h is =
       let array = h.0 in
       let whole : array.whole ≡ t = sym (some_same t array.whole array.typed) in
-      let form : form_of (forms_of s) t ≡ Some (Array array.over array.low array.high array.element) = ap (λ (k : TypeId). form_of (forms_of s) k) (sym whole) ∙ array.form in
+      let form : form_of (forms_of s) t ≡ Some (Array array.over array.low array.high array.element) =
+      ap (λ (k : TypeId). form_of (forms_of s) k) (sym whole) ∙ array.form in
       let inner = ap (λ (f : Option TypeForm). option_map (λ (k : TypeId × TypeId). k.1) (array_form f)) form in
       let before : array.element.place < t.place = known.table.behind t _ form in
       let rest =

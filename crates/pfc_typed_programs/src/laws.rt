@@ -88,7 +88,8 @@ pub fn checked_bodies_are_performed()
         → Performs g b env at g.under [] (requeued_body g.program (resource_of (site_in g.program b)) b) }
     ensures main { (t : ProgramTree) (g : Setting) (b : Block) (c : CodeBlock) (env : Env) → IsLawful (forget_program t) → broken t ≡ []
         → IsOfImage t g → IsMains g b → slice_get (image_of t).blocks (length g.program.blocks) ≡ Some c → g.trial ≡ of_own → g.meetings ≡ []
-        → IsOfBlock g g.program.main c → AreSeen g g.program.modules → IsSeen g g.program.main g.program.main.env → Performs g b env c.entry g.under [] (main_remainder g.program) }
+        → IsOfBlock g g.program.main c → AreSeen g g.program.modules → IsSeen g g.program.main g.program.main.env →
+        Performs g b env c.entry g.under [] (main_remainder g.program) }
 {}
 
 /// The block that code calls by the number of a heading's scope is in the image, takes the cells of the parameters, and its code performs the body of

@@ -45,11 +45,13 @@ only_last (more_selectors (field y p) no_selectors) x e = e
 only_last (more_selectors (index es p) (more_selectors a ss)) x e = absurd (cc)
 only_last (more_selectors (field y p) (more_selectors a ss)) x e = absurd (cc)
 
-module _ (g : Program) (block : Block) (view : List Level) (around : Around) (line : ℕ) (known : AreKnown (site_in g block view around line)) (callable : AreCallable (site_in g block view around line)) where
+module _ (g : Program) (block : Block) (view : List Level) (around : Around) (line : ℕ) (known : AreKnown (site_in g block view around line))
+    (callable : AreCallable (site_in g block view around line)) where
   abbrev pub s : Site
   s = site_in g block view around line
 
-  arguments_of : (formals : List Formal) (p : Place) (args : ActualTrees) → all_typed formals ≡ true → clean (asked_formals s.env formals p args) ≡ true → AreArguments s formals args
+  arguments_of : (formals : List Formal) (p : Place) (args : ActualTrees) → all_typed formals ≡ true →
+      clean (asked_formals s.env formals p args) ≡ true → AreArguments s formals args
   arguments_of formals p args typed h =
       wanted_arguments s formals args (asked_wanted g block view around line known (wants_for formals) anywhere p args (ask_formals formals typed) h)
 
@@ -104,7 +106,8 @@ module _ (g : Program) (block : Block) (view : List Level) (around : Around) (li
         called = part;
         process = is;
         among = started.among;
-        arguments = arguments_of (process_at g.state.blocks n).formals p args started.formals (and-right (clean (unless around.cobegin p 402)) (clean (asked_formals s.env (process_at g.state.blocks n).formals p args)) h);
+        arguments = arguments_of (process_at g.state.blocks n).formals p args started.formals (and-right (clean (unless around.cobegin p 402))
+            (clean (asked_formals s.env (process_at g.state.blocks n).formals p args)) h);
         taken = started.taken;
       }
 
@@ -136,7 +139,14 @@ module _ (g : Program) (block : Block) (view : List Level) (around : Around) (li
       by (Some (Predeclared n)) e h = never h
       by (Some Faulty) e h = absurd (callable.faulty (process_at g.state.blocks n).scope x.0 e)
       by (Some (Entry k)) e h =
-          record { t = t; called = part; process = is; among = started.among; arguments = arguments_of (entry_at g.state.blocks n k) x.1 args (callable.entries n k x.0 e) h }
+          record {
+            t = t;
+            called = part;
+            process = is;
+            among = started.among;
+            arguments =
+                arguments_of (entry_at g.state.blocks n k) x.1 args (callable.entries n k x.0 e) h;
+          }
 
   -- ## The last selector
 
@@ -149,7 +159,8 @@ module _ (g : Program) (block : Block) (view : List Level) (around : Around) (li
   with_last (more_selectors (field y p) no_selectors) x e t u w is f is_one =
       let same : y ≡ x.0 = ap (λ (o : Option (Text × Place)). name_in o y) e in (
         subst (λ (z : Text). IsPartField g.state.forms t z) (sym same) (subst (λ (o : Option TypeId). IsPartField g.state.forms o x.0) (sym is) is_one),
-        subst (λ (z : Text). field_type g.state.forms t z ≡ Some w) (sym same) (subst (λ (o : Option TypeId). field_type g.state.forms o x.0 ≡ Some w) (sym is) f),
+        subst (λ (z : Text). field_type g.state.forms t z ≡ Some w) (sym same)
+            (subst (λ (o : Option TypeId). field_type g.state.forms o x.0 ≡ Some w) (sym is) f),
       )
     where
       name_in : Option (Text × Place) → Text → Text
@@ -162,7 +173,8 @@ module _ (g : Program) (block : Block) (view : List Level) (around : Around) (li
 
   -- and its type
   selected_last :
-      (t : Option TypeId) (ss : SelectorTrees) (x : Text × Place) → last_field ss ≡ Some x → selected s.env t ss ≡ field_type g.state.forms (selected s.env t (before_last ss)) x.0
+      (t : Option TypeId) (ss : SelectorTrees) (x : Text × Place) → last_field ss ≡ Some x →
+      selected s.env t ss ≡ field_type g.state.forms (selected s.env t (before_last ss)) x.0
   selected_last t no_selectors x e = absurd (cc)
   selected_last t (more_selectors (index es p) no_selectors) x e = absurd (cc)
   selected_last t (more_selectors (field y p) no_selectors) x e =
@@ -183,7 +195,8 @@ module _ (g : Program) (block : Block) (view : List Level) (around : Around) (li
   field_called v ss x p args u last declared e is h =
       subst (λ (o : Option TypeId). IsField s v ss (process_of_type s.env o) x.0 args) (sym e) (by (process_form (form_of g.state.forms u)) refl h)
     where
-      part : (w : TypeId) → field_type g.state.forms (Some u) x.0 ≡ Some w → (o : Option ℕ) → process_form (form_of g.state.forms w) ≡ o → clean (call_field s.env None (Some w) x p args) ≡ true
+      part : (w : TypeId) → field_type g.state.forms (Some u) x.0 ≡ Some w → (o : Option ℕ) → process_form (form_of g.state.forms w) ≡ o →
+          clean (call_field s.env None (Some w) x p args) ≡ true
           → IsProcess s (process_of_type s.env (selected s.env v.t ss)) v ss args
       part w f None q h = never (rw q at h)
       part w f (Some n) q h =
@@ -199,7 +212,8 @@ module _ (g : Program) (block : Block) (view : List Level) (around : Around) (li
       behind None f h = never h
       behind (Some w) f h = part w f (process_form (form_of g.state.forms w)) refl h
 
-      by : (o : Option ℕ) → process_form (form_of g.state.forms u) ≡ o → clean (call_field s.env o (field_type g.state.forms (Some u) x.0) x p args) ≡ true → IsField s v ss o x.0 args
+      by : (o : Option ℕ) → process_form (form_of g.state.forms u) ≡ o →
+          clean (call_field s.env o (field_type g.state.forms (Some u) x.0) x p args) ≡ true → IsField s v ss o x.0 args
       by None f h = behind (field_type g.state.forms (Some u) x.0) refl h
       by (Some n) f h = entry_called n v (before_last ss) x args (Some u) (callable.processes u n f) (declared, is) f h
 
@@ -228,7 +242,8 @@ module _ (g : Program) (block : Block) (view : List Level) (around : Around) (li
       let single = callable.singles x n e in
       (subst (λ (o : Option TypeId). IsDeclared s (spot_of s.env (find s.env x)).spot o) (sym single.untyped) single.declared, single.untyped)
 
-  of_variable : (x : Text) (t : TypeId) (r : Bool) → meaning_of (find s.env x) ≡ Some (Variable t r) → IsDeclared s (spot_of s.env (find s.env x)).spot (spot_of s.env (find s.env x)).t
+  of_variable : (x : Text) (t : TypeId) (r : Bool) → meaning_of (find s.env x) ≡ Some (Variable t r) →
+      IsDeclared s (spot_of s.env (find s.env x)).spot (spot_of s.env (find s.env x)).t
   of_variable x t r e =
       let laid = known.variables x t r e in subst (λ (o : Option TypeId). IsDeclared s (spot_of s.env (find s.env x)).spot o) (sym laid.typed) laid.declared
 
@@ -244,7 +259,8 @@ module _ (g : Program) (block : Block) (view : List Level) (around : Around) (li
   name_called x p args (Some (Predeclared k)) e h = predeclared_typed g block view around line known k p args h
   name_called x p args (Some (Sub n)) e h = sub_called n p args (known.subs x n e) (sub_at g.state.blocks n).sort refl h
   name_called x p args (Some (Process n)) e h =
-      activated n (spot_of s.env (find s.env x)) no_selectors p args None (callable.singles x n e).started (single_called x n e) (callable.singles x n e).stands h
+      activated n (spot_of s.env (find s.env x)) no_selectors p args None (callable.singles x n e).started
+      (single_called x n e) (callable.singles x n e).stands h
   name_called x p args (Some (Variable t r)) e h =
       let v = spot_of s.env (find s.env x) in
       let typed = (known.variables x t r e).typed in
@@ -265,10 +281,12 @@ module _ (g : Program) (block : Block) (view : List Level) (around : Around) (li
   process_called y n e ss p args None f h = never h
   process_called y n e ss p args (Some x) f h =
       subst (λ (k : Option (Text × Place)). IsCalledProcess s n (spot_of s.env (find s.env y)) k args) (sym (only_last ss x f))
-      (entry_called n (spot_of s.env (find s.env y)) no_selectors x args None (callable.singles y n e).started (single_called y n e) (callable.singles y n e).stands h)
+      (entry_called n (spot_of s.env (find s.env y)) no_selectors x args None (callable.singles y n e).started
+      (single_called y n e) (callable.singles y n e).stands h)
 
   part_called :
-      (x : Text) (ss : SelectorTrees) (p : Place) (args : ActualTrees) (m : Option Meaning) → meaning_of (find s.env x) ≡ m → clean (call_part_of s.env m ss p args) ≡ true
+      (x : Text) (ss : SelectorTrees) (p : Place) (args : ActualTrees) (m : Option Meaning) → meaning_of (find s.env x) ≡ m →
+      clean (call_part_of s.env m ss p args) ≡ true
       → IsCalled s m (spot_of s.env (find s.env x)) ss args
   part_called x ss p args None e h = never h
   part_called x ss p args (Some (Constant t n)) e h = never h

@@ -61,7 +61,8 @@ module _ (g : Program) (block : Block) (view : List Level) (around : Around) (li
           let one = clean (broken_expr s.env e) in
           let two = clean (unless (may_be_simple (expr_type s.env e)) (expr_place e) 326) in
           let last = clean (value_rule g.state.forms (expr_type s.env e) (expr_place e)) in
-          number_of e (and-left one (two && last) h) (holds (may_be_simple (expr_type s.env e)) (expr_place e) 326 (and-left two last (and-right one (two && last) h)))
+          number_of e (and-left one (two && last) h) (holds (may_be_simple (expr_type s.env e)) (expr_place e) 326
+          (and-left two last (and-right one (two && last) h)))
 
   written_typed : (a : ActualTree) → clean (broken_written s.env a) ≡ true → IsWritten s a
   written_typed (actual e) h = item_typed e h
@@ -71,7 +72,8 @@ module _ (g : Program) (block : Block) (view : List Level) (around : Around) (li
       let two = clean (unless (may_have integer (expr_type s.env w)) (expr_place w) 324) in
       let behind = and-right first (one && two) h in
       let x = expr_typed g block view around line known w (and-left one two behind) in
-      let same = same_type x.0 integer (ap (may_have integer) (sym x.1) ∙ holds (may_have integer (expr_type s.env w)) (expr_place w) 324 (and-right one two behind)) in
+      let same = same_type x.0 integer (ap (may_have integer) (sym x.1) ∙
+      holds (may_have integer (expr_type s.env w)) (expr_place w) 324 (and-right one two behind)) in
       (item_typed e (and-left first (one && two) h), as_number g block view around line known w x.0 x.2 (ap is_simple same))
 
   pub writes_typed : (args : ActualTrees) → clean (broken_writes s.env args) ≡ true → AreWritten s args

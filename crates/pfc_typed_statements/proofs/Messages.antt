@@ -52,11 +52,13 @@ shaped forms sound t = by (is_simple t) refl
     by false h = refl
 
 -- inside a function its name has the type of its result
-assigned : (view : List Level) (head : SubHead) (u : TypeId) → is_around view head.scope ≡ true → head.sort ≡ Function (Some u) → assigned_sub view head ≡ Some u
+assigned : (view : List Level) (head : SubHead) (u : TypeId) → is_around view head.scope ≡ true →
+    head.sort ≡ Function (Some u) → assigned_sub view head ≡ Some u
 assigned view head u inside e =
     subst (λ (k : SubSort). assigned_sub view (record head { sort = k }) ≡ Some u) (sym e) (ap (λ (b : Bool). if b then Some u else None) inside)
 
-module _ (g : Program) (block : Block) (view : List Level) (around : Around) (line : ℕ) (known : AreKnown (site_in g block view around line)) (reached : AreReached (site_in g block view around line)) where
+module _ (g : Program) (block : Block) (view : List Level) (around : Around) (line : ℕ) (known : AreKnown (site_in g block view around line))
+    (reached : AreReached (site_in g block view around line)) where
   abbrev pub s : Site
   s = site_in g block view around line
 
@@ -85,8 +87,12 @@ module _ (g : Program) (block : Block) (view : List Level) (around : Around) (li
       result n e (Function t) is value h =
           let inside = holds (is_around view (sub_at g.state.blocks n).scope) p 327 h in
           let laid = reached.results x n value.0 e (is ∙ ap Function value.1) inside in
-          let given = assigned view (sub_at g.state.blocks n) value.0 inside (is ∙ ap Function value.1) in
-          (value.0, ap (λ (m : Option Meaning). target_of s.env m) e ∙ given, (subst (λ (o : Option TypeId). IsDeclared s (spot_of s.env (find s.env x)).spot o) (sym laid.typed) laid.declared, laid.typed))
+          let given = assigned view (sub_at g.state.blocks n) value.0 inside (is ∙ ap Function value.1) in (
+            value.0,
+            ap (λ (m : Option Meaning). target_of s.env m) e ∙
+                given,
+            (subst (λ (o : Option TypeId). IsDeclared s (spot_of s.env (find s.env x)).spot o) (sym laid.typed) laid.declared, laid.typed),
+          )
 
       by : (m : Option Meaning) → meaning_of (find s.env x) ≡ m → clean (target_rules s.env m p) ≡ true → Targets (desig x no_selectors p)
       by None e h = never h
@@ -99,8 +105,15 @@ module _ (g : Program) (block : Block) (view : List Level) (around : Around) (li
       by (Some Faulty) e h = absurd (known.faulty x e)
       by (Some (Sub n)) e h = result n e (sub_at g.state.blocks n).sort refl (known.subs x n e).block.gives h
       by (Some (Variable t r)) e h =
-          let laid = known.variables x t r e in
-          (t, ap (λ (m : Option Meaning). target_of s.env m) e, (subst (λ (o : Option TypeId). IsDeclared s (spot_of s.env (find s.env x)).spot o) (sym laid.typed) laid.declared, laid.typed))
+          let laid = known.variables x t r e in (
+            t,
+            ap (λ (m : Option Meaning). target_of s.env m) e,
+            (
+              subst (λ (o : Option TypeId). IsDeclared s (spot_of s.env (find s.env x)).spot o)
+                  (sym laid.typed) laid.declared,
+              laid.typed,
+            ),
+          )
 
   pub assign_typed : (d : DesigTree) (e : ExprTree) (p : Place) → clean (broken_assign s.env d e p) ≡ true → IsAssignment s d e
   assign_typed d e p h =
@@ -109,11 +122,13 @@ module _ (g : Program) (block : Block) (view : List Level) (around : Around) (li
       let x = target_typed d (and-left (clean (broken_target s.env d)) (clean (broken_expr s.env e ⨾ rule ⨾ last)) h) in
       let behind = and-right (clean (broken_target s.env d)) (clean (broken_expr s.env e ⨾ rule ⨾ last)) h in
       let y = expr_typed g block view around line known e (and-left (clean (broken_expr s.env e)) (clean (rule ⨾ last)) behind) in
-      let test = holds (may_agree (target_type s.env d) (expr_type s.env e)) p 312 (and-left (clean rule) (clean last) (and-right (clean (broken_expr s.env e)) (clean (rule ⨾ last)) behind)) in
+      let test = holds (may_agree (target_type s.env d) (expr_type s.env e)) p 312
+      (and-left (clean rule) (clean last) (and-right (clean (broken_expr s.env e)) (clean (rule ⨾ last)) behind)) in
       let target = clean (value_rule g.state.forms (target_type s.env d) (desig_place d)) in
       let source = clean (value_rule g.state.forms (expr_type s.env e) (expr_place e)) in
       let values = and-right target source (and-right (clean rule) (clean last) (and-right (clean (broken_expr s.env e)) (clean (rule ⨾ last)) behind)) in
-      let same = same_type x.0 y.0 (ap (λ (o : Option TypeId). may_agree o (Some y.0)) (sym x.1) ∙ ap (λ (o : Option TypeId). may_agree (target_type s.env d) o) (sym y.1) ∙ test) in
+      let same = same_type x.0 y.0 (ap (λ (o : Option TypeId). may_agree o (Some y.0)) (sym x.1) ∙
+      ap (λ (o : Option TypeId). may_agree (target_type s.env d) o) (sym y.1) ∙ test) in
       record {
         t = x.0;
         target = x.2;
@@ -132,10 +147,12 @@ module _ (g : Program) (block : Block) (view : List Level) (around : Around) (li
       let one = clean (broken_desig s.env d) in
       let two = clean (channel_rule g.state.forms (desig_type s.env d) (desig_place d)) in
       let x = desig_part s known d (and-left one two h) in
-      let test = holds _ (desig_place d) 310 (subst (λ (o : Option TypeId). clean (channel_rule g.state.forms o (desig_place d)) ≡ true) x.1 (and-right one two h)) in
+      let test = holds _ (desig_place d) 310
+      (subst (λ (o : Option TypeId). clean (channel_rule g.state.forms o (desig_place d)) ≡ true) x.1 (and-right one two h)) in
       by x.0 x.1 x.2 (form_of g.state.forms x.0) refl test
     where
-      by : (t : TypeId) → desig_type s.env d ≡ Some t → IsDesig s d (Some t) → (form : Option TypeForm) → form_of g.state.forms t ≡ form → is_some (carried_form form) ≡ true → Carries d
+      by : (t : TypeId) → desig_type s.env d ≡ Some t → IsDesig s d (Some t) → (form : Option TypeForm) → form_of g.state.forms t ≡ form →
+          is_some (carried_form form) ≡ true → Carries d
       by t e is None f h = never h
       by t e is (Some (Array over low high element)) f h = never h
       by t e is (Some (Record fields)) f h = never h
@@ -159,7 +176,8 @@ module _ (g : Program) (block : Block) (view : List Level) (around : Around) (li
       rest : Faults
       rest = only_any_rule (Some u) p ⨾ value_rule g.state.forms (expr_type s.env e) (expr_place e)
 
-      by : (b : Bool) → clean (if b then any_rule (Some u) (expr_place e) else (broken_expr s.env e ⨾ types_rule (Some u) (expr_type s.env e) p ⨾ rest)) ≡ true → IsMessage s (if b then None else Some e) u
+      by : (b : Bool) → clean (if b then any_rule (Some u) (expr_place e) else (broken_expr s.env e ⨾ types_rule (Some u) (expr_type s.env e) p ⨾ rest)) ≡
+          true → IsMessage s (if b then None else Some e) u
       by true h = same_type u synchronous (holds (may_have synchronous (Some u)) (expr_place e) 412 h)
       by false h =
           let one = clean (broken_expr s.env e) in
@@ -183,7 +201,8 @@ module _ (g : Program) (block : Block) (view : List Level) (around : Around) (li
       rest : Faults
       rest = only_any_rule (Some u) p ⨾ value_rule g.state.forms (desig_type s.env v) (desig_place v)
 
-      by : (b : Bool) → clean (if b then any_rule (Some u) (desig_place v) else (broken_desig s.env v ⨾ types_rule (Some u) (desig_type s.env v) p ⨾ rest)) ≡ true → IsReceiver s (if b then None else Some v) u
+      by : (b : Bool) → clean (if b then any_rule (Some u) (desig_place v) else (broken_desig s.env v ⨾ types_rule (Some u) (desig_type s.env v) p ⨾ rest)) ≡
+          true → IsReceiver s (if b then None else Some v) u
       by true h = same_type u synchronous (holds (may_have synchronous (Some u)) (desig_place v) 412 h)
       by false h =
           let one = clean (broken_desig s.env v) in
@@ -195,24 +214,29 @@ module _ (g : Program) (block : Block) (view : List Level) (around : Around) (li
           let value = value_type g.state.forms known.table y.0 y.3 (not_true (is_object g.state.forms y.0) object) in
           let test = holds (may_agree (Some u) (desig_type s.env v)) p 312 (and-left two (clean rest) (and-right one (two && clean rest) h)) in
           let same = same_type u y.0 (ap (λ (o : Option TypeId). may_agree (Some u) o) (sym y.1) ∙ test) in
-          let cells : receiver_cells s (Some v) ≡ cells_in g.state.forms u = ap (λ (o : Option TypeId). type_cells g.state.forms o) (y.1 ∙ ap Some (sym same)) in (
+          let cells : receiver_cells s (Some v) ≡ cells_in g.state.forms u =
+          ap (λ (o : Option TypeId). type_cells g.state.forms o) (y.1 ∙ ap Some (sym same)) in (
             subst (λ (t : TypeId). IsDesig s v (Some t)) (sym same) y.2,
             cells ∙ shaped g.state.forms reached.sound u,
             carried u p (and-left (clean (only_any_rule (Some u) p)) _ behind) (subst (λ (t : TypeId). IsValueType g.state.forms t) (sym same) value),
           )
 
-  pub send_typed : (d : DesigTree) (e : ExprTree) (p : Place) → clean (broken_send s.env d e p) ≡ true → IsSend s d (if names_any s.env (as_desig e) then None else Some e)
+  pub send_typed : (d : DesigTree) (e : ExprTree) (p : Place) → clean (broken_send s.env d e p) ≡ true →
+      IsSend s d (if names_any s.env (as_desig e) then None else Some e)
   send_typed d e p h =
       let carried = carried_by g.state.forms (desig_type s.env d) in
       let x = channel_typed d (and-left (clean (broken_channel s.env d)) (clean (broken_message s.env carried e p)) h) in
-      let message = subst (λ (o : Option TypeId). clean (broken_message s.env o e p) ≡ true) x.2 (and-right (clean (broken_channel s.env d)) (clean (broken_message s.env carried e p)) h) in
+      let message = subst (λ (o : Option TypeId). clean (broken_message s.env o e p) ≡ true) x.2 (and-right (clean (broken_channel s.env d))
+      (clean (broken_message s.env carried e p)) h) in
       record { t = Some x.0; u = x.1; channel = x.3; carries = x.4; message = message_typed e p x.1 message }
 
-  pub receive_typed : (d v : DesigTree) (p : Place) → clean (broken_receive s.env d v p) ≡ true → IsReceive s d (if names_any s.env (Some v) then None else Some v)
+  pub receive_typed : (d v : DesigTree) (p : Place) → clean (broken_receive s.env d v p) ≡ true →
+      IsReceive s d (if names_any s.env (Some v) then None else Some v)
   receive_typed d v p h =
       let carried = carried_by g.state.forms (desig_type s.env d) in
       let x = channel_typed d (and-left (clean (broken_channel s.env d)) (clean (broken_receiver s.env carried v p)) h) in
-      let receiver = subst (λ (o : Option TypeId). clean (broken_receiver s.env o v p) ≡ true) x.2 (and-right (clean (broken_channel s.env d)) (clean (broken_receiver s.env carried v p)) h) in
+      let receiver = subst (λ (o : Option TypeId). clean (broken_receiver s.env o v p) ≡ true) x.2 (and-right (clean (broken_channel s.env d))
+      (clean (broken_receiver s.env carried v p)) h) in
       record { t = Some x.0; u = x.1; channel = x.3; carries = x.4; receiver = receiver_typed v p x.1 receiver }
 
   -- ## Requeues
@@ -229,11 +253,15 @@ module _ (g : Program) (block : Block) (view : List Level) (around : Around) (li
           taken = whole.block.taken;
           leaves = whole.block.leaves ∙ ap left_behind is;
         },
-        wanted_arguments s head.formals args (actuals_typed g block view around line known ending (wants_for head.formals) args (asked_formals head.formals whole.formals) (holds _ p 316 count) h).0,
+        wanted_arguments s head.formals args (actuals_typed g block view around line known ending (wants_for head.formals) args
+            (asked_formals head.formals whole.formals) (holds _ p 316 count) h).0,
       )
 
-  pub requeue_typed : (x : Text × Place) (args : ActualTrees) (p : Place) → clean (broken_requeue s.env x args p) ≡ true → IsRequeue s (meaning_of (find s.env x.0)) args
-  requeue_typed x args p h = by (meaning_of (find s.env x.0)) refl (and-right (clean (unless around.guarded p 418)) (clean (requeue_rules s.env (innermost view) (meaning_of (find s.env x.0)) x.1 args)) h)
+  pub requeue_typed : (x : Text × Place) (args : ActualTrees) (p : Place) → clean (broken_requeue s.env x args p) ≡ true →
+      IsRequeue s (meaning_of (find s.env x.0)) args
+  requeue_typed x args p h =
+      by (meaning_of (find s.env x.0)) refl (and-right (clean (unless around.guarded p 418))
+      (clean (requeue_rules s.env (innermost view) (meaning_of (find s.env x.0)) x.1 args)) h)
     where
       inside : around.guarded ≡ true
       inside = holds around.guarded p 418

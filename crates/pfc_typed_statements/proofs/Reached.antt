@@ -29,7 +29,8 @@ reached_known t s program have =
 
 none_faulty : (t : ProgramTree) → broken t ≡ [] → (i : ℕ) (x : Text) → meaning_in (scope_at (finished t).blocks.scopes i) x ≢ Some Faulty
 none_faulty t lawful i x e =
-    subst (λ (m : Option Meaning). IfSome m (IsNumbered (finished t).blocks i)) e (meaning_numbered (finished t) (numbered (finished t) (finished_reached t)) i x)
+    subst (λ (m : Option Meaning). IfSome m (IsNumbered (finished t).blocks i)) e
+    (meaning_numbered (finished t) (numbered (finished t) (finished_reached t)) i x)
     (none_noted t lawful)
 
 pub callable_known : (t : ProgramTree) (s : Site) → broken t ≡ [] → s.program.state ≡ finished t → HaveStarts s → AreCallable s

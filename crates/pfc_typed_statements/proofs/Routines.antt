@@ -55,7 +55,9 @@ pair_at (r ∷ rs) (p ∷ ps) (one_pair h hs) (suc k) = pair_at rs ps hs k
 pairs : ArePairs (drop 13 routines) procedures
 pairs =
     one_pair (reads true false) (one_pair (reads false true) (one_pair (writes true false) (one_pair (writes false true)
-    (one_pair (starts in_main) (one_pair (waits anywhere) (one_pair (signals anywhere) (one_pair delays (one_pair (resumes in_monitor_sub) (one_pair (sleeps anywhere) none_paired)))))))))
+    (one_pair (starts in_main)
+    (one_pair (waits anywhere)
+    (one_pair (signals anywhere) (one_pair delays (one_pair (resumes in_monitor_sub) (one_pair (sleeps anywhere) none_paired)))))))))
 
 procedure_pair : (k : ℕ) → IsPair (routine_of k) (procedure_of k)
 procedure_pair k = by (nat_lt k 13) refl
@@ -80,7 +82,8 @@ given_first s no_actuals wants h = absurd h
 given_first s (more_actuals a rest) wants h = h.0.0
 
 -- behind a first argument stands a number
-number_second : (s : Site) (first : Want) (args : ActualTrees) → AreWanted s (first ∷ a_value (Some integer) ∷ []) args → IsNumber s (expr_of (behind_first args))
+number_second : (s : Site) (first : Want) (args : ActualTrees) → AreWanted s (first ∷ a_value (Some integer) ∷ []) args →
+    IsNumber s (expr_of (behind_first args))
 number_second s first no_actuals h = absurd h
 number_second s first (more_actuals a no_actuals) h = absurd h.1
 number_second s first (more_actuals a (more_actuals (actual e) rest)) h = h.1.0.0
@@ -102,15 +105,18 @@ module _ (g : Program) (block : Block) (view : List Level) (around : Around) (li
 
   -- what is asked of arguments
   pub asked_wanted :
-      (wants : List Want) (stand : Stand) (p : Place) (args : ActualTrees) → AreAsked wants → clean (asked s.env (called_with wants stand) p args) ≡ true → AreWanted s wants args
+      (wants : List Want) (stand : Stand) (p : Place) (args : ActualTrees) → AreAsked wants →
+      clean (asked s.env (called_with wants stand) p args) ≡ true → AreWanted s wants args
   asked_wanted wants stand p args are h =
       let one = clean (count_rule (called_with wants stand) args p) in
       let two = clean (broken_actuals s.env None true wants args) in
       let last = clean (site_rule around stand (first_type s.env args) p) in
-      (actuals_typed g block view around line known None wants args are (holds _ p 316 (and-left one (two && last) h)) (and-left two last (and-right one (two && last) h))).0
+      (actuals_typed g block view around line known None wants args are (holds _ p 316 (and-left one (two && last) h))
+      (and-left two last (and-right one (two && last) h))).0
 
   routine_typed :
-      (r : Routine) (procedure : Procedure) (p : Place) (args : ActualTrees) → IsPair r procedure → clean (call_routine s.env r p args) ≡ true → IsProcedure s procedure args
+      (r : Routine) (procedure : Procedure) (p : Place) (args : ActualTrees) → IsPair r procedure →
+      clean (call_routine s.env r p args) ≡ true → IsProcedure s procedure args
   routine_typed r procedure p args (reads some skip) h =
       reads_typed g block view around line known args (and-right (clean (some_rule some args p)) (clean (broken_reads s.env args)) h)
   routine_typed r procedure p args (writes some newline) h =
@@ -125,7 +131,8 @@ module _ (g : Program) (block : Block) (view : List Level) (around : Around) (li
   routine_typed r procedure p args no_pair h = tt
   routine_typed r procedure p args delays h = by (nat_lt 1 (actual_count args)) h
     where
-      by : (b : Bool) → clean (asked s.env (called_with (if b then ranked_condition else one_condition) in_monitor_sub) p args) ≡ true → IsProcedure s delay args
+      by : (b : Bool) → clean (asked s.env (called_with (if b then ranked_condition else one_condition) in_monitor_sub) p args) ≡ true →
+          IsProcedure s delay args
       by true h =
           let is = asked_wanted ranked_condition in_monitor_sub p args ((condition, refl), ((integer, refl), tt)) h in
           (lent_first s condition args (a_value (Some integer) ∷ []) is, as_rank s args (number_second s (a_variable_of (Some condition)) args is))
@@ -133,5 +140,6 @@ module _ (g : Program) (block : Block) (view : List Level) (around : Around) (li
           let is = asked_wanted one_condition in_monitor_sub p args ((condition, refl), tt) h in
           (lent_first s condition args [] is, none_second s (a_variable_of (Some condition)) args is)
 
-  pub predeclared_typed : (k : ℕ) (p : Place) (args : ActualTrees) → clean (call_routine s.env (routine_of k) p args) ≡ true → IsProcedure s (procedure_of k) args
+  pub predeclared_typed : (k : ℕ) (p : Place) (args : ActualTrees) →
+      clean (call_routine s.env (routine_of k) p args) ≡ true → IsProcedure s (procedure_of k) args
   predeclared_typed k p args h = routine_typed (routine_of k) (procedure_of k) p args (procedure_pair k) h

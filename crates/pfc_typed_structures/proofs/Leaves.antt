@@ -36,10 +36,12 @@ module _ (s : Site) (known : AreKnown s) where
       let x = expressions_typed s known e (clean-listed (broken_expr s.env e) h) in
       subst (λ (k : Shape). HasShape s e k) (simple_shape x.0 (simple x.0 x.1)) x.2
 
-  number_in : (e : ExprTree) (u : TypeId) → is_simple u ≡ true → clean (broken_expr s.env e) ≡ true → may_have u (expr_type s.env e) ≡ true → HasShape s e a_number
+  number_in : (e : ExprTree) (u : TypeId) → is_simple u ≡ true → clean (broken_expr s.env e) ≡ true →
+      may_have u (expr_type s.env e) ≡ true → HasShape s e a_number
   number_in e u simple h fits = number_of e h (λ t k. ap is_simple (same_type t u (ap (may_have u) (sym k) ∙ fits)) ∙ simple)
 
-  pub condition_typed : (e : ExprTree) → clean (broken_expr s.env e) ≡ true → clean (condition_rule (expr_type s.env e) (expr_place e)) ≡ true → HasShape s e a_number
+  pub condition_typed : (e : ExprTree) → clean (broken_expr s.env e) ≡ true →
+      clean (condition_rule (expr_type s.env e) (expr_place e)) ≡ true → HasShape s e a_number
   condition_typed e h rule = number_in e boolean refl h (holds (may_have boolean (expr_type s.env e)) (expr_place e) 313 rule)
 
   pub guard_typed : (e : Option ExprTree) → clean (broken_guard s.env e) ≡ true → IsGuard s e
@@ -78,7 +80,8 @@ module _ (s : Site) (known : AreKnown s) where
   there None h = never h
   there (Some c) h = (c, refl)
 
-  pub value_typed : (c : Constant) → clean (broken_constant s.env.state.blocks.scopes s.env.view c) ≡ true → (o : Ordinal) × (constant_value s.env.state.blocks.scopes s.env.view c ≡ Some o)
+  pub value_typed : (c : Constant) → clean (broken_constant s.env.state.blocks.scopes s.env.view c) ≡ true → (o : Ordinal) ×
+      (constant_value s.env.state.blocks.scopes s.env.view c ≡ Some o)
   value_typed c h =
       there (constant_value s.env.state.blocks.scopes s.env.view c)
       (constant_exact s.env.state.blocks.scopes s.env.view c ∙ ap₂ (λ (a b : Bool). a && not b) h (unused c))
@@ -97,15 +100,18 @@ module _ (s : Site) (known : AreKnown s) where
       let one = clean (broken_constant s.env.state.blocks.scopes s.env.view l) in
       let u = constant_type (written_constant s.env l) in
       let two = clean (label_rule (Some t) u (constant_place l)) in
-      and-left (is_simple t) (may_have t u) (holds (may_label t u) (constant_place l) 319 (and-right one two (and-left (one && two) (clean (broken_labels s.env (Some t) ls)) h)))
+      and-left (is_simple t) (may_have t u) (holds (may_label t u) (constant_place l) 319
+      (and-right one two (and-left (one && two) (clean (broken_labels s.env (Some t) ls)) h)))
 
   -- ## The variable of a `for`
 
-  variable_typed : (x : Text) (p : Place) → clean (name_rules a_variable (meaning_of (find s.env x)) p) ≡ true → may_be_simple (variable_type (meaning_of (find s.env x))) ≡ true
+  variable_typed : (x : Text) (p : Place) → clean (name_rules a_variable (meaning_of (find s.env x)) p) ≡ true →
+      may_be_simple (variable_type (meaning_of (find s.env x))) ≡ true
       → IsSimpleVariable s (spot_of s.env (find s.env x)).spot
   variable_typed x p h simple = by (meaning_of (find s.env x)) refl h simple
     where
-      by : (m : Option Meaning) → meaning_of (find s.env x) ≡ m → clean (name_rules a_variable m p) ≡ true → may_be_simple (variable_type m) ≡ true → IsSimpleVariable s (spot_of s.env (find s.env x)).spot
+      by : (m : Option Meaning) → meaning_of (find s.env x) ≡ m → clean (name_rules a_variable m p) ≡ true → may_be_simple (variable_type m) ≡ true →
+          IsSimpleVariable s (spot_of s.env (find s.env x)).spot
       by None e h simple = never h
       by (Some (AConstant t n)) e h simple = never h
       by (Some (Named t)) e h simple = never h
@@ -123,7 +129,8 @@ module _ (s : Site) (known : AreKnown s) where
       let same : is_same w t ≡ true = ap₂ (λ (a b : Option TypeId). may_agree a b) (sym e) (sym k) ∙ h in
       ap is_simple (sym (same_type w t same)) ∙ (ap may_be_simple (sym e) ∙ simple)
 
-  named_type : (m : Option Meaning) (x : Text) (p : Place) → meaning_of (find s.env x) ≡ m → clean (name_rules a_variable m p) ≡ true → (w : TypeId) × (variable_type m ≡ Some w)
+  named_type : (m : Option Meaning) (x : Text) (p : Place) → meaning_of (find s.env x) ≡ m → clean (name_rules a_variable m p) ≡ true →
+      (w : TypeId) × (variable_type m ≡ Some w)
   named_type None x p e h = never h
   named_type (Some (AConstant t n)) x p e h = never h
   named_type (Some (Named t)) x p e h = never h
@@ -152,8 +159,10 @@ module _ (s : Site) (known : AreKnown s) where
       let simple = and-left (may_be_simple t) (may_agree t (expr_type s.env a)) first in
       let w = named_type m x p refl name in (
         variable_typed x p name simple,
-        number_of a (and-left two (three && rule) h1) (λ k e. agreed t (expr_type s.env a) k w.0 w.1 simple (and-right (may_be_simple t) (may_agree t (expr_type s.env a)) first) e),
-        number_of b (and-left three rule h2) (λ k e. agreed t (expr_type s.env b) k w.0 w.1 simple (and-right (may_be_simple t && may_agree t (expr_type s.env a)) (may_agree t (expr_type s.env b)) fits) e),
+        number_of a (and-left two (three && rule) h1) (λ k e. agreed t (expr_type s.env a) k w.0 w.1 simple
+            (and-right (may_be_simple t) (may_agree t (expr_type s.env a)) first) e),
+        number_of b (and-left three rule h2) (λ k e. agreed t (expr_type s.env b) k w.0 w.1 simple
+            (and-right (may_be_simple t && may_agree t (expr_type s.env a)) (may_agree t (expr_type s.env b)) fits) e),
       )
 
   pub spread_typed : (r : Option Spread) → clean (broken_spread s.env r) ≡ true → IsSpread s r
@@ -167,5 +176,7 @@ module _ (s : Site) (known : AreKnown s) where
       let two = clean (broken_constant s.env.state.blocks.scopes s.env.view r.low) in
       let three = clean (broken_constant s.env.state.blocks.scopes s.env.view r.high) in
       let rule = clean (for_rule t low high r.place) in
-      let fits = holds ((may_be_simple t && may_agree t low) && may_agree t high) r.place 321 (and-right three rule (and-right two (three && rule) (and-right one (two && (three && rule)) h))) in
-      variable_typed r.name r.place (and-left one (two && (three && rule)) h) (and-left (may_be_simple t) (may_agree t low) (and-left (may_be_simple t && may_agree t low) (may_agree t high) fits))
+      let fits = holds ((may_be_simple t && may_agree t low) && may_agree t high) r.place 321
+      (and-right three rule (and-right two (three && rule) (and-right one (two && (three && rule)) h))) in
+      variable_typed r.name r.place (and-left one (two && (three && rule)) h) (and-left (may_be_simple t) (may_agree t low)
+      (and-left (may_be_simple t && may_agree t low) (may_agree t high) fits))

@@ -18,7 +18,8 @@ pub are_held_push :
     → AreHeld (forms ++ Some form ∷ []) (rows ++ held ∷ [])
 are_held_push forms rows form held here is small room =
     record {
-      same = ap (λ before. before ++ held ∷ []) here.same ∙ ap (λ h. all_held forms ++ h ∷ []) is ∙ sym (fold_push (λ before f. before ++ held_next before f ∷ []) [] forms (Some form));
+      same = ap (λ before. before ++ held ∷ []) here.same ∙ ap (λ h. all_held forms ++ h ∷ []) is ∙
+          sym (fold_push (λ before f. before ++ held_next before f ∷ []) [] forms (Some form));
       small = All-push IsSmall rows held here.small small;
       room = omega (arith, length-append forms (Some form ∷ []), room);
     }

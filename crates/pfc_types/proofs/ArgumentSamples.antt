@@ -35,8 +35,10 @@ group y n t m = record { reference = false; names = (y, at n) ∷ []; form = (t,
 abbrev requeued : ActualTrees → PartTrees
 requeued args =
     one_part (resource (the_module (codes "r") []
-    (more_parts (sub_part (sub q (group x 5 (codes "integer") 6 ∷ group (codes "y") 7 (codes "integer") 8 ∷ []) procedure no_parts (body_of (one_stmt empty)) (at 4)))
-    (one_part (sub_part (sub p [] (guarded (value (codes "true") 24) (at 23)) no_parts (body_of (one_stmt (requeue (q, at 31) args (at 30)))) (at 22))))) None (at 60) (at 2)))
+    (more_parts (sub_part (sub q (group x 5 (codes "integer") 6 ∷ group (codes "y") 7 (codes "integer") 8 ∷
+    []) procedure no_parts (body_of (one_stmt empty)) (at 4)))
+    (one_part (sub_part (sub p [] (guarded (value (codes "true") 24) (at 23)) no_parts (body_of (one_stmt (requeue (q, at 31) args (at 30)))) (at 22))))) None
+    (at 60) (at 2)))
 
 requeue_of_one : first_fault (program (requeued (one (int_at 1 32)))) ≡ refused 316 31
 requeue_of_one = refl
@@ -49,7 +51,11 @@ requeue_among_later : first_concurrency_fault (program (requeued (one (int_at 1 
 requeue_among_later = refl
 
 -- requeue z (1)
-requeue_unknown : first_fault (program (one_part (resource (the_module (codes "r") [] (one_part (sub_part (sub p [] (guarded (value (codes "true") 24) (at 23)) no_parts (body_of (one_stmt (requeue (codes "z", at 31) (one (int_at 1 32)) (at 30)))) (at 22)))) None (at 60) (at 2))))) ≡ refused 301 31
+requeue_unknown : first_fault
+    (program (one_part (resource
+    (the_module (codes "r") []
+    (one_part (sub_part (sub p [] (guarded (value (codes "true") 24) (at 23)) no_parts
+    (body_of (one_stmt (requeue (codes "z", at 31) (one (int_at 1 32)) (at 30)))) (at 22)))) None (at 60) (at 2))))) ≡ refused 301 31
 requeue_unknown = refl
 
 -- ## 316 and 410
@@ -57,7 +63,8 @@ requeue_unknown = refl
 -- monitor m; exports procedure q; begin end; end; begin m.q args end.
 abbrev called : List (List (Text × Place)) → ActualTrees → ProgramTree
 called exports args =
-    program_of (one_part (monitor_m exports (one_part (procedure_q no_parts empty)))) (one_stmt (call (desig (codes "m") (more_selectors (field q (at 32)) no_selectors) (at 30)) args (at 30)))
+    program_of (one_part (monitor_m exports (one_part (procedure_q no_parts empty))))
+    (one_stmt (call (desig (codes "m") (more_selectors (field q (at 32)) no_selectors) (at 30)) args (at 30)))
 
 hidden_of_one : first_fault (called [] (one (int_at 1 33))) ≡ refused 316 32
 hidden_of_one = refl
@@ -77,15 +84,22 @@ shown_of_none = refl
 abbrev accepting_of : List GroupTree → StmtTree → PartTrees
 accepting_of gs s =
     more_parts (types (record { name = codes "t"; form = named (codes "integer") (at 3); place = at 2 } ∷ []))
-    (one_part (process_part (process false p [] (record { name = codes "e"; formals = group x 13 (codes "integer") 14 ∷ group (codes "y") 15 (codes "t") 16 ∷ []; place = at 12 } ∷ []) no_parts
+    (one_part (process_part (process false p [] (record {
+      name = codes "e";
+      formals =
+          group x 13 (codes "integer") 14 ∷ group (codes "y") 15 (codes "t") 16 ∷ [];
+      place = at 12;
+    } ∷ []) no_parts
     (body_of (one_stmt (accepting (accept_do (codes "e") gs s (at 31)) (at 30)))) (at 10))))
 
 -- accept e (t: integer; u: t) do t := u
-named_as_type : first_fault (program (accepting_of (group (codes "t") 32 (codes "integer") 33 ∷ group (codes "u") 34 (codes "t") 35 ∷ []) (assign (name (codes "t") 40) (value (codes "u") 42) (at 40) (at 41)))) ≡ None
+named_as_type : first_fault (program (accepting_of (group (codes "t") 32 (codes "integer") 33 ∷ group (codes "u") 34 (codes "t") 35 ∷ [])
+    (assign (name (codes "t") 40) (value (codes "u") 42) (at 40) (at 41)))) ≡ None
 named_as_type = refl
 
 -- accept e (v: integer; u: v)
-named_as_parameter : first_fault (program (accepting_of (group (codes "v") 32 (codes "integer") 33 ∷ group (codes "u") 34 (codes "v") 35 ∷ []) empty)) ≡ refused 301 35
+named_as_parameter : first_fault
+    (program (accepting_of (group (codes "v") 32 (codes "integer") 33 ∷ group (codes "u") 34 (codes "v") 35 ∷ []) empty)) ≡ refused 301 35
 named_as_parameter = refl
 
 -- accept e (u: integer; u: t)
@@ -104,7 +118,8 @@ in_monitor s = program (one_part (monitor_m [] (more_parts (var_part x 5 (named 
 
 -- monitor m; var x: condition; begin s end;
 abbrev in_initial_body : StmtTree → ProgramTree
-in_initial_body s = program (one_part (monitor (the_module (codes "m") [] (one_part (var_part x 5 (named (codes "condition") (at 6)))) (Some (body_of (one_stmt s))) (at 60) (at 2))))
+in_initial_body s = program
+    (one_part (monitor (the_module (codes "m") [] (one_part (var_part x 5 (named (codes "condition") (at 6)))) (Some (body_of (one_stmt s))) (at 60) (at 2))))
 
 delay_of_none : first_fault (in_monitor (delay_of no_actuals)) ≡ refused 316 30
 delay_of_none = refl
@@ -135,7 +150,8 @@ rank_without_condition : first_fault (in_monitor (delay_of (two (int_at 1 31) (c
 rank_without_condition = refl
 
 -- delay (x, 1: 2)
-rank_with_width : first_fault (in_monitor (delay_of (more_actuals (actual (value x 31)) (more_actuals (actual_width (int_at 1 32) (int_at 2 33)) no_actuals)))) ≡ refused 324 33
+rank_with_width : first_fault
+    (in_monitor (delay_of (more_actuals (actual (value x 31)) (more_actuals (actual_width (int_at 1 32) (int_at 2 33)) no_actuals)))) ≡ refused 324 33
 rank_with_width = refl
 
 -- resume takes no rank

@@ -62,7 +62,8 @@ full_with_type : first_fault (program (more_parts (var_part x 2 full) (one_part 
 full_with_type = refl
 
 -- var x: array [1..256, 1..257] of integer
-two_ranges : first_fault (program (var_x (array (record { low = bound 1 4; high = bound 256 5 } ∷ record { low = bound 1 6; high = bound 257 7 } ∷ []) (an_integer 8) (at 3)))) ≡ refused 304 3
+two_ranges : first_fault (program (var_x (array (record { low = bound 1 4; high = bound 256 5 } ∷ record { low = bound 1 6; high = bound 257 7 } ∷ [])
+    (an_integer 8) (at 3)))) ≡ refused 304 3
 two_ranges = refl
 
 -- type x = array [1..65536] of integer; process p; entry q (y: x); var y: integer; begin accept q (y: x) end;
@@ -83,11 +84,14 @@ reference_accept = refl
 -- ## Names
 
 -- procedure q (x: integer; x: char); begin end;
-parameter_twice : first_fault (program (one_part (sub_q (group false x 3 (codes "integer") ∷ group false x 4 (codes "char") ∷ []) procedure no_parts))) ≡ refused 302 4
+parameter_twice : first_fault
+    (program (one_part (sub_q (group false x 3 (codes "integer") ∷ group false x 4 (codes "char") ∷ []) procedure no_parts))) ≡ refused 302 4
 parameter_twice = refl
 
 -- process p; entry q (x: integer; x: char); begin end;
-entry_parameter_twice : first_fault (program (one_part (with_entries (entry_q 31 (group false x 32 (codes "integer") ∷ group false x 33 (codes "char") ∷ []) ∷ []) no_parts empty))) ≡ refused 302 33
+entry_parameter_twice : first_fault
+    (program (one_part (with_entries (entry_q 31 (group false x 32 (codes "integer") ∷ group false x 33 (codes "char") ∷ []) ∷ []) no_parts empty))) ≡
+    refused 302 33
 entry_parameter_twice = refl
 
 -- process p; entry q; entry q; begin end;
@@ -95,7 +99,9 @@ entry_twice : first_fault (program (one_part (with_entries (entry_q 31 [] ∷ en
 entry_twice = refl
 
 -- var x: integer; type x = char
-type_of_one_name : first_fault (program (more_parts (var_part x 2 (an_integer 3)) (one_part (types (record { name = x; form = named (codes "char") (at 6); place = at 5 } ∷ []))))) ≡ refused 302 5
+type_of_one_name : first_fault
+    (program (more_parts (var_part x 2 (an_integer 3)) (one_part (types (record { name = x; form = named (codes "char") (at 6); place = at 5 } ∷ []))))) ≡
+    refused 302 5
 type_of_one_name = refl
 
 -- var q: integer; procedure q; begin end;
@@ -103,7 +109,8 @@ sub_of_one_name : first_fault (program (more_parts (var_part q 2 (an_integer 3))
 sub_of_one_name = refl
 
 -- var x: integer; procedure q; var x: char; begin end: two blocks
-two_blocks : first_fault (program (more_parts (var_part x 2 (an_integer 3)) (one_part (procedure_q (one_part (var_part x 22 (named (codes "char") (at 23)))) empty)))) ≡ None
+two_blocks : first_fault
+    (program (more_parts (var_part x 2 (an_integer 3)) (one_part (procedure_q (one_part (var_part x 22 (named (codes "char") (at 23)))) empty)))) ≡ None
 two_blocks = refl
 
 -- var integer: integer: the predeclared names are around the program
@@ -115,7 +122,8 @@ predeclared_hidden : first_fault (program (more_parts (var_part (codes "integer"
 predeclared_hidden = refl
 
 -- procedure q (x: integer); var x: char; begin end: parameters belong to the block
-variable_and_parameter : first_fault (program (one_part (sub_q (group false x 3 (codes "integer") ∷ []) procedure (one_part (var_part x 40 (named (codes "char") (at 41))))))) ≡ refused 302 40
+variable_and_parameter : first_fault
+    (program (one_part (sub_q (group false x 3 (codes "integer") ∷ []) procedure (one_part (var_part x 40 (named (codes "char") (at 41))))))) ≡ refused 302 40
 variable_and_parameter = refl
 
 -- process p; entry q; var q: integer; begin end: so do entries
@@ -127,11 +135,14 @@ repeated_first : first_fault (program (one_part (vars (more_vars (var_item ((x, 
 repeated_first = refl
 
 -- function q (integer: char): integer; begin end: the parameter is in view in the result's type
-result_hidden : first_fault (program (one_part (sub_q (group false (codes "integer") 3 (codes "char") ∷ []) (function (codes "integer") (at 39)) no_parts))) ≡ refused 310 39
+result_hidden : first_fault (program (one_part (sub_q (group false (codes "integer") 3 (codes "char") ∷ []) (function (codes "integer") (at 39)) no_parts))) ≡
+    refused 310 39
 result_hidden = refl
 
 -- monitor m; procedure q; begin m.q end; end: its name is not yet in view
-monitor_in_itself : first_fault (program (one_part (monitor_m [] (one_part (procedure_q no_parts (call (desig (codes "m") (more_selectors (field q (at 26)) no_selectors) (at 24)) no_actuals (at 24))))))) ≡ refused 301 24
+monitor_in_itself : first_fault
+    (program (one_part (monitor_m []
+    (one_part (procedure_q no_parts (call (desig (codes "m") (more_selectors (field q (at 26)) no_selectors) (at 24)) no_actuals (at 24))))))) ≡ refused 301 24
 monitor_in_itself = refl
 
 -- process p; begin p end: its own name is in view, and it is no activation between `cobegin` and `coend`
@@ -141,7 +152,8 @@ process_in_itself = refl
 -- type x = integer; var p: x; q: integer; begin p := q end: a second name of one type
 abbrev p_q : Text → TypeTree → ProgramTree
 p_q t form =
-    program_of (more_parts (types (record { name = x; form = form; place = at 2 } ∷ [])) (more_parts (var_part p 12 (named x (at 13))) (one_part (var_part q 14 (named t (at 15))))))
+    program_of (more_parts (types (record { name = x; form = form; place = at 2 } ∷ [])) (more_parts (var_part p 12 (named x (at 13)))
+    (one_part (var_part q 14 (named t (at 15))))))
     (one_stmt (assign (name p 40) (value q 42) (at 40) (at 41)))
 
 second_name : first_fault (p_q (codes "integer") (an_integer 3)) ≡ None

@@ -80,7 +80,8 @@ clean-listed (fs ⨾ gs) e = ap₂ (λ x y. x ++ y) (clean-listed fs (and-left (
 pub listed-clean : (fs : Faults) → listed fs ≡ [] → clean fs ≡ true
 listed-clean none e = refl
 listed-clean (one f) e = absurd (no_fault f [] e)
-listed-clean (fs ⨾ gs) e = ap₂ (λ x y. x && y) (listed-clean fs (empty-left (listed fs) (listed gs) e)) (listed-clean gs (empty-right (listed fs) (listed gs) e))
+listed-clean (fs ⨾ gs) e = ap₂ (λ x y. x && y) (listed-clean fs (empty-left (listed fs) (listed gs) e))
+    (listed-clean gs (empty-right (listed fs) (listed gs) e))
 
 -- a Boolean equation says when the type is missing
 pub faulty_exactly : {A : Type 0} (t : Option A) (fs : Faults) (u : Bool) → is_some t ≡ (clean fs && not u) → IsFaultyExactly t fs u

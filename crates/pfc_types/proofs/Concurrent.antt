@@ -38,11 +38,13 @@ abbrev procedure_p : BodyTree → PartTree
 procedure_p b = sub_part (sub p [] procedure no_parts b (at 10))
 
 -- procedure p; begin x := 1 end; var x: integer; begin end.
-later_name : first_fault (program (more_parts (procedure_p (body_of (assign (name x 20) (one_at 22) (at 20) (at 21)))) (one_part (var_part x 30 (an_integer 31)))) empty) ≡ refused 301 20
+later_name : first_fault (program (more_parts (procedure_p (body_of (assign (name x 20) (one_at 22) (at 20) (at 21))))
+    (one_part (var_part x 30 (an_integer 31)))) empty) ≡ refused 301 20
 later_name = refl
 
 -- var x: integer; procedure p; begin x := 1 end; begin end.
-earlier_name : first_fault (program (more_parts (var_part x 5 (an_integer 6)) (one_part (procedure_p (body_of (assign (name x 20) (one_at 22) (at 20) (at 21)))))) empty) ≡ None
+earlier_name : first_fault
+    (program (more_parts (var_part x 5 (an_integer 6)) (one_part (procedure_p (body_of (assign (name x 20) (one_at 22) (at 20) (at 21)))))) empty) ≡ None
 earlier_name = refl
 
 -- procedure p; begin p end; begin p end.
@@ -50,7 +52,8 @@ recursive : first_fault (program (one_part (procedure_p (body_of (call (name p 2
 recursive = refl
 
 -- function p: integer; begin end; begin p := 1 end.
-assigned_outside : first_fault (program (one_part (sub_part (sub p [] (function (codes "integer") (at 11)) no_parts (body_of empty) (at 10)))) (assign (name p 40) (one_at 42) (at 40) (at 41))) ≡ refused 327 40
+assigned_outside : first_fault (program (one_part (sub_part (sub p [] (function (codes "integer") (at 11)) no_parts (body_of empty) (at 10))))
+    (assign (name p 40) (one_at 42) (at 40) (at 41))) ≡ refused 327 40
 assigned_outside = refl
 
 -- type x = x;
@@ -61,7 +64,8 @@ own_type = refl
 abbrev server : ℕ → Text → PartTree
 server n t =
     process_part (process true p [] (record { name = e; formals = group false x 13 14 ∷ []; place = at 12 } ∷ []) no_parts
-    (body_of (accepting (accept_do e (record { reference = false; names = (x, at 17) ∷ []; form = (t, at 18) } ∷ []) (assign (name x 20) (one_at 22) (at 20) (at 21)) (at n)) (at 15))) (at 10))
+    (body_of (accepting (accept_do e (record { reference = false; names = (x, at 17) ∷ []; form = (t, at 18) } ∷ [])
+    (assign (name x 20) (one_at 22) (at 20) (at 21)) (at n)) (at 15))) (at 10))
 
 -- var x: array [1..2] of p;
 abbrev servers : PartTree
@@ -76,16 +80,20 @@ abbrev called_entry : Text → DesigTree
 called_entry f = desig x (more_selectors (index (more_exprs (one_at 52) no_exprs) (at 51)) (more_selectors (field f (at 53)) no_selectors)) (at 50)
 
 -- begin cobegin x[1].e (1) coend end.
-served : first_fault (program (more_parts (server 16 (codes "integer")) (one_part servers)) (cobegin (stmts_of (call (called_entry e) (with_one (one_at 55)) (at 50))) (at 60) (at 45))) ≡ None
+served : first_fault (program (more_parts (server 16 (codes "integer")) (one_part servers))
+    (cobegin (stmts_of (call (called_entry e) (with_one (one_at 55)) (at 50))) (at 60) (at 45))) ≡ None
 served = refl
 
-activated : first_fault (program (more_parts (server 16 (codes "integer")) (one_part servers)) (cobegin (stmts_of (call (first_server 50) no_actuals (at 50))) (at 60) (at 45))) ≡ None
+activated : first_fault (program (more_parts (server 16 (codes "integer")) (one_part servers))
+    (cobegin (stmts_of (call (first_server 50) no_actuals (at 50))) (at 60) (at 45))) ≡ None
 activated = refl
 
-no_entry : first_fault (program (more_parts (server 16 (codes "integer")) (one_part servers)) (call (called_entry p) (with_one (one_at 55)) (at 50))) ≡ refused 413 53
+no_entry : first_fault (program (more_parts (server 16 (codes "integer")) (one_part servers))
+    (call (called_entry p) (with_one (one_at 55)) (at 50))) ≡ refused 413 53
 no_entry = refl
 
-too_many_arguments : first_fault (program (more_parts (server 16 (codes "integer")) (one_part servers)) (call (called_entry e) no_actuals (at 50))) ≡ refused 316 53
+too_many_arguments : first_fault (program (more_parts (server 16 (codes "integer")) (one_part servers))
+    (call (called_entry e) no_actuals (at 50))) ≡ refused 316 53
 too_many_arguments = refl
 
 -- accept e (x: char) of an entry that takes an integer
@@ -96,7 +104,8 @@ accept_differs = refl
 abbrev monitor_m : BodyTree → PartTree
 monitor_m b =
     monitor (the_module (codes "m") (((p, at 6) ∷ []) ∷ [])
-    (more_parts (var_part x 7 (named (codes "condition") (at 8))) (one_part (procedure_p (body_of (call (name (codes "delay") 20) (with_one (value x 22)) (at 20)))))) (Some b) (at 29) (at 5))
+    (more_parts (var_part x 7 (named (codes "condition") (at 8)))
+    (one_part (procedure_p (body_of (call (name (codes "delay") 20) (with_one (value x 22)) (at 20)))))) (Some b) (at 29) (at 5))
 
 abbrev in_m : Text → DesigTree
 in_m f = desig (codes "m") (more_selectors (field f (at 41)) no_selectors) (at 40)
@@ -118,8 +127,11 @@ resource_r guard reference lent =
     more_parts (var_part (codes "n") 2 (an_integer 3))
     (one_part (resource (the_module (codes "r") []
     (more_parts (var_part x 7 (an_integer 8))
-    (one_part (sub_part (sub p (group true e 12 13 ∷ group reference (codes "f") 14 15 ∷ []) (guarded (related (sum None (product (applied (name guard 17) no_actuals (at 17)) no_multipliers) no_summands) (Eq, at 18) (sum None (product (number (pos 1) (at 19)) no_multipliers) no_summands) (at 17)) (at 16)) no_parts
-    (body_of (requeue (p, at 21) (more_actuals (actual (value lent 22)) (more_actuals (actual (value e 23)) no_actuals)) (at 20))) (at 10))))) None (at 29) (at 5))))
+    (one_part (sub_part (sub p (group true e 12 13 ∷ group reference (codes "f") 14 15 ∷ [])
+    (guarded (related (sum None (product (applied (name guard 17) no_actuals (at 17)) no_multipliers) no_summands) (Eq, at 18)
+    (sum None (product (number (pos 1) (at 19)) no_multipliers) no_summands) (at 17)) (at 16)) no_parts
+    (body_of (requeue (p, at 21) (more_actuals (actual (value lent 22)) (more_actuals (actual (value e 23)) no_actuals)) (at 20))) (at 10))))) None (at 29)
+    (at 5))))
 
 requeued : first_fault (program (resource_r x false e) empty) ≡ None
 requeued = refl

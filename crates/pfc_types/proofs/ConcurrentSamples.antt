@@ -68,7 +68,8 @@ channel_in_monitor : first_fault (program (one_part (monitor_m [] (var_x (channe
 channel_in_monitor = refl
 
 -- process type p; begin end; procedure q; var x: p; begin end;
-local_process : first_fault (program (more_parts (process_p true no_parts empty) (one_part (procedure_q (one_part (var_part x 22 (named p (at 23)))) empty))) empty) ≡ refused 404 23
+local_process : first_fault
+    (program (more_parts (process_p true no_parts empty) (one_part (procedure_q (one_part (var_part x 22 (named p (at 23)))) empty))) empty) ≡ refused 404 23
 local_process = refl
 
 -- var x: condition
@@ -76,7 +77,8 @@ program_condition : first_fault (program (var_x (condition_at 3)) empty) ≡ ref
 program_condition = refl
 
 -- monitor m; procedure q; var x: condition; begin end; end;
-condition_in_sub : first_fault (program (one_part (monitor_m [] (one_part (procedure_q (one_part (var_part x 22 (condition_at 23))) empty)))) empty) ≡ refused 405 23
+condition_in_sub : first_fault
+    (program (one_part (monitor_m [] (one_part (procedure_q (one_part (var_part x 22 (condition_at 23))) empty)))) empty) ≡ refused 405 23
 condition_in_sub = refl
 
 -- monitor m; var x: condition; end;
@@ -117,7 +119,8 @@ export_variable : first_fault (program (one_part (monitor_m (((x, at 6) ∷ []) 
 export_variable = refl
 
 -- monitor m; export q; export q; procedure q; begin end; end;
-export_twice : first_fault (program (one_part (monitor_m (((q, at 6) ∷ []) ∷ ((q, at 7) ∷ []) ∷ []) (one_part (procedure_q no_parts empty)))) empty) ≡ refused 409 7
+export_twice : first_fault
+    (program (one_part (monitor_m (((q, at 6) ∷ []) ∷ ((q, at 7) ∷ []) ∷ []) (one_part (procedure_q no_parts empty)))) empty) ≡ refused 409 7
 export_twice = refl
 
 -- ## 413 and 414
@@ -135,7 +138,8 @@ accept_in_main : first_fault (program no_parts (accept_q 30)) ≡ refused 414 30
 accept_in_main = refl
 
 -- process p; entry q; procedure x; begin accept q end; begin end;
-accept_in_sub : first_fault (program (one_part (served (one_part (sub_part (sub x [] procedure no_parts (body_of (one_stmt (accept_q 30))) (at 20)))) empty)) empty) ≡ refused 414 30
+accept_in_sub : first_fault
+    (program (one_part (served (one_part (sub_part (sub x [] procedure no_parts (body_of (one_stmt (accept_q 30))) (at 20)))) empty)) empty) ≡ refused 414 30
 accept_in_sub = refl
 
 -- process p; entry q; begin accept q end;
@@ -171,15 +175,18 @@ one_way_out : first_fault (program (with_c no_parts) (select false (receive_or (
 one_way_out = refl
 
 -- begin select c ? x or timeout 1 or timeout 1 end end
-two_timeouts : first_fault (program (with_c no_parts) (select false (receive_or (waits 40) (more_alts (plain_alt (waits 42)) no_alts)) (at 30) (at 30))) ≡ refused 417 42
+two_timeouts : first_fault
+    (program (with_c no_parts) (select false (receive_or (waits 40) (more_alts (plain_alt (waits 42)) no_alts)) (at 30) (at 30))) ≡ refused 417 42
 two_timeouts = refl
 
 -- begin select c ? x or timeout 1 else end end
-timeout_and_else : first_fault (program (with_c no_parts) (select_else false (receive_or (waits 40) no_alts) (one_stmt empty) (at 45) (at 30) (at 30))) ≡ refused 417 45
+timeout_and_else : first_fault (program (with_c no_parts) (select_else false (receive_or (waits 40) no_alts) (one_stmt empty)
+    (at 45) (at 30) (at 30))) ≡ refused 417 45
 timeout_and_else = refl
 
 -- begin select c ? x or timeout true end end
-timeout_true : first_fault (program (with_c no_parts) (select false (receive_or (timeout (value (codes "true") 41) (at 40)) no_alts) (at 30) (at 30))) ≡ refused 317 41
+timeout_true : first_fault
+    (program (with_c no_parts) (select false (receive_or (timeout (value (codes "true") 41) (at 40)) no_alts) (at 30) (at 30))) ≡ refused 317 41
 timeout_true = refl
 
 -- begin select c ? x or terminate end end
@@ -187,7 +194,9 @@ terminate_in_main : first_fault (program (with_c no_parts) (select false (receiv
 terminate_in_main = refl
 
 -- process p; procedure q; begin select c ? x or terminate end end; begin end;
-terminate_in_sub : first_fault (program (with_c (one_part (process_p false (one_part (procedure_q no_parts (select false (receive_or (terminate (at 40)) no_alts) (at 30) (at 30)))) empty))) empty) ≡ None
+terminate_in_sub : first_fault
+    (program (with_c (one_part
+    (process_p false (one_part (procedure_q no_parts (select false (receive_or (terminate (at 40)) no_alts) (at 30) (at 30)))) empty))) empty) ≡ None
 terminate_in_sub = refl
 
 -- ## 418, 419 and 423
@@ -208,7 +217,8 @@ requeue_outside : first_fault (program (one_part (procedure_q no_parts (requeue_
 requeue_outside = refl
 
 -- guarded procedure p when true; procedure x; begin requeue p end; begin end;
-requeue_in_sub : first_fault (program (resource_r (one_part (sub_part (sub x [] procedure no_parts (body_of (one_stmt (requeue_of p))) (at 26)))) empty) empty) ≡ refused 418 30
+requeue_in_sub : first_fault
+    (program (resource_r (one_part (sub_part (sub x [] procedure no_parts (body_of (one_stmt (requeue_of p))) (at 26)))) empty) empty) ≡ refused 418 30
 requeue_in_sub = refl
 
 -- guarded procedure p when true; begin requeue q end;
@@ -234,9 +244,11 @@ plain_called = refl
 -- ## 422
 
 -- var x: integer; begin x.q end
-entry_of_number : first_fault (program (var_x (an_integer 3)) (call (desig x (more_selectors (field q (at 32)) no_selectors) (at 30)) no_actuals (at 30))) ≡ refused 422 30
+entry_of_number : first_fault
+    (program (var_x (an_integer 3)) (call (desig x (more_selectors (field q (at 32)) no_selectors) (at 30)) no_actuals (at 30))) ≡ refused 422 30
 entry_of_number = refl
 
 -- var c: channel of integer; begin c.q end
-entry_of_channel : first_fault (program (with_c no_parts) (call (desig (codes "c") (more_selectors (field q (at 32)) no_selectors) (at 30)) no_actuals (at 30))) ≡ refused 422 30
+entry_of_channel : first_fault
+    (program (with_c no_parts) (call (desig (codes "c") (more_selectors (field q (at 32)) no_selectors) (at 30)) no_actuals (at 30))) ≡ refused 422 30
 entry_of_channel = refl

@@ -31,7 +31,8 @@ chosen : {A : Type 0} (b : Bool) (x : A) (p : Place) (n : ℕ) → is_some (if b
 chosen true x p n = refl
 chosen false x p n = refl
 
-named_exact : (sign : Option (Sign × Place)) (m : Option Meaning) (p : Place) → is_some (named_constant sign m) ≡ ((clean (name_rules a_constant m p) && clean (sign_rule sign m)) && not (stands_faulty m))
+named_exact : (sign : Option (Sign × Place)) (m : Option Meaning) (p : Place) →
+    is_some (named_constant sign m) ≡ ((clean (name_rules a_constant m p) && clean (sign_rule sign m)) && not (stands_faulty m))
 named_exact sign None p = refl
 named_exact None (Some (AConstant t v)) p = refl
 named_exact (Some sign) (Some (AConstant t v)) p = chosen (is_same t integer) (record { t = t; value = signed (Some sign) v }) sign.1 322
@@ -45,7 +46,8 @@ named_exact sign (Some (Predeclared k)) p = refl
 named_exact None (Some Faulty) p = refl
 named_exact (Some sign) (Some Faulty) p = refl
 
-pub constant_exact : (scopes : List Names) (view : List Level) (c : Constant) → is_some (constant_value scopes view c) ≡ (clean (broken_constant scopes view c) && not (constant_uses_faulty scopes view c))
+pub constant_exact : (scopes : List Names) (view : List Level) (c : Constant) →
+    is_some (constant_value scopes view c) ≡ (clean (broken_constant scopes view c) && not (constant_uses_faulty scopes view c))
 constant_exact scopes view (Number sign n p) = refl
 constant_exact scopes view (NamedConstant sign x p) = named_exact sign (look scopes view x) p
 constant_exact scopes view (Literal x p) = by x
@@ -97,22 +99,28 @@ extent_exact (Some a) (Some b) p = by (are_bounds a b)
     by true = refl
     by false = refl
 
-range_exact : (scopes : List Names) (view : List Level) (r : Range) → is_some (range_extent scopes view r) ≡ (clean (broken_range scopes view r) && not (constant_uses_faulty scopes view r.low || constant_uses_faulty scopes view r.high))
+range_exact : (scopes : List Names) (view : List Level) (r : Range) →
+    is_some (range_extent scopes view r) ≡ (clean (broken_range scopes view r) && not
+    (constant_uses_faulty scopes view r.low || constant_uses_faulty scopes view r.high))
 range_exact scopes view r =
     extent_exact (constant_value scopes view r.low) (constant_value scopes view r.high) (constant_place r.low)
-    ∙ ap₂ (λ x y. (x && y) && clean (bounds_rule (constant_value scopes view r.low) (constant_value scopes view r.high) (constant_place r.low))) (constant_exact scopes view r.low) (constant_exact scopes view r.high)
-    ∙ related_parts (clean (broken_constant scopes view r.low)) (constant_uses_faulty scopes view r.low) (clean (broken_constant scopes view r.high)) (constant_uses_faulty scopes view r.high)
+    ∙ ap₂ (λ x y. (x && y) && clean (bounds_rule (constant_value scopes view r.low) (constant_value scopes view r.high) (constant_place r.low)))
+    (constant_exact scopes view r.low) (constant_exact scopes view r.high)
+    ∙ related_parts (clean (broken_constant scopes view r.low)) (constant_uses_faulty scopes view r.low) (clean (broken_constant scopes view r.high))
+    (constant_uses_faulty scopes view r.high)
     (clean (bounds_rule (constant_value scopes view r.low) (constant_value scopes view r.high) (constant_place r.low)))
 
 abbrev pub all_some : List (Option Extent) → Bool
 all_some [] = true
 all_some (r ∷ rs) = is_some r && all_some rs
 
-pub extents_exact : (scopes : List Names) (view : List Level) (rs : List Range) → all_some (range_extents scopes view rs) ≡ (clean (broken_ranges scopes view rs) && not (ranges_use_faulty scopes view rs))
+pub extents_exact : (scopes : List Names) (view : List Level) (rs : List Range) →
+    all_some (range_extents scopes view rs) ≡ (clean (broken_ranges scopes view rs) && not (ranges_use_faulty scopes view rs))
 extents_exact scopes view [] = refl
 extents_exact scopes view (r ∷ rs) =
     ap₂ (λ x y. x && y) (range_exact scopes view r) (extents_exact scopes view rs)
-    ∙ two_parts (clean (broken_range scopes view r)) (constant_uses_faulty scopes view r.low || constant_uses_faulty scopes view r.high) (clean (broken_ranges scopes view rs)) (ranges_use_faulty scopes view rs)
+    ∙ two_parts (clean (broken_range scopes view r)) (constant_uses_faulty scopes view r.low || constant_uses_faulty scopes view r.high)
+    (clean (broken_ranges scopes view rs)) (ranges_use_faulty scopes view rs)
 
 -- bounds of a simple type, the low one not above the high one
 abbrev pub AreBounds : List (Option Extent) → Type 0
@@ -122,22 +130,26 @@ AreBounds (Some r ∷ rs) = ((is_simple r.index && int_le r.low r.high) ≡ true
 
 pub extents_bounds : (scopes : List Names) → HoldSimpleConstants scopes → (view : List Level) (rs : List Range) → AreBounds (range_extents scopes view rs)
 extents_bounds scopes h view [] = tt
-extents_bounds scopes h view (r ∷ rs) = by (constant_value scopes view r.low) (constant_value scopes view r.high) (constant_simple scopes h view r.low) (extents_bounds scopes h view rs)
+extents_bounds scopes h view (r ∷ rs) = by (constant_value scopes view r.low) (constant_value scopes view r.high)
+    (constant_simple scopes h view r.low) (extents_bounds scopes h view rs)
   where
     by : (a b : Option Ordinal) → IsSimpleValue a → AreBounds (range_extents scopes view rs) → AreBounds (extent_of a b ∷ range_extents scopes view rs)
     by None b s others = others
     by (Some a) None s others = others
     by (Some a) (Some b) s others = at (are_bounds a b) refl
       where
-        at : (t : Bool) → are_bounds a b ≡ t → AreBounds ((if t then Some (record { index = a.t; low = a.value; high = b.value }) else None) ∷ range_extents scopes view rs)
+        at : (t : Bool) → are_bounds a b ≡ t →
+            AreBounds ((if t then Some (record { index = a.t; low = a.value; high = b.value }) else None) ∷ range_extents scopes view rs)
         at true e = (ap₂ (λ x y. x && y) s (and-right (is_same a.t b.t) (int_le a.value b.value) e), others)
         at false e = others
 
 -- ## Names of types, and groups of parameters
 
-pub named_type_exact : (carried : Bool) (m : Option Meaning) (p : Place) → is_some (named_type carried m) ≡ (clean (type_name_rules carried m p) && not (stands_faulty m))
+pub named_type_exact : (carried : Bool) (m : Option Meaning) (p : Place) →
+    is_some (named_type carried m) ≡ (clean (type_name_rules carried m p) && not (stands_faulty m))
 named_type_exact carried None p = refl
-named_type_exact carried (Some (Named t)) p = some-where_so (carried || not (is_same t synchronous)) t ∙ true_behind (carried || not (is_same t synchronous)) ∙ ap (λ x. x && true) (sym (clean-unless (carried || not (is_same t synchronous)) p 411))
+named_type_exact carried (Some (Named t)) p = some-where_so (carried || not (is_same t synchronous)) t ∙ true_behind (carried || not (is_same t synchronous)) ∙
+    ap (λ x. x && true) (sym (clean-unless (carried || not (is_same t synchronous)) p 411))
   where
     true_behind : (b : Bool) → b ≡ (b && true)
     true_behind true = refl
@@ -151,16 +163,21 @@ named_type_exact carried (Some (Entry n)) p = refl
 named_type_exact carried (Some (Predeclared k)) p = refl
 named_type_exact carried (Some Faulty) p = sym (and-false (clean (type_name_rules carried (Some Faulty) p)))
 
-parameter_exact : (reference : Bool) (forms : Forms) (t : Option TypeId) (p : Place) → is_some (parameter_type reference forms t) ≡ (is_some t && clean (parameter_rules reference forms t p))
+parameter_exact : (reference : Bool) (forms : Forms) (t : Option TypeId) (p : Place) →
+    is_some (parameter_type reference forms t) ≡ (is_some t && clean (parameter_rules reference forms t p))
 parameter_exact reference forms None p = refl
 parameter_exact reference forms (Some t) p =
-    some-where_so (passed_fits reference forms t && parameter_fits forms t) t ∙ sym (ap₂ (λ x y. x && y) (clean-unless (passed_fits reference forms t) p 406) (clean-unless (parameter_fits forms t) p 407))
+    some-where_so (passed_fits reference forms t && parameter_fits forms t) t ∙
+    sym (ap₂ (λ x y. x && y) (clean-unless (passed_fits reference forms t) p 406) (clean-unless (parameter_fits forms t) p 407))
 
-pub group_exact : (s : State) (view : List Level) (g : GroupTree) → is_some (group_type s view g) ≡ (clean (broken_group s view g) && not (group_uses_faulty s.blocks.scopes view g))
+pub group_exact : (s : State) (view : List Level) (g : GroupTree) →
+    is_some (group_type s view g) ≡ (clean (broken_group s view g) && not (group_uses_faulty s.blocks.scopes view g))
 group_exact s view g =
     parameter_exact g.reference s.forms (named_type false (look s.blocks.scopes view g.form.0)) g.form.1
-    ∙ ap (λ x. x && clean (parameter_rules g.reference s.forms (named_type false (look s.blocks.scopes view g.form.0)) g.form.1)) (named_type_exact false (look s.blocks.scopes view g.form.0) g.form.1)
-    ∙ by (clean (type_name_rules false (look s.blocks.scopes view g.form.0) g.form.1)) (stands_faulty (look s.blocks.scopes view g.form.0)) (clean (parameter_rules g.reference s.forms (named_type false (look s.blocks.scopes view g.form.0)) g.form.1))
+    ∙ ap (λ x. x && clean (parameter_rules g.reference s.forms (named_type false (look s.blocks.scopes view g.form.0)) g.form.1))
+    (named_type_exact false (look s.blocks.scopes view g.form.0) g.form.1)
+    ∙ by (clean (type_name_rules false (look s.blocks.scopes view g.form.0) g.form.1)) (stands_faulty (look s.blocks.scopes view g.form.0))
+    (clean (parameter_rules g.reference s.forms (named_type false (look s.blocks.scopes view g.form.0)) g.form.1))
   where
     by : (a u r : Bool) → ((a && not u) && r) ≡ ((a && r) && not u)
     by false u r = refl

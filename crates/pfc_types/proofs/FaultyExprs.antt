@@ -78,13 +78,16 @@ suc_suc n m = by (n == m) refl
 -- one argument
 abbrev ArgumentExact : Env → ActualTree → Type 0
 ArgumentExact env a =
-    (w : Want) → arg_fits env w a ≡ (is_wanted w && ((clean (broken_actual env true a) && clean (broken_wanted env None w a)) && not (actual_uses_faulty env a)))
+    (w : Want) → arg_fits env w a ≡
+    (is_wanted w && ((clean (broken_actual env true a) && clean (broken_wanted env None w a)) && not (actual_uses_faulty env a)))
 
-actual_exact : (env : Env) → BeginsPredeclared env.state.forms → (e : ExprTree) → Exact (expr_type env e) (broken_expr env e) (expr_uses_faulty env e) → ArgumentExact env (actual e)
+actual_exact : (env : Env) → BeginsPredeclared env.state.forms → (e : ExprTree) →
+    Exact (expr_type env e) (broken_expr env e) (expr_uses_faulty env e) → ArgumentExact env (actual e)
 actual_exact env begins e known w =
     wanted_exactly env.state.forms begins w (is_variable env None e) (expr_type env e) (expr_place e)
     ∙ ap (λ x. (is_wanted w && x) && clean (want_rules env.state.forms w (is_variable env None e) (expr_type env e) (expr_place e))) known
-    ∙ by (is_wanted w) (clean (broken_expr env e)) (expr_uses_faulty env e) (clean (want_rules env.state.forms w (is_variable env None e) (expr_type env e) (expr_place e)))
+    ∙ by (is_wanted w) (clean (broken_expr env e)) (expr_uses_faulty env e)
+    (clean (want_rules env.state.forms w (is_variable env None e) (expr_type env e) (expr_place e)))
   where
     by : (w a u r : Bool) → ((w && (a && not u)) && r) ≡ (w && ((a && r) && not u))
     by false a u r = refl
@@ -92,7 +95,8 @@ actual_exact env begins e known w =
 
 width_exact : (env : Env) (e width : ExprTree) → ArgumentExact env (actual_width e width)
 width_exact env e width w =
-    by (is_wanted w) (clean (broken_expr env e)) (clean (broken_expr env width)) (clean (broken_wanted env None w (actual_width e width))) (not (actual_uses_faulty env (actual_width e width)))
+    by (is_wanted w) (clean (broken_expr env e)) (clean (broken_expr env width)) (clean (broken_wanted env None w (actual_width e width)))
+    (not (actual_uses_faulty env (actual_width e width)))
   where
     by : (w a b r u : Bool) → false ≡ (w && (((a && (b && false)) && r) && u))
     by false a b r u = refl
@@ -101,11 +105,15 @@ width_exact env e width w =
     by true true false r u = refl
 
 more_exact : (env : Env) (a : ActualTree) (rest : ActualTrees) → ArgumentExact env a → ArgumentsExact env rest → ArgumentsExact env (more_actuals a rest)
-more_exact env a rest first others [] = ap (λ x. x && (true && (clean (broken_actuals env None true [] (more_actuals a rest)) && not (actuals_use_faulty env (more_actuals a rest))))) (sym (zero_suc (actual_count rest)))
+more_exact env a rest first others [] =
+    ap (λ x. x && (true && (clean (broken_actuals env None true [] (more_actuals a rest)) && not (actuals_use_faulty env (more_actuals a rest)))))
+    (sym (zero_suc (actual_count rest)))
 more_exact env a rest first others (w ∷ ws) =
     ap₂ (λ x y. x && y) (first w) (others ws)
-    ∙ by (is_wanted w) (clean (broken_actual env true a)) (clean (broken_wanted env None w a)) (actual_uses_faulty env a) (length ws == actual_count rest) (all_wanted ws) (clean (broken_actuals env None true ws rest)) (actuals_use_faulty env rest)
-    ∙ ap (λ x. x && (all_wanted (w ∷ ws) && (clean (broken_actuals env None true (w ∷ ws) (more_actuals a rest)) && not (actuals_use_faulty env (more_actuals a rest))))) (sym (suc_suc (length ws) (actual_count rest)))
+    ∙ by (is_wanted w) (clean (broken_actual env true a)) (clean (broken_wanted env None w a)) (actual_uses_faulty env a) (length ws == actual_count rest)
+    (all_wanted ws) (clean (broken_actuals env None true ws rest)) (actuals_use_faulty env rest)
+    ∙ ap (λ x. x && (all_wanted (w ∷ ws) && (clean (broken_actuals env None true (w ∷ ws) (more_actuals a rest)) && not
+    (actuals_use_faulty env (more_actuals a rest))))) (sym (suc_suc (length ws) (actual_count rest)))
   where
     by : (w a b u l ws c v : Bool) → ((w && ((a && b) && not u)) && (l && (ws && (c && not v)))) ≡ (l && ((w && ws) && ((a && (b && c)) && not (u || v))))
     by false a b u true ws c v = refl
@@ -128,10 +136,12 @@ mutual
   expr_exact env b (plain s p) = simple_exact env b s
   expr_exact env b (related s r u p) =
       related_exactly env.state.forms b (simple_type env s) (simple_type env u) r.1 (simple_place s) (simple_place u)
-      ∙ ap₂ (λ x y. (x && y) && clean (relation_rule (simple_type env s) (simple_type env u) r.1 ⨾ value_rule env.state.forms (simple_type env s) (simple_place s) ⨾ value_rule env.state.forms (simple_type env u) (simple_place u)))
+      ∙ ap₂ (λ x y. (x && y) && clean (relation_rule (simple_type env s) (simple_type env u) r.1 ⨾ value_rule env.state.forms (simple_type env s)
+      (simple_place s) ⨾ value_rule env.state.forms (simple_type env u) (simple_place u)))
       (simple_exact env b s) (simple_exact env b u)
       ∙ related_parts (clean (broken_simple env s)) (simple_uses_faulty env s) (clean (broken_simple env u)) (simple_uses_faulty env u)
-      (clean (relation_rule (simple_type env s) (simple_type env u) r.1 ⨾ value_rule env.state.forms (simple_type env s) (simple_place s) ⨾ value_rule env.state.forms (simple_type env u) (simple_place u)))
+      (clean (relation_rule (simple_type env s) (simple_type env u) r.1 ⨾ value_rule env.state.forms (simple_type env s)
+      (simple_place s) ⨾ value_rule env.state.forms (simple_type env u) (simple_place u)))
 
   simple_exact : (env : Env) → BeginsPredeclared env.state.forms → (s : SimpleTree) → Exact (simple_type env s) (broken_simple env s) (simple_uses_faulty env s)
   simple_exact env b (sum sign first rest) =
@@ -141,12 +151,14 @@ mutual
       ∙ first_parts (clean (broken_term env first)) (term_uses_faulty env first) (clean (signed_rule sign (term_type env first)))
       (clean (broken_summands env (signed_type sign (term_type env first)) rest)) (summands_use_faulty env rest)
 
-  summands_exact : (env : Env) → BeginsPredeclared env.state.forms → (t : Option TypeId) (rest : SummandTrees) → ExactFrom t (summed env t rest) (broken_summands env t rest) (summands_use_faulty env rest)
+  summands_exact : (env : Env) → BeginsPredeclared env.state.forms → (t : Option TypeId) (rest : SummandTrees) →
+      ExactFrom t (summed env t rest) (broken_summands env t rest) (summands_use_faulty env rest)
   summands_exact env b t no_summands = whole (is_some t)
   summands_exact env b t (more_summands op u rest) =
       summands_exact env b (operated (add_operand op.0) t (term_type env u)) rest
       ∙ ap (λ x. x && (clean (broken_summands env (operated (add_operand op.0) t (term_type env u)) rest) && not (summands_use_faulty env rest)))
-      (operated_exactly (add_operand op.0) t (term_type env u) op.1 ∙ ap (λ x. (is_some t && x) && clean (operator_rule (add_operand op.0) t (term_type env u) op.1)) (term_exact env b u))
+      (operated_exactly (add_operand op.0) t (term_type env u) op.1 ∙
+      ap (λ x. (is_some t && x) && clean (operator_rule (add_operand op.0) t (term_type env u) op.1)) (term_exact env b u))
       ∙ next_parts (is_some t) (clean (broken_term env u)) (term_uses_faulty env u) (clean (operator_rule (add_operand op.0) t (term_type env u) op.1))
       (clean (broken_summands env (operated (add_operand op.0) t (term_type env u)) rest)) (summands_use_faulty env rest)
 
@@ -154,14 +166,17 @@ mutual
   term_exact env b (product f rest) =
       multipliers_exact env b (factor_type env f) rest
       ∙ ap (λ x. x && (clean (broken_multipliers env (factor_type env f) rest) && not (multipliers_use_faulty env rest))) (factor_exact env b f)
-      ∙ two_parts (clean (broken_factor env f)) (factor_uses_faulty env f) (clean (broken_multipliers env (factor_type env f) rest)) (multipliers_use_faulty env rest)
+      ∙ two_parts (clean (broken_factor env f)) (factor_uses_faulty env f)
+      (clean (broken_multipliers env (factor_type env f) rest)) (multipliers_use_faulty env rest)
 
-  multipliers_exact : (env : Env) → BeginsPredeclared env.state.forms → (t : Option TypeId) (rest : MultiplierTrees) → ExactFrom t (multiplied env t rest) (broken_multipliers env t rest) (multipliers_use_faulty env rest)
+  multipliers_exact : (env : Env) → BeginsPredeclared env.state.forms → (t : Option TypeId) (rest : MultiplierTrees) →
+      ExactFrom t (multiplied env t rest) (broken_multipliers env t rest) (multipliers_use_faulty env rest)
   multipliers_exact env b t no_multipliers = whole (is_some t)
   multipliers_exact env b t (more_multipliers op f rest) =
       multipliers_exact env b (operated (mul_operand op.0) t (factor_type env f)) rest
       ∙ ap (λ x. x && (clean (broken_multipliers env (operated (mul_operand op.0) t (factor_type env f)) rest) && not (multipliers_use_faulty env rest)))
-      (operated_exactly (mul_operand op.0) t (factor_type env f) op.1 ∙ ap (λ x. (is_some t && x) && clean (operator_rule (mul_operand op.0) t (factor_type env f) op.1)) (factor_exact env b f))
+      (operated_exactly (mul_operand op.0) t (factor_type env f) op.1 ∙
+      ap (λ x. (is_some t && x) && clean (operator_rule (mul_operand op.0) t (factor_type env f) op.1)) (factor_exact env b f))
       ∙ next_parts (is_some t) (clean (broken_factor env f)) (factor_uses_faulty env f) (clean (operator_rule (mul_operand op.0) t (factor_type env f) op.1))
       (clean (broken_multipliers env (operated (mul_operand op.0) t (factor_type env f)) rest)) (multipliers_use_faulty env rest)
 
@@ -180,18 +195,22 @@ mutual
   selectors_exact env b (more_selectors s ss) t =
       selectors_exact env b ss (selected_by env t s)
       ∙ ap (λ x. x && (clean (broken_selectors env (selected_by env t s) ss) && not (selectors_use_faulty env ss))) (selector_exact env b s t)
-      ∙ then_parts (is_some t) (clean (broken_selector env t s)) (selector_uses_faulty env s) (clean (broken_selectors env (selected_by env t s) ss)) (selectors_use_faulty env ss)
+      ∙ then_parts (is_some t) (clean (broken_selector env t s)) (selector_uses_faulty env s)
+      (clean (broken_selectors env (selected_by env t s) ss)) (selectors_use_faulty env ss)
 
-  selector_exact : (env : Env) → BeginsPredeclared env.state.forms → (s : SelectorTree) (t : Option TypeId) → ExactFrom t (selected_by env t s) (broken_selector env t s) (selector_uses_faulty env s)
+  selector_exact : (env : Env) → BeginsPredeclared env.state.forms → (s : SelectorTree) (t : Option TypeId) →
+      ExactFrom t (selected_by env t s) (broken_selector env t s) (selector_uses_faulty env s)
   selector_exact env b (index es p) t = indexes_exact env b es t p
   selector_exact env b (field x p) t = field_exactly env.state.forms t x p ∙ ap (λ y. is_some t && y) (whole (clean (field_rule env.state.forms t x p)))
 
-  indexes_exact : (env : Env) → BeginsPredeclared env.state.forms → (es : ExprTrees) (t : Option TypeId) (p : Place) → ExactFrom t (indexed env t es) (broken_indexes env t es p) (exprs_use_faulty env es)
+  indexes_exact : (env : Env) → BeginsPredeclared env.state.forms → (es : ExprTrees) (t : Option TypeId) (p : Place) →
+      ExactFrom t (indexed env t es) (broken_indexes env t es p) (exprs_use_faulty env es)
   indexes_exact env b no_exprs t p = whole (is_some t)
   indexes_exact env b (more_exprs e es) t p =
       indexes_exact env b es (element_type env.state.forms t (expr_type env e)) p
       ∙ ap (λ x. x && (clean (broken_indexes env (element_type env.state.forms t (expr_type env e)) es p) && not (exprs_use_faulty env es)))
-      (element_exactly env.state.forms t (expr_type env e) p ∙ ap (λ x. (is_some t && x) && clean (index_rule env.state.forms t (expr_type env e) p)) (expr_exact env b e))
+      (element_exactly env.state.forms t (expr_type env e) p ∙
+      ap (λ x. (is_some t && x) && clean (index_rule env.state.forms t (expr_type env e) p)) (expr_exact env b e))
       ∙ next_parts (is_some t) (clean (broken_expr env e)) (expr_uses_faulty env e) (clean (index_rule env.state.forms t (expr_type env e) p))
       (clean (broken_indexes env (element_type env.state.forms t (expr_type env e)) es p)) (exprs_use_faulty env es)
 

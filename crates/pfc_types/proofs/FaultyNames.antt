@@ -31,12 +31,14 @@ use Rattle.pfc_types.proofs.FaultyOperators.{all_wanted, wanted_formals, fits_ty
 
 -- what the selectors make of a type
 abbrev pub SelectorsExact : Env → SelectorTrees → Type 0
-SelectorsExact env ss = (t : Option TypeId) → is_some (selected env t ss) ≡ (is_some t && (clean (broken_selectors env t ss) && not (selectors_use_faulty env ss)))
+SelectorsExact env ss = (t : Option TypeId) →
+    is_some (selected env t ss) ≡ (is_some t && (clean (broken_selectors env t ss) && not (selectors_use_faulty env ss)))
 
 -- the arguments fit what is wanted
 abbrev pub ArgumentsExact : Env → ActualTrees → Type 0
 ArgumentsExact env args =
-    (ws : List Want) → args_fit env ws args ≡ ((length ws == actual_count args) && (all_wanted ws && (clean (broken_actuals env None true ws args) && not (actuals_use_faulty env args))))
+    (ws : List Want) → args_fit env ws args ≡
+    ((length ws == actual_count args) && (all_wanted ws && (clean (broken_actuals env None true ws args) && not (actuals_use_faulty env args))))
 
 -- ## Predeclared functions
 
@@ -120,7 +122,8 @@ first_typed env w ws (more_actuals a rest) h = by (arg_fits env w a) refl h
     by true e h = arg_typed env w a e
     by false e h = cc
 
-given_typed : (env : Env) (g : Gives) (wants : List Want) (args : ActualTrees) → HasFirst g wants → args_fit env wants args ≡ true → is_some (given g (first_type env args)) ≡ true
+given_typed : (env : Env) (g : Gives) (wants : List Want) (args : ActualTrees) → HasFirst g wants → args_fit env wants args ≡ true →
+    is_some (given g (first_type env args)) ≡ true
 given_typed env (gives t) wants args lawful h = refl
 given_typed env gives_alike [] args lawful h = absurd lawful
 given_typed env gives_alike (w ∷ ws) args lawful h = first_typed env w ws args h
@@ -147,7 +150,8 @@ callee_in env ss m = if no_selector ss then called_function env.state.blocks (So
 abbrev IsExact : Env → SelectorTrees → ActualTrees → Place → Meaning → Type 0
 IsExact env ss args q m =
     is_some (plain_use env m (no_selector ss) (no_actual args) (selected env (variable_type (Some m)) ss)
-    (args_fit env (called_function env.state.blocks (Some m)).wants args && site_fits env.around (called_function env.state.blocks (Some m)).site (first_type env args))
+    (args_fit env (called_function env.state.blocks (Some m)).wants args && site_fits env.around
+    (called_function env.state.blocks (Some m)).site (first_type env args))
     (first_type env args))
     ≡ (((fits_use env.state.blocks (no_selector ss) (no_actual args) m && not (is_any (Some m) && (no_selector ss && no_actual args)))
     && clean (rest_of env (variable_type (Some m)) (callee_in env ss m) ss args q))
@@ -158,7 +162,8 @@ constant_exact env no_selectors no_actuals q t v = refl
 constant_exact env no_selectors (more_actuals a rest) q t v = refl
 constant_exact env (more_selectors s ss) args q t v = refl
 
-variable_exact : (env : Env) (ss : SelectorTrees) (args : ActualTrees) (q : Place) (t : TypeId) (r : Bool) → SelectorsExact env ss → IsExact env ss args q (Variable t r)
+variable_exact : (env : Env) (ss : SelectorTrees) (args : ActualTrees) (q : Place) (t : TypeId) (r : Bool) →
+    SelectorsExact env ss → IsExact env ss args q (Variable t r)
 variable_exact env ss (more_actuals a rest) q t r known = refl
 variable_exact env no_selectors no_actuals q t r known = refl
 variable_exact env (more_selectors s ss) no_actuals q t r known =
@@ -185,12 +190,14 @@ both_chosen true true t h = h refl
 both_chosen true false t h = refl
 both_chosen false b t h = refl
 
-clean-count : (wants : List Want) (site : Site) (args : ActualTrees) (q : Place) → clean (count_rule (called_with wants site) args q) ≡ (length wants == actual_count args)
+clean-count : (wants : List Want) (site : Site) (args : ActualTrees) (q : Place) →
+    clean (count_rule (called_with wants site) args q) ≡ (length wants == actual_count args)
 clean-count wants site args q = clean-unless (length wants == actual_count args) q 316
 
 sort_exact :
     (env : Env) (args : ActualTrees) (q : Place) (sort : SubSort) (formals : List Formal) → ArgumentsExact env args
-    → is_some (if true && (args_fit env (called_sort sort formals).wants args && site_fits env.around (called_sort sort formals).site (first_type env args)) then sort_value sort else None)
+    → is_some (if true && (args_fit env (called_sort sort formals).wants args && site_fits env.around (called_sort sort formals).site
+    (first_type env args)) then sort_value sort else None)
     ≡ ((((true && is_function_sort sort) && not (false && (true && no_actual args))) && clean (rest_of env None (called_sort sort formals) no_selectors args q))
     && not ((not (all_typed formals && whole_sort sort) || false) || actuals_use_faulty env args))
 sort_exact env args q Procedure formals known = neither (args_fit env [] args && true)
@@ -198,9 +205,13 @@ sort_exact env args q Guarded formals known = neither (args_fit env [] args && t
 sort_exact env args q (Function t) formals known =
     chosen (args_fit env (wants_for formals) args && true) t
     ∙ ap (λ x. (x && true) && is_some t) (known (wants_for formals))
-    ∙ ap (λ x. (((length (wants_for formals) == actual_count args) && (x && (clean (broken_actuals env None true (wants_for formals) args) && not (actuals_use_faulty env args)))) && true) && is_some t) (wanted_formals formals)
-    ∙ by (length (wants_for formals) == actual_count args) (all_typed formals) (clean (broken_actuals env None true (wants_for formals) args)) (actuals_use_faulty env args) (is_some t)
-    ∙ ap (λ x. (x && (clean (broken_actuals env None true (wants_for formals) args) && true)) && not ((not (all_typed formals && is_some t) || false) || actuals_use_faulty env args)) (sym (clean-count (wants_for formals) anywhere args q))
+    ∙ ap (λ x. (((length (wants_for formals) == actual_count args) &&
+    (x && (clean (broken_actuals env None true (wants_for formals) args) && not (actuals_use_faulty env args)))) && true) && is_some t)
+    (wanted_formals formals)
+    ∙ by (length (wants_for formals) == actual_count args) (all_typed formals) (clean (broken_actuals env None true (wants_for formals) args))
+    (actuals_use_faulty env args) (is_some t)
+    ∙ ap (λ x. (x && (clean (broken_actuals env None true (wants_for formals) args) && true)) && not
+    ((not (all_typed formals && is_some t) || false) || actuals_use_faulty env args)) (sym (clean-count (wants_for formals) anywhere args q))
   where
     by : (l w c u s : Bool) → (((l && (w && (c && not u))) && true) && s) ≡ ((l && (c && true)) && not ((not (w && s) || false) || u))
     by false w c u s = refl
@@ -218,8 +229,10 @@ sub_exact env no_selectors args q n known = sort_exact env args q (sub_at env.st
 
 routine_exact :
     (env : Env) (args : ActualTrees) (q : Place) (r : Routine) → IsLawful r → ArgumentsExact env args
-    → is_some (if true && (args_fit env (called_routine r).wants args && site_fits env.around (called_routine r).site (first_type env args)) then routine_value r (first_type env args) else None)
-    ≡ ((((true && (is_function_routine r || (is_signal r && no_actual args))) && not (is_signal r && (true && no_actual args))) && clean (rest_of env None (called_routine r) no_selectors args q))
+    → is_some (if true && (args_fit env (called_routine r).wants args && site_fits env.around (called_routine r).site (first_type env args)) then
+    routine_value r (first_type env args) else None)
+    ≡ ((((true && (is_function_routine r || (is_signal r && no_actual args))) && not (is_signal r && (true && no_actual args))) && clean
+    (rest_of env None (called_routine r) no_selectors args q))
     && not ((false || false) || actuals_use_faulty env args))
 routine_exact env no_actuals q the_signal lawful known = refl
 routine_exact env (more_actuals a rest) q the_signal lawful known = neither (args_fit env [] (more_actuals a rest) && true)
@@ -228,11 +241,15 @@ routine_exact env args q a_delay lawful known = neither (args_fit env [] args &&
 routine_exact env args q (a_reader some) lawful known = neither (args_fit env [] args && true)
 routine_exact env args q (a_writer some) lawful known = neither (args_fit env [] args && true)
 routine_exact env args q (a_function wants g site) lawful known =
-    both_chosen (args_fit env wants args) (site_fits env.around site (first_type env args)) (given g (first_type env args)) (given_typed env g wants args lawful.1)
+    both_chosen (args_fit env wants args) (site_fits env.around site (first_type env args)) (given g (first_type env args))
+    (given_typed env g wants args lawful.1)
     ∙ ap (λ x. x && site_fits env.around site (first_type env args)) (known wants)
-    ∙ ap₂ (λ w s. ((length wants == actual_count args) && (w && (clean (broken_actuals env None true wants args) && not (actuals_use_faulty env args)))) && s) lawful.0 (site_exactly env.around site (first_type env args) q)
-    ∙ by (length wants == actual_count args) (clean (broken_actuals env None true wants args)) (actuals_use_faulty env args) (clean (site_rule env.around site (first_type env args) q))
-    ∙ ap (λ x. (x && (clean (broken_actuals env None true wants args) && clean (site_rule env.around site (first_type env args) q))) && not (actuals_use_faulty env args)) (sym (clean-count wants site args q))
+    ∙ ap₂ (λ w s. ((length wants == actual_count args) && (w && (clean (broken_actuals env None true wants args) && not (actuals_use_faulty env args)))) && s)
+    lawful.0 (site_exactly env.around site (first_type env args) q)
+    ∙ by (length wants == actual_count args) (clean (broken_actuals env None true wants args)) (actuals_use_faulty env args)
+    (clean (site_rule env.around site (first_type env args) q))
+    ∙ ap (λ x. (x && (clean (broken_actuals env None true wants args) && clean (site_rule env.around site (first_type env args) q))) && not
+    (actuals_use_faulty env args)) (sym (clean-count wants site args q))
   where
     by : (l c u s : Bool) → ((l && (true && (c && not u))) && s) ≡ ((l && (c && s)) && not u)
     by false c u s = refl
@@ -246,7 +263,8 @@ predeclared_exact : (env : Env) (ss : SelectorTrees) (args : ActualTrees) (q : P
 predeclared_exact env (more_selectors s ss) args q k known = refl
 predeclared_exact env no_selectors args q k known = routine_exact env args q (routine_of k) (lawful_routine k) known
 
-meaning_exact : (env : Env) (ss : SelectorTrees) (args : ActualTrees) (q : Place) (m : Meaning) → SelectorsExact env ss → ArgumentsExact env args → IsExact env ss args q m
+meaning_exact : (env : Env) (ss : SelectorTrees) (args : ActualTrees) (q : Place) (m : Meaning) → SelectorsExact env ss →
+    ArgumentsExact env args → IsExact env ss args q m
 meaning_exact env ss args q (Constant t v) selectors arguments = constant_exact env ss args q t v
 meaning_exact env ss args q (Named t) selectors arguments = refl
 meaning_exact env ss args q (Variable t r) selectors arguments = variable_exact env ss args q t r selectors
@@ -273,21 +291,25 @@ guarded_exact t false any false rest uses q h = refl
 pub use_exact :
     (env : Env) (ss : SelectorTrees) (args : ActualTrees) (q : Place) (found : Option Found) → SelectorsExact env ss → ArgumentsExact env args
     → is_some (use_type env found (no_selector ss) (no_actual args) (selected env (variable_type (meaning_of found)) ss)
-    (args_fit env (called_function env.state.blocks (meaning_of found)).wants args && site_fits env.around (called_function env.state.blocks (meaning_of found)).site (first_type env args))
+    (args_fit env (called_function env.state.blocks (meaning_of found)).wants args && site_fits env.around
+    (called_function env.state.blocks (meaning_of found)).site (first_type env args))
     (first_type env args))
     ≡ ((clean (use_rules env found (no_selector ss) (no_actual args) q)
-    && clean (rest_of env (variable_type (meaning_of found)) (if no_selector ss then called_function env.state.blocks (meaning_of found) else nothing_called) ss args q))
+    && clean (rest_of env (variable_type (meaning_of found)) (if no_selector ss then
+    called_function env.state.blocks (meaning_of found) else nothing_called) ss args q))
     && not ((is_faulty_found env.state.blocks found || selectors_use_faulty env ss) || actuals_use_faulty env args))
 use_exact env ss args q None selectors arguments = refl
 use_exact env ss args q (Some found) selectors arguments =
-    guarded_exact _ (fits_use env.state.blocks (no_selector ss) (no_actual args) found.meaning) (not (is_any (Some found.meaning) && (no_selector ss && no_actual args))) (guard_allows env.around.guard (Some found))
+    guarded_exact _ (fits_use env.state.blocks (no_selector ss) (no_actual args) found.meaning)
+    (not (is_any (Some found.meaning) && (no_selector ss && no_actual args))) (guard_allows env.around.guard (Some found))
     _ _ q (meaning_exact env ss args q found.meaning selectors arguments)
 
 -- a variable that stands alone
 pub desig_exact :
     (env : Env) (ss : SelectorTrees) (p : Place) (found : Option Found) → SelectorsExact env ss
     → is_some (selected env (variable_type (meaning_of found)) ss)
-    ≡ ((clean (name_rules a_variable (meaning_of found) p) && clean (broken_selectors env (variable_type (meaning_of found)) ss)) && not (is_faulty_found env.state.blocks found || selectors_use_faulty env ss))
+    ≡ ((clean (name_rules a_variable (meaning_of found) p) && clean (broken_selectors env (variable_type (meaning_of found)) ss)) && not
+    (is_faulty_found env.state.blocks found || selectors_use_faulty env ss))
 desig_exact env ss p None known = known None
 desig_exact env ss p (Some found) known = at found.meaning
   where
@@ -296,7 +318,8 @@ desig_exact env ss p (Some found) known = at found.meaning
     by false = refl
 
     at : (m : Meaning) → is_some (selected env (variable_type (Some m)) ss)
-        ≡ ((clean (name_rules a_variable (Some m) p) && clean (broken_selectors env (variable_type (Some m)) ss)) && not (is_faulty env.state.blocks m || selectors_use_faulty env ss))
+        ≡ ((clean (name_rules a_variable (Some m) p) && clean (broken_selectors env (variable_type (Some m)) ss)) && not
+        (is_faulty env.state.blocks m || selectors_use_faulty env ss))
     at (Constant t v) = known None
     at (Named t) = known None
     at (Variable t r) = known (Some t)

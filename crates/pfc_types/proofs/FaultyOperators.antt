@@ -53,12 +53,14 @@ related_exactly forms begins (Some t) None p q r = ap (λ x. is_some (where_so x
 related_exactly forms begins (Some t) (Some u) p q r =
     some-where_so (is_simple t && is_same t u) boolean
     ∙ by (is_simple t) (is_simple u) (is_same t u) refl refl refl
-    ∙ sym (ap₂ (λ x y. x && y) (clean-unless ((is_simple t && is_simple u) && is_same t u) p 311) (ap₂ (λ x y. x && y) (clean-value forms (Some t) q) (clean-value forms (Some u) r)))
+    ∙ sym (ap₂ (λ x y. x && y) (clean-unless ((is_simple t && is_simple u) && is_same t u) p 311)
+    (ap₂ (λ x y. x && y) (clean-value forms (Some t) q) (clean-value forms (Some u) r)))
   where
     absurd_of : true ≡ false → ⊥
     absurd_of e = cc
 
-    by : (s v e : Bool) → is_simple t ≡ s → is_simple u ≡ v → is_same t u ≡ e → (s && e) ≡ (((s && v) && e) && (not (has_object forms (Some t)) && not (has_object forms (Some u))))
+    by : (s v e : Bool) → is_simple t ≡ s → is_simple u ≡ v → is_same t u ≡ e →
+        (s && e) ≡ (((s && v) && e) && (not (has_object forms (Some t)) && not (has_object forms (Some u))))
     by false v e hs hv he = refl
     by true v false hs hv he = sym (ap (λ x. x && (not (has_object forms (Some t)) && not (has_object forms (Some u)))) (and-false v))
     by true false true hs hv he = absurd (absurd_of (sym (same_simple t u he hs) ∙ hv))
@@ -66,7 +68,8 @@ related_exactly forms begins (Some t) (Some u) p q r =
 
 -- ## Selectors
 
-pub element_exactly : (forms : Forms) (t i : Option TypeId) (p : Place) → is_some (element_type forms t i) ≡ ((is_some t && is_some i) && clean (index_rule forms t i p))
+pub element_exactly : (forms : Forms) (t i : Option TypeId) (p : Place) →
+    is_some (element_type forms t i) ≡ ((is_some t && is_some i) && clean (index_rule forms t i p))
 element_exactly forms None i p = refl
 element_exactly forms (Some t) i p = at (array_form (form_of forms t)) i
   where
@@ -104,7 +107,8 @@ wanted_formals (f ∷ fs) = ap₂ (λ x y. x && y) (at f.reference) (wanted_form
     at true = refl
     at false = refl
 
-pub suits_exactly : (t u : Option TypeId) (p : Place) (n : ℕ) (r : Bool) → (suits t u && r) ≡ ((is_some t && is_some u) && (clean (unless (may_suit t u) p n) && r))
+pub suits_exactly : (t u : Option TypeId) (p : Place) (n : ℕ) (r : Bool) →
+    (suits t u && r) ≡ ((is_some t && is_some u) && (clean (unless (may_suit t u) p n) && r))
 suits_exactly None u p n r = refl
 suits_exactly (Some t) None p n r = refl
 suits_exactly (Some t) (Some u) p n r = ap (λ x. x && r) (sym (clean-unless (is_same u t) p n))
@@ -113,7 +117,8 @@ pub wanted_exactly :
     (forms : Forms) → BeginsPredeclared forms → (w : Want) (lent : Bool) (u : Option TypeId) (p : Place)
     → fits_want forms w lent u ≡ ((is_wanted w && is_some u) && clean (want_rules forms w lent u p))
 wanted_exactly forms begins (a_value t) lent u p =
-    suits_exactly t u p 317 (not (has_object forms u)) ∙ ap (λ x. (is_some t && is_some u) && (clean (unless (may_suit t u) p 317) && x)) (sym (clean-value forms u p))
+    suits_exactly t u p 317 (not (has_object forms u)) ∙
+    ap (λ x. (is_some t && is_some u) && (clean (unless (may_suit t u) p 317) && x)) (sym (clean-value forms u p))
 wanted_exactly forms begins a_simple_value lent None p = refl
 wanted_exactly forms begins a_simple_value lent (Some u) p =
     by (is_simple u) refl ∙ sym (ap₂ (λ x y. x && y) (clean-unless (is_simple u) p 317) (clean-value forms (Some u) p))

@@ -143,13 +143,23 @@ and-assoc false b c = refl
 
 -- ## Channels
 
-channel_exact : (s st : State) (o : Option TypeId) (q u : Bool) (carried p : Place) → Noted s st q → is_some o ≡ (q && not u) → MadeExact s (made_channel (record { state = st; t = o }) carried p) u
+channel_exact : (s st : State) (o : Option TypeId) (q u : Bool) (carried p : Place) → Noted s st q → is_some o ≡ (q && not u) →
+    MadeExact s (made_channel (record { state = st; t = o }) carried p) u
 channel_exact s st None q u carried p rules e = record { quiet = q; rules = rules; exact = e }
 channel_exact s st (Some t) q u carried p rules e = by (is_object st.forms t)
   where
     by : (b : Bool) → MadeExact s (added (note st (unless (not b) carried 406)) (if b then None else Some (Channel t)) p) u
-    by true = record { quiet = q && false; rules = noted_trans rules (note_noted st (unless false carried 406)); exact = sym (ap (λ x. x && not u) (and-false q)) }
-    by false = let a = added_exact st (Channel t) p refl in record { quiet = q && a.quiet; rules = noted_trans rules a.rules; exact = a.exact ∙ behind_added q a.quiet u e }
+    by true = record {
+      quiet = q && false;
+      rules = noted_trans rules (note_noted st (unless false carried 406));
+      exact =
+          sym (ap (λ x. x && not u) (and-false q));
+    }
+    by false = let a = added_exact st (Channel t) p refl in record {
+      quiet = q && a.quiet;
+      rules = noted_trans rules a.rules;
+      exact = a.exact ∙ behind_added q a.quiet u e;
+    }
 
 -- ## Arrays
 
@@ -164,15 +174,22 @@ record OuterExact (m : Made) (r : Extent) (t : Option TypeId) (p : Place) (sure 
   rules : Noted m.state (added m.state (array_of (Some r) t) p).state quiet
   exact : is_some (added m.state (array_of (Some r) t) p).t ≡ (sure && quiet)
 
-outer_exact : (m : Made) (r : Extent) (t : Option TypeId) (p : Place) (sure : Bool) → (is_simple r.index && int_le r.low r.high) ≡ true → is_some t ≡ sure → OuterExact m r t p sure
+outer_exact : (m : Made) (r : Extent) (t : Option TypeId) (p : Place) (sure : Bool) → (is_simple r.index && int_le r.low r.high) ≡ true →
+    is_some t ≡ sure → OuterExact m r t p sure
 outer_exact m r None p sure b e = record { quiet = true; rules = noted_same m.state; exact = e ∙ sym (and-true sure) }
 outer_exact m r (Some t) p sure b e =
     let a = added_exact m.state (Array r.index r.low r.high t) p b in record { quiet = a.quiet; rules = a.rules; exact = a.exact ∙ ap (λ x. x && a.quiet) e }
 
-array_exact : (m : Made) (r : Extent) (rs : List (Option Extent)) (p : Place) → (is_simple r.index && int_le r.low r.high) ≡ true → ArraysExact m rs p → ArraysExact m (Some r ∷ rs) p
+array_exact : (m : Made) (r : Extent) (rs : List (Option Extent)) (p : Place) → (is_simple r.index && int_le r.low r.high) ≡ true →
+    ArraysExact m rs p → ArraysExact m (Some r ∷ rs) p
 array_exact m r rs p b inner =
     let outer = outer_exact (made_arrays m rs p) r (made_arrays m rs p).t p ((is_some m.t && all_some rs) && inner.quiet) b inner.exact in
-    record { quiet = inner.quiet && outer.quiet; rules = noted_trans inner.rules outer.rules; exact = outer.exact ∙ and-assoc (is_some m.t && all_some rs) inner.quiet outer.quiet }
+    record {
+      quiet = inner.quiet && outer.quiet;
+      rules = noted_trans inner.rules outer.rules;
+      exact = outer.exact ∙
+          and-assoc (is_some m.t && all_some rs) inner.quiet outer.quiet;
+    }
 
 arrays_exact : (m : Made) (rs : List (Option Extent)) (p : Place) → AreBounds rs → ArraysExact m rs p
 arrays_exact m [] p b = record { quiet = true; rules = noted_same m.state; exact = sym (and-true (is_some m.t && true) ∙ and-true (is_some m.t)) }
@@ -191,7 +208,12 @@ record NamesExact (r t : MadeFields) : Type 0 where
 field_exact : (t : TypeId) (r : MadeFields) (x : Text × Place) → NamesExact r (made_field t r x)
 field_exact t r x = by (is_some (type_named r.list x.0))
   where
-    by : (b : Bool) → NamesExact r (if b then record { state = note r.state (unless false x.1 302); list = r.list; whole = false } else record r { list = r.list ++ (x.0, t) ∷ [] })
+    by : (b : Bool) → NamesExact r (if b then record {
+      state = note r.state (unless false x.1 302);
+      list = r.list;
+      whole =
+          false;
+    } else record r { list = r.list ++ (x.0, t) ∷ [] })
     by true = record { quiet = false; rules = note_noted r.state (unless false x.1 302); exact = sym (and-false r.whole) }
     by false = record { quiet = true; rules = noted_same r.state; exact = sym (and-true r.whole) }
 
@@ -200,14 +222,20 @@ names_exact t r [] = record { quiet = true; rules = noted_same r.state; exact = 
 names_exact t r (x ∷ xs) =
     let first = field_exact t r x in
     let others = names_exact t (made_field t r x) xs in
-    record { quiet = first.quiet && others.quiet; rules = noted_trans first.rules others.rules; exact = others.exact ∙ ap (λ w. w && others.quiet) first.exact ∙ and-assoc r.whole first.quiet others.quiet }
+    record {
+      quiet = first.quiet && others.quiet;
+      rules = noted_trans first.rules others.rules;
+      exact = others.exact ∙ ap (λ w. w && others.quiet) first.exact ∙
+          and-assoc r.whole first.quiet others.quiet;
+    }
 
 record ItemsExact (r t : MadeFields) (uses : Bool) : Type 0 where
   quiet : Bool
   rules : Noted r.state t.state quiet
   exact : t.whole ≡ (r.whole && (quiet && not uses))
 
-group_fields_exact : (r : MadeFields) (st : State) (o : Option TypeId) (q u : Bool) (xs : List (Text × Place)) → Noted r.state st q → is_some o ≡ (q && not u) → ItemsExact r (made_group (record r { state = st }) o xs) u
+group_fields_exact : (r : MadeFields) (st : State) (o : Option TypeId) (q u : Bool) (xs : List (Text × Place)) → Noted r.state st q → is_some o ≡ (q && not u) →
+    ItemsExact r (made_group (record r { state = st }) o xs) u
 group_fields_exact r st None q u xs rules e =
     let n = names_exact integer (record { state = st; list = r.list; whole = false }) xs in
     record { quiet = q && n.quiet; rules = noted_trans rules n.rules; exact = n.exact ∙ by r.whole (behind_none q n.quiet u e) }
@@ -219,11 +247,16 @@ group_fields_exact r st (Some t) q u xs rules e =
     let n = names_exact t (record { state = st; list = r.list; whole = r.whole }) xs in
     record { quiet = q && n.quiet; rules = noted_trans rules n.rules; exact = n.exact ∙ ap (λ x. r.whole && x) (behind_added q n.quiet u e) }
 
-record_exact : (s : State) (r : MadeFields) (q u : Bool) (p : Place) → Noted s r.state q → r.whole ≡ (q && not u) → MadeExact s (added r.state (record_form r) p) u
+record_exact : (s : State) (r : MadeFields) (q u : Bool) (p : Place) → Noted s r.state q → r.whole ≡ (q && not u) →
+    MadeExact s (added r.state (record_form r) p) u
 record_exact s r q u p rules e = by r.whole e
   where
     by : (w : Bool) → w ≡ (q && not u) → MadeExact s (added r.state (if w then Some (Record r.list) else None) p) u
-    by true h = let a = added_exact r.state (Record r.list) p refl in record { quiet = q && a.quiet; rules = noted_trans rules a.rules; exact = a.exact ∙ behind_added q a.quiet u h }
+    by true h = let a = added_exact r.state (Record r.list) p refl in record {
+      quiet = q && a.quiet;
+      rules = noted_trans rules a.rules;
+      exact = a.exact ∙ behind_added q a.quiet u h;
+    }
     by false h = record { quiet = q; rules = rules; exact = h }
 
 -- ## Arrays with their ranges
@@ -231,19 +264,22 @@ record_exact s r q u p rules e = by r.whole e
 arrays_made :
     (s : State) (view : List Level) (rs : List Range) (t : TypeTree) (p : Place) (scopes : List Names) → held s ≡ scopes → HoldSimpleConstants scopes
     → MadeExact (note s (broken_ranges (held s) view rs)) (made false (note s (broken_ranges (held s) view rs)) view t) (type_uses_faulty scopes view t)
-    → MadeExact s (made_arrays (made false (note s (broken_ranges (held s) view rs)) view t) (range_extents (held s) view rs) p) (ranges_use_faulty scopes view rs || type_uses_faulty scopes view t)
+    → MadeExact s (made_arrays (made false (note s (broken_ranges (held s) view rs)) view t) (range_extents (held s) view rs) p)
+    (ranges_use_faulty scopes view rs || type_uses_faulty scopes view t)
 arrays_made s view rs t p scopes e h inner =
     record {
       quiet = clean (broken_ranges (held s) view rs) && (inner.quiet && outer.quiet);
       rules = noted_trans (note_noted s (broken_ranges (held s) view rs)) (noted_trans inner.rules outer.rules);
       exact =
           outer.exact
-          ∙ ap₂ (λ a b. (a && b) && outer.quiet) inner.exact (extents_exact (held s) view rs ∙ ap (λ l. clean (broken_ranges (held s) view rs) && not (ranges_use_faulty l view rs)) e)
+          ∙ ap₂ (λ a b. (a && b) && outer.quiet) inner.exact (extents_exact (held s) view rs ∙
+          ap (λ l. clean (broken_ranges (held s) view rs) && not (ranges_use_faulty l view rs)) e)
           ∙ by inner.quiet (type_uses_faulty scopes view t) (clean (broken_ranges (held s) view rs)) (ranges_use_faulty scopes view rs) outer.quiet;
     }
   where
     outer : ArraysExact (made false (note s (broken_ranges (held s) view rs)) view t) (range_extents (held s) view rs) p
-    outer = arrays_exact (made false (note s (broken_ranges (held s) view rs)) view t) (range_extents (held s) view rs) p (extents_bounds (held s) (subst HoldSimpleConstants (sym e) h) view rs)
+    outer = arrays_exact (made false (note s (broken_ranges (held s) view rs)) view t) (range_extents (held s) view rs) p
+        (extents_bounds (held s) (subst HoldSimpleConstants (sym e) h) view rs)
 
     by : (q u c v r : Bool) → (((q && not u) && (c && not v)) && r) ≡ ((c && (q && r)) && not (v || u))
     by false u true v r = refl
@@ -260,22 +296,27 @@ arrays_made s view rs t p scopes e h inner =
 
 -- The scopes are those of the state, under which the names are looked up.
 mutual
-  made_exact : (carried : Bool) (s : State) (view : List Level) (t : TypeTree) (scopes : List Names) → held s ≡ scopes → HoldSimpleConstants scopes → MadeExact s (made carried s view t) (type_uses_faulty scopes view t)
+  made_exact : (carried : Bool) (s : State) (view : List Level) (t : TypeTree) (scopes : List Names) → held s ≡ scopes → HoldSimpleConstants scopes →
+      MadeExact s (made carried s view t) (type_uses_faulty scopes view t)
   made_exact carried s view (named x p) scopes e h =
       record {
         quiet = clean (type_name_rules carried (look (held s) view x) p);
         rules = note_noted s (type_name_rules carried (look (held s) view x) p);
-        exact = named_type_exact carried (look (held s) view x) p ∙ ap (λ l. clean (type_name_rules carried (look (held s) view x) p) && not (stands_faulty (look l view x))) e;
+        exact = named_type_exact carried (look (held s) view x) p ∙
+            ap (λ l. clean (type_name_rules carried (look (held s) view x) p) && not (stands_faulty (look l view x))) e;
       }
   made_exact carried s view (channel t p) scopes e h =
-      let inner = made_exact true s view t scopes e h in channel_exact s (made true s view t).state (made true s view t).t inner.quiet (type_uses_faulty scopes view t) (type_place t) p inner.rules inner.exact
+      let inner = made_exact true s view t scopes e h in channel_exact s (made true s view t).state (made true s view t).t inner.quiet
+      (type_uses_faulty scopes view t) (type_place t) p inner.rules inner.exact
   made_exact carried s view (array rs t p) scopes e h =
-      arrays_made s view rs t p scopes e h (made_exact false (note s (broken_ranges (held s) view rs)) view t scopes ((note_kept s (broken_ranges (held s) view rs)).scopes ∙ e) h)
+      arrays_made s view rs t p scopes e h (made_exact false (note s (broken_ranges (held s) view rs)) view t scopes
+      ((note_kept s (broken_ranges (held s) view rs)).scopes ∙ e) h)
   made_exact carried s view (fields vs last p) scopes e h =
       let r = made_items view (fields_begun s) vs in
       let items = items_exact view (fields_begun s) vs scopes e h in record_exact s r items.quiet (items_use_faulty scopes view vs) p items.rules items.exact
 
-  items_exact : (view : List Level) (r : MadeFields) (vs : VarTrees) (scopes : List Names) → held r.state ≡ scopes → HoldSimpleConstants scopes → ItemsExact r (made_items view r vs) (items_use_faulty scopes view vs)
+  items_exact : (view : List Level) (r : MadeFields) (vs : VarTrees) (scopes : List Names) → held r.state ≡ scopes → HoldSimpleConstants scopes →
+      ItemsExact r (made_items view r vs) (items_use_faulty scopes view vs)
   items_exact view r no_vars scopes e h = record { quiet = true; rules = noted_same r.state; exact = sym (and-true r.whole) }
   items_exact view r (more_vars v vs) scopes e h =
       let first = item_exact view r v scopes e h in
@@ -283,19 +324,24 @@ mutual
       record {
         quiet = first.quiet && others.quiet;
         rules = noted_trans first.rules others.rules;
-        exact = others.exact ∙ ap (λ w. w && (others.quiet && not (items_use_faulty scopes view vs))) first.exact ∙ then_parts r.whole first.quiet (item_uses_faulty scopes view v) others.quiet (items_use_faulty scopes view vs);
+        exact = others.exact ∙ ap (λ w. w && (others.quiet && not (items_use_faulty scopes view vs))) first.exact ∙
+            then_parts r.whole first.quiet (item_uses_faulty scopes view v) others.quiet (items_use_faulty scopes view vs);
       }
 
-  item_exact : (view : List Level) (r : MadeFields) (v : VarTree) (scopes : List Names) → held r.state ≡ scopes → HoldSimpleConstants scopes → ItemsExact r (made_item view r v) (item_uses_faulty scopes view v)
+  item_exact : (view : List Level) (r : MadeFields) (v : VarTree) (scopes : List Names) → held r.state ≡ scopes → HoldSimpleConstants scopes →
+      ItemsExact r (made_item view r v) (item_uses_faulty scopes view v)
   item_exact view r (var_item xs t) scopes e h =
-      let m = made_exact false r.state view t scopes e h in group_fields_exact r (made false r.state view t).state (made false r.state view t).t m.quiet (type_uses_faulty scopes view t) xs m.rules m.exact
+      let m = made_exact false r.state view t scopes e h in group_fields_exact r (made false r.state view t).state (made false r.state view t).t m.quiet
+      (type_uses_faulty scopes view t) xs m.rules m.exact
 
 -- ## The law
 
 pub written_exactly : (s : State) (view : List Level) → HoldSimpleConstants s.blocks.scopes → AreWrittenExactly s view
 written_exactly s view h =
     record {
-      constants = λ c. faulty_exactly (constant_value s.blocks.scopes view c) (broken_constant s.blocks.scopes view c) (constant_uses_faulty s.blocks.scopes view c) (constant_exact s.blocks.scopes view c);
-      types = λ carried t. made_exactly s (made carried s view t) (type_uses_faulty s.blocks.scopes view t) (made_exact carried s view t s.blocks.scopes refl h);
+      constants = λ c. faulty_exactly (constant_value s.blocks.scopes view c) (broken_constant s.blocks.scopes view c)
+          (constant_uses_faulty s.blocks.scopes view c) (constant_exact s.blocks.scopes view c);
+      types = λ carried t. made_exactly s (made carried s view t) (type_uses_faulty s.blocks.scopes view t)
+          (made_exact carried s view t s.blocks.scopes refl h);
       groups = λ g. faulty_exactly (group_type s view g) (broken_group s view g) (group_uses_faulty s.blocks.scopes view g) (group_exact s view g);
     }

@@ -35,7 +35,8 @@ before-trans :
     (x y z : ℕ) (p q r : Bool) → before y x p ≡ false → before z y q ≡ false → (p ≡ false → q ≡ false → r ≡ false) → before z x r ≡ false
 before-trans x y z p q r h k rest =
     not_before x z r (omega (arith, before-le x y p h, before-le y z q k))
-    (λ e. rest (before-rest x y p h (omega (arith, e, before-le x y p h, before-le y z q k))) (before-rest y z q k (omega (arith, e, before-le x y p h, before-le y z q k))))
+    (λ e. rest (before-rest x y p h (omega (arith, e, before-le x y p h, before-le y z q k)))
+    (before-rest y z q k (omega (arith, e, before-le x y p h, before-le y z q k))))
 
 before-asym : (x y : ℕ) (p q : Bool) → before x y p ≡ true → (p ≡ true → q ≡ false) → before y x q ≡ false
 before-asym x y true q h rest = by q (rest refl)
@@ -136,7 +137,8 @@ finds_other from best f low =
     below g h n = let l : g.code < from = subst (λ y. y.code < from) (contains_one f g h) low in absurd (omega (arith, l, n))
 
 -- one rule that is taken
-finds_new : (from : ℕ) (best : Option Refusal) (f : Refusal) → from ≤ f.code → ((b : Refusal) → best ≡ Some b → is_before b f ≡ false) → Finds from best (f ∷ []) (Some f)
+finds_new : (from : ℕ) (best : Option Refusal) (f : Refusal) → from ≤ f.code →
+    ((b : Refusal) → best ≡ Some b → is_before b f ≡ false) → Finds from best (f ∷ []) (Some f)
 finds_new from best f asked after =
     record {
       origin = λ x e. inr (subst (λ y. Contains (f ∷ []) y × (from ≤ y.code)) (some_of e) (one_contains f, asked));

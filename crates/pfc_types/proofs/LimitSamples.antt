@@ -58,7 +58,8 @@ variable_too_late = refl
 
 -- process type p; begin end; var x, y: array [1..n] of p;
 abbrev two_crowds : ℕ → PartTrees
-two_crowds n = more_parts (process_p true no_parts empty) (one_part (vars (more_vars (var_item ((x, at 9) ∷ (y, at 10) ∷ []) (many_of n (named p (at 14)))) no_vars)))
+two_crowds n = more_parts (process_p true no_parts empty)
+    (one_part (vars (more_vars (var_item ((x, at 9) ∷ (y, at 10) ∷ []) (many_of n (named p (at 14)))) no_vars)))
 
 second_in_time : first_fault (program (two_crowds 511)) ≡ None
 second_in_time = refl
@@ -69,7 +70,8 @@ second_too_late = refl
 -- record f, g: p; s: semaphore end
 abbrev pair_of_processes : TypeTree
 pair_of_processes =
-    fields (more_vars (var_item ((codes "f", at 15) ∷ (codes "g", at 16) ∷ []) (named p (at 17))) (more_vars (var_item ((codes "s", at 18) ∷ []) (semaphore_at 19)) no_vars)) false (at 14)
+    fields (more_vars (var_item ((codes "f", at 15) ∷ (codes "g", at 16) ∷ []) (named p (at 17)))
+    (more_vars (var_item ((codes "s", at 18) ∷ []) (semaphore_at 19)) no_vars)) false (at 14)
 
 -- process type p; begin end; var x: array [1..n] of record f, g: p; s: semaphore end;
 abbrev pairs : ℕ → PartTrees → PartTrees
@@ -82,7 +84,9 @@ pairs_too_many : first_fault (program (pairs 512 no_parts)) ≡ refused 424 10
 pairs_too_many = refl
 
 -- array [1..32, 1..32] of p: an array of arrays, whose place is the variable's
-square : first_fault (program (more_parts (process_p true no_parts empty) (one_part (var_part x 10 (array (record { low = bound 1 12; high = bound 32 13 } ∷ record { low = bound 1 14; high = bound 32 15 } ∷ []) (named p (at 16)) (at 11)))))) ≡ refused 424 10
+square : first_fault (program (more_parts (process_p true no_parts empty)
+    (one_part (var_part x 10 (array (record { low = bound 1 12; high = bound 32 13 } ∷ record { low = bound 1 14; high = bound 32 15 } ∷ [])
+    (named p (at 16)) (at 11)))))) ≡ refused 424 10
 square = refl
 
 -- ## 321 of a spread, and 425
@@ -101,7 +105,8 @@ less_maximum p = NamedConstant (Some (Minus, at p)) (codes "maxint") (at p)
 
 -- for k := low to high replicate c ? x
 abbrev spread_over : Text → Constant → Constant → AltTree
-spread_over k low high = alt (Some (record { name = k; low = low; high = high; place = at 31 })) None (comm_receive (name (codes "c") 35) (name x 37) (at 36)) no_stmts
+spread_over k low high = alt (Some (record { name = k; low = low; high = high; place = at 31 })) None
+    (comm_receive (name (codes "c") 35) (name x 37) (at 36)) no_stmts
 
 abbrev one_alt : AltTree → AltTrees
 one_alt a = more_alts a no_alts
@@ -134,10 +139,13 @@ empty_spread = refl
 sum_in_time : first_fault (selecting (more_alts (spread_over x (bound 1 32) (bound 1000 33)) (one_alt (spread_over x (bound 1 32) (bound 24 33))))) ≡ None
 sum_in_time = refl
 
-sum_too_large : first_fault (selecting (more_alts (spread_over x (bound 1 32) (bound 1000 33)) (one_alt (spread_over x (bound 1 32) (bound 25 33))))) ≡ refused 425 30
+sum_too_large : first_fault
+    (selecting (more_alts (spread_over x (bound 1 32) (bound 1000 33)) (one_alt (spread_over x (bound 1 32) (bound 25 33))))) ≡ refused 425 30
 sum_too_large = refl
 
-plain_too_late : first_fault (selecting (more_alts (spread_over x (bound 1 32) (bound 1024 33)) (one_alt (plain_alt (comm_receive (name (codes "c") 40) (name x 42) (at 41)))))) ≡ refused 425 30
+plain_too_late : first_fault
+    (selecting (more_alts (spread_over x (bound 1 32) (bound 1024 33)) (one_alt (plain_alt (comm_receive (name (codes "c") 40) (name x 42) (at 41)))))) ≡
+    refused 425 30
 plain_too_late = refl
 
 -- an empty spread takes no room
@@ -145,14 +153,18 @@ empty_behind_full : first_fault (selecting (more_alts (spread_over x (bound 1 32
 empty_behind_full = refl
 
 -- a `timeout` counts, an `else` does not
-timeout_too_late : first_fault (selecting (more_alts (spread_over x (bound 1 32) (bound 1024 33)) (one_alt (plain_alt (timeout (value x 42) (at 41)))))) ≡ refused 425 30
+timeout_too_late : first_fault
+    (selecting (more_alts (spread_over x (bound 1 32) (bound 1024 33)) (one_alt (plain_alt (timeout (value x 42) (at 41)))))) ≡ refused 425 30
 timeout_too_late = refl
 
-else_in_time : first_fault (program_of (with_c no_parts) (one_stmt (select_else false (one_alt (spread_over x (bound 1 32) (bound 1024 33))) (one_stmt empty) (at 45) (at 30) (at 30)))) ≡ None
+else_in_time : first_fault
+    (program_of (with_c no_parts) (one_stmt (select_else false (one_alt (spread_over x (bound 1 32) (bound 1024 33)))
+    (one_stmt empty) (at 45) (at 30) (at 30)))) ≡ None
 else_in_time = refl
 
 -- pri select: at `select`, and beside 416 at the same place
-pri_too_wide : first_fault (program_of (with_c no_parts) (one_stmt (select true (one_alt (spread_over x (bound 1 32) (bound 1025 33))) (at 29) (at 30)))) ≡ refused 425 30
+pri_too_wide : first_fault
+    (program_of (with_c no_parts) (one_stmt (select true (one_alt (spread_over x (bound 1 32) (bound 1025 33))) (at 29) (at 30)))) ≡ refused 425 30
 pri_too_wide = refl
 
 -- the ends of the integers
@@ -162,7 +174,8 @@ at_the_end = refl
 from_end_to_end : first_fault (selecting (one_alt (spread_over x (less_maximum 32) (maximum 33)))) ≡ refused 425 30
 from_end_to_end = refl
 
-all_of_both : first_fault (selecting (more_alts (spread_over x (less_maximum 32) (maximum 33)) (one_alt (spread_over x (less_maximum 32) (maximum 33))))) ≡ refused 425 30
+all_of_both : first_fault
+    (selecting (more_alts (spread_over x (less_maximum 32) (maximum 33)) (one_alt (spread_over x (less_maximum 32) (maximum 33))))) ≡ refused 425 30
 all_of_both = refl
 
 below_zero : first_fault (selecting (one_alt (spread_over x (minus 512 32) (bound 511 33)))) ≡ None
@@ -172,7 +185,8 @@ below_zero = refl
 boolean_spread : first_fault (selecting_of (boolean_at 19) (one_alt (spread_over y (constant (codes "false") 32) (constant (codes "true") 33)))) ≡ None
 boolean_spread = refl
 
-char_spread : first_fault (selecting_of (named (codes "char") (at 19)) (one_alt (spread_over y (Literal (codes "a") (at 32)) (Literal (codes "z") (at 33))))) ≡ None
+char_spread : first_fault (selecting_of (named (codes "char") (at 19))
+    (one_alt (spread_over y (Literal (codes "a") (at 32)) (Literal (codes "z") (at 33))))) ≡ None
 char_spread = refl
 
 -- the variable: unknown, no variable, not simple, of another type
@@ -206,10 +220,12 @@ faulty_beside_wrong : first_fault (selecting (one_alt (spread_over x (constant (
 faulty_beside_wrong = refl
 
 -- the values of a spread with a faulty constant are not counted, those of the others are
-faulty_not_counted : first_fault (selecting (more_alts (spread_over x (bound 1 32) (bound 1024 33)) (one_alt (spread_over x (bound 1 32) (constant (codes "z") 34))))) ≡ refused 301 34
+faulty_not_counted : first_fault
+    (selecting (more_alts (spread_over x (bound 1 32) (bound 1024 33)) (one_alt (spread_over x (bound 1 32) (constant (codes "z") 34))))) ≡ refused 301 34
 faulty_not_counted = refl
 
-others_counted : first_fault (selecting (more_alts (spread_over x (bound 1 32) (bound 1025 33)) (one_alt (spread_over x (bound 1 32) (constant (codes "z") 34))))) ≡ refused 425 30
+others_counted : first_fault
+    (selecting (more_alts (spread_over x (bound 1 32) (bound 1025 33)) (one_alt (spread_over x (bound 1 32) (constant (codes "z") 34))))) ≡ refused 425 30
 others_counted = refl
 
 -- a wrong variable makes no constant faulty: its values are counted

@@ -23,7 +23,8 @@ abbrev all_plain : Names → Bool
 all_plain [] = true
 all_plain (e ∷ es) = is_plain e.1 && all_plain es
 
-plain_found : (P : Option Meaning → Type 0) → P None → ((m : Meaning) → is_plain m ≡ true → P (Some m)) → (names : Names) → all_plain names ≡ true → (x : Text) → P (meaning_in names x)
+plain_found : (P : Option Meaning → Type 0) → P None → ((m : Meaning) → is_plain m ≡ true → P (Some m)) → (names : Names) →
+    all_plain names ≡ true → (x : Text) → P (meaning_in names x)
 plain_found P none some [] h x = none
 plain_found P none some (e ∷ es) h x = by (bytes_eq x e.0) (plain_found P none some es (and-right (is_plain e.1) (all_plain es) h) x)
   where
@@ -44,20 +45,23 @@ plain_sound b Faulty h = tt
 
 -- ## What is in view
 
-look_holds : (P : Option Meaning → Type 0) → P None → ((m : Meaning) → is_plain m ≡ true → P (Some m)) → (scopes : List Names) → ((i : ℕ) (x : Text) → P (meaning_in (scope_at scopes i) x)) → (view : List Level) (x : Text) → P (look scopes view x)
+look_holds : (P : Option Meaning → Type 0) → P None → ((m : Meaning) → is_plain m ≡ true → P (Some m)) → (scopes : List Names) →
+    ((i : ℕ) (x : Text) → P (meaning_in (scope_at scopes i) x)) → (view : List Level) (x : Text) → P (look scopes view x)
 look_holds P none some scopes h [] x = by (meaning_in predeclared_names x) (plain_found P none some predeclared_names refl x)
   where
     by : (m : Option Meaning) → P m → P (meaning_of (option_map (λ y. record { scope = None; place = 0; meaning = y }) m))
     by None g = g
     by (Some y) g = g
-look_holds P none some scopes h (level ∷ view) x = by (position_in (scope_at scopes level.scope) x) (meaning_in (scope_at scopes level.scope) x) (h level.scope x) (look_holds P none some scopes h view x)
+look_holds P none some scopes h (level ∷ view) x = by (position_in (scope_at scopes level.scope) x) (meaning_in (scope_at scopes level.scope) x)
+    (h level.scope x) (look_holds P none some scopes h view x)
   where
     by : (p : Option ℕ) (m : Option Meaning) → P m → P (look scopes view x) → P (meaning_of (option_or (within level p m) (found_in scopes view x)))
     by None m g outside = outside
     by (Some k) None g outside = outside
     by (Some k) (Some y) g outside = seen (nat_lt k level.count)
       where
-        seen : (b : Bool) → P (meaning_of (option_or (cond b (Some (record { scope = Some level.scope; place = k; meaning = y })) None) (found_in scopes view x)))
+        seen : (b : Bool) → P
+            (meaning_of (option_or (cond b (Some (record { scope = Some level.scope; place = k; meaning = y })) None) (found_in scopes view x)))
         seen true = g
         seen false = outside
 

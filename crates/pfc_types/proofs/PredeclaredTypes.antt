@@ -14,7 +14,8 @@ read-push (y ∷ xs) x d zero h = refl
 read-push (y ∷ xs) x d (suc n) h = read-push xs x d n (omega (arith, h))
 
 -- what stands already is read as before, whatever comes behind
-kept : (before : List Held) (rest : Forms) (d : Held) (n : ℕ) → n < length before → get_or (fold (λ before form. before ++ held_next before form ∷ []) before rest) n d ≡ get_or before n d
+kept : (before : List Held) (rest : Forms) (d : Held) (n : ℕ) → n < length before →
+    get_or (fold (λ before form. before ++ held_next before form ∷ []) before rest) n d ≡ get_or before n d
 kept before [] d n h = refl
 kept before (form ∷ rest) d n h =
     kept (before ++ held_next before form ∷ []) rest d n (omega (arith, h, length-append before (held_next before form ∷ [])))
@@ -30,5 +31,6 @@ simple_no_object forms b t h = ap (λ f. is_object f t) b.splits ∙ at t.place 
     at : (n : ℕ) → n < 3 → is_object (predeclared_forms ++ b.more) (record { place = n }) ≡ false
     at zero h = ap (λ held. (held.shared || held.conditions) || nat_lt 0 held.processes) (kept (all_held predeclared_forms) b.more one_cell 0 (lit< tt))
     at (suc zero) h = ap (λ held. (held.shared || held.conditions) || nat_lt 0 held.processes) (kept (all_held predeclared_forms) b.more one_cell 1 (lit< tt))
-    at (suc (suc zero)) h = ap (λ held. (held.shared || held.conditions) || nat_lt 0 held.processes) (kept (all_held predeclared_forms) b.more one_cell 2 (lit< tt))
+    at (suc (suc zero)) h = ap (λ held. (held.shared || held.conditions) || nat_lt 0 held.processes)
+        (kept (all_held predeclared_forms) b.more one_cell 2 (lit< tt))
     at (suc (suc (suc n))) h = absurd (omega (arith, h))

@@ -121,7 +121,8 @@ within_none level names x m h = ap (λ p. within level p m) (place_of names x) �
     by : (b : Bool) (m : Option Meaning) → within level (cond b (Some (first names x)) None) m ≡ None
     by false m = refl
     by true None = refl
-    by true (Some y) = not_seen (Some (record { scope = Some level.scope; place = first names x; meaning = y })) (nat_lt (first names x) level.count) (lt_false (first names x) level.count h)
+    by true (Some y) = not_seen (Some (record { scope = Some level.scope; place = first names x; meaning = y })) (nat_lt (first names x) level.count)
+        (lt_false (first names x) level.count h)
 
 -- what comes behind the names that are counted is not found
 pub found_alike :
@@ -132,14 +133,17 @@ found_alike level names fin x begins fits = ap (λ l. within level (position_in 
     more : Names
     more = begins.more
 
-    by : Where names x → within level (position_in (names ++ begins.more) x) (meaning_in (names ++ begins.more) x) ≡ within level (position_in names x) (meaning_in names x)
+    by : Where names x → within level (position_in (names ++ begins.more) x) (meaning_in (names ++ begins.more) x) ≡ within level
+        (position_in names x) (meaning_in names x)
     by (among w) =
         ap₂ (λ p m. within level p m)
-        (place_among (names ++ begins.more) x (subst (λ n. n < length (names ++ begins.more)) (sym (w.place begins.more)) (omega (arith, w.below, length-append names begins.more)))
+        (place_among (names ++ begins.more) x (subst (λ n. n < length (names ++ begins.more)) (sym (w.place begins.more))
+        (omega (arith, w.below, length-append names begins.more)))
         ∙ ap Some (w.place begins.more) ∙ sym (place_among names x w.below))
         (w.meaning begins.more)
     by (beyond w) =
-        within_none level (names ++ begins.more) x (meaning_in (names ++ begins.more) x) (subst (λ n. level.count ≤ n) (sym (w.after begins.more)) (omega (arith, fits)))
+        within_none level (names ++ begins.more) x (meaning_in (names ++ begins.more) x)
+        (subst (λ n. level.count ≤ n) (sym (w.after begins.more)) (omega (arith, fits)))
         ∙ sym (ap (λ m. within level (position_in names x) m) w.missing ∙ missing (position_in names x))
       where
         missing : (p : Option ℕ) → within level p None ≡ None
@@ -165,12 +169,14 @@ passed_again names fin x begins there = ap (λ l. passed l (length names) x) beg
     by (beyond w) = absurd (no there w.missing)
     by (among w) =
         ap (λ p. counted p (length names))
-        (place_among (names ++ begins.more) x (subst (λ n. n < length (names ++ begins.more)) (sym (w.place begins.more)) (omega (arith, w.below, length-append names begins.more)))
+        (place_among (names ++ begins.more) x (subst (λ n. n < length (names ++ begins.more)) (sym (w.place begins.more))
+        (omega (arith, w.below, length-append names begins.more)))
         ∙ ap Some (w.place begins.more))
         ∙ ap (λ b. cond b (length names + 1) (length names)) (eq_less (first names x) (length names) w.below)
 
 -- a new name counts
-pub passed_new : (names fin : Names) (x : Text) (m : Meaning) → Begins (names ++ (x, m) ∷ []) fin → is_some (meaning_in names x) ≡ false → passed fin (length names) x ≡ length (names ++ (x, m) ∷ [])
+pub passed_new : (names fin : Names) (x : Text) (m : Meaning) → Begins (names ++ (x, m) ∷ []) fin → is_some (meaning_in names x) ≡ false →
+    passed fin (length names) x ≡ length (names ++ (x, m) ∷ [])
 passed_new names fin x m begins fresh =
     ap (λ l. passed l (length names) x) (begins.splits ∙ append_assoc names ((x, m) ∷ []) begins.more) ∙ by (where_is names x) ∙ count
   where
@@ -190,7 +196,8 @@ passed_new names fin x m begins fresh =
     by (among w) = absurd (no fresh w.there)
     by (beyond w) =
         ap (λ p. counted p (length names))
-        (place_among (names ++ (x, m) ∷ begins.more) x (subst (λ n. n < length (names ++ (x, m) ∷ begins.more)) (sym at) (omega (arith, length-append names ((x, m) ∷ begins.more)))) ∙ ap Some at)
+        (place_among (names ++ (x, m) ∷ begins.more) x (subst (λ n. n < length (names ++ (x, m) ∷ begins.more)) (sym at)
+        (omega (arith, length-append names ((x, m) ∷ begins.more)))) ∙ ap Some at)
         ∙ ap (λ b. cond b (length names + 1) (length names)) (eq_same (length names))
       where
         at : first (names ++ (x, m) ∷ begins.more) x ≡ length names

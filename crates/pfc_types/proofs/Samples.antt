@@ -65,11 +65,14 @@ nothing : first_fault (program no_parts (one_stmt empty)) ≡ None
 nothing = refl
 
 -- var s: semaphore; begin s := s end.
-semaphore_assigned : first_fault (program (one_part (var_part s 2 (named (codes "semaphore") (at 3)))) (one_stmt (assign (name s 10) (named_value s 12) (at 10) (at 11)))) ≡ refused 406 10
+semaphore_assigned : first_fault (program (one_part (var_part s 2 (named (codes "semaphore") (at 3))))
+    (one_stmt (assign (name s 10) (named_value s 12) (at 10) (at 11)))) ≡ refused 406 10
 semaphore_assigned = refl
 
 -- process p; begin cobegin coend end; begin end.
-cobegin_in_process : first_fault (program (one_part (process_part (process false (codes "p") [] [] no_parts (body_of (one_stmt (cobegin (one_stmt empty) (at 6) (at 5)))) (at 2)))) (one_stmt empty)) ≡ refused 401 5
+cobegin_in_process : first_fault
+    (program (one_part (process_part (process false (codes "p") [] [] no_parts (body_of (one_stmt (cobegin (one_stmt empty) (at 6) (at 5)))) (at 2))))
+    (one_stmt empty)) ≡ refused 401 5
 cobegin_in_process = refl
 
 -- begin x := 1 end
@@ -77,19 +80,23 @@ unknown : first_fault (program no_parts (one_stmt (assign (name x 10) (factor (n
 unknown = refl
 
 -- var i: integer; begin i := x end: the part is faulty, so the types are not compared
-unknown_value : first_fault (program (one_part (var_part i 2 (an_integer 3))) (one_stmt (assign (name i 10) (named_value x 12) (at 10) (at 11)))) ≡ refused 301 12
+unknown_value : first_fault (program (one_part (var_part i 2 (an_integer 3)))
+    (one_stmt (assign (name i 10) (named_value x 12) (at 10) (at 11)))) ≡ refused 301 12
 unknown_value = refl
 
 -- var i: integer; begin i := true + x end: `true` breaks the operator's rule, whatever x is
-operand : first_fault (program (one_part (var_part i 2 (an_integer 3))) (one_stmt (assign (name i 10) (plus (codes "true") 12 13 x 14) (at 10) (at 11)))) ≡ refused 311 13
+operand : first_fault (program (one_part (var_part i 2 (an_integer 3)))
+    (one_stmt (assign (name i 10) (plus (codes "true") 12 13 x 14) (at 10) (at 11)))) ≡ refused 311 13
 operand = refl
 
 -- var i: integer; begin i := any end
-any_value : first_fault (program (one_part (var_part i 2 (an_integer 3))) (one_stmt (assign (name i 10) (named_value (codes "any") 12) (at 10) (at 11)))) ≡ refused 412 12
+any_value : first_fault (program (one_part (var_part i 2 (an_integer 3)))
+    (one_stmt (assign (name i 10) (named_value (codes "any") 12) (at 10) (at 11)))) ≡ refused 412 12
 any_value = refl
 
 -- var i: integer; begin i := 'ab' end
-a_string : first_fault (program (one_part (var_part i 2 (an_integer 3))) (one_stmt (assign (name i 10) (factor (literal (codes "ab") (at 12)) 12) (at 10) (at 11)))) ≡ refused 325 12
+a_string : first_fault (program (one_part (var_part i 2 (an_integer 3)))
+    (one_stmt (assign (name i 10) (factor (literal (codes "ab") (at 12)) 12) (at 10) (at 11)))) ≡ refused 325 12
 a_string = refl
 
 -- var i, i: integer
@@ -101,36 +108,57 @@ not_carried : first_fault (program (one_part (var_part i 2 (named (codes "synchr
 not_carried = refl
 
 -- var c: channel of synchronous; begin c ! any end
-signal_sent : first_fault (program (one_part (var_part (codes "c") 2 (channel (named (codes "synchronous") (at 4)) (at 3)))) (one_stmt (send (name (codes "c") 10) (named_value (codes "any") 12) (at 10) (at 11)))) ≡ None
+signal_sent : first_fault (program (one_part (var_part (codes "c") 2 (channel (named (codes "synchronous") (at 4)) (at 3))))
+    (one_stmt (send (name (codes "c") 10) (named_value (codes "any") 12) (at 10) (at 11)))) ≡ None
 signal_sent = refl
 
 -- var c: channel of synchronous; begin c ! 1 end: 312 at `!` is lower than 412
-number_sent : first_fault (program (one_part (var_part (codes "c") 2 (channel (named (codes "synchronous") (at 4)) (at 3)))) (one_stmt (send (name (codes "c") 10) (factor (number (pos 1) (at 12)) 12) (at 10) (at 11)))) ≡ refused 312 11
+number_sent : first_fault (program (one_part (var_part (codes "c") 2 (channel (named (codes "synchronous") (at 4)) (at 3))))
+    (one_stmt (send (name (codes "c") 10) (factor (number (pos 1) (at 12)) 12) (at 10) (at 11)))) ≡ refused 312 11
 number_sent = refl
 
 -- var c: channel of synchronous; begin c ! x end: the message is faulty, and still no signal
-faulty_sent : first_fault (program (one_part (var_part (codes "c") 2 (channel (named (codes "synchronous") (at 4)) (at 3)))) (one_stmt (send (name (codes "c") 10) (named_value x 12) (at 10) (at 11)))) ≡ refused 412 11
+faulty_sent : first_fault (program (one_part (var_part (codes "c") 2 (channel (named (codes "synchronous") (at 4)) (at 3))))
+    (one_stmt (send (name (codes "c") 10) (named_value x 12) (at 10) (at 11)))) ≡ refused 412 11
 faulty_sent = refl
 
 -- procedure p(c: condition): 406 and 407 at one place
-condition_passed : first_fault (program (one_part (sub_part (sub (codes "p") (record { reference = false; names = (codes "c", at 3) ∷ []; form = (codes "condition", at 4) } ∷ []) procedure no_parts (body_of (one_stmt empty)) (at 2)))) (one_stmt empty)) ≡ refused 406 4
+condition_passed : first_fault
+    (program (one_part (sub_part (sub (codes "p") (record {
+      reference = false;
+      names = (codes "c", at 3) ∷ [];
+      form =
+          (codes "condition", at 4);
+    } ∷ []) procedure no_parts (body_of (one_stmt empty)) (at 2)))) (one_stmt empty)) ≡ refused 406 4
 condition_passed = refl
 
 -- function f: synchronous
-function_of_signals : first_fault (program (one_part (sub_part (sub (codes "f") [] (function (codes "synchronous") (at 3)) no_parts (body_of (one_stmt empty)) (at 2)))) (one_stmt empty)) ≡ refused 411 3
+function_of_signals : first_fault
+    (program (one_part (sub_part (sub (codes "f") [] (function (codes "synchronous") (at 3)) no_parts (body_of (one_stmt empty)) (at 2)))) (one_stmt empty)) ≡
+    refused 411 3
 function_of_signals = refl
 
 -- procedure p(n: integer); .. begin p end: as many arguments as formals
-too_few : first_fault (program (one_part (sub_part (sub (codes "p") (record { reference = false; names = (codes "n", at 3) ∷ []; form = (codes "integer", at 4) } ∷ []) procedure no_parts (body_of (one_stmt (call (name (codes "p") 5) no_actuals (at 5)))) (at 2)))) (one_stmt empty)) ≡ refused 316 5
+too_few : first_fault
+    (program (one_part (sub_part (sub (codes "p") (record {
+      reference = false;
+      names = (codes "n", at 3) ∷ [];
+      form =
+          (codes "integer", at 4);
+    } ∷ []) procedure no_parts (body_of (one_stmt (call (name (codes "p") 5) no_actuals (at 5)))) (at 2)))) (one_stmt empty)) ≡
+    refused 316 5
 too_few = refl
 
 -- process p; begin end; begin p(1) end: 316 at the statement is lower than 402
-activated_wrong : first_fault (program (one_part (process_part (process false (codes "p") [] [] no_parts (body_of (one_stmt empty)) (at 2)))) (one_stmt (call (name (codes "p") 10) (more_actuals (actual (factor (number (pos 1) (at 11)) 11)) no_actuals) (at 10)))) ≡ refused 316 10
+activated_wrong : first_fault (program (one_part (process_part (process false (codes "p") [] [] no_parts (body_of (one_stmt empty)) (at 2))))
+    (one_stmt (call (name (codes "p") 10) (more_actuals (actual (factor (number (pos 1) (at 11)) 11)) no_actuals) (at 10)))) ≡ refused 316 10
 activated_wrong = refl
 
-activated_outside : first_concurrency_fault (program (one_part (process_part (process false (codes "p") [] [] no_parts (body_of (one_stmt empty)) (at 2)))) (one_stmt (call (name (codes "p") 10) (more_actuals (actual (factor (number (pos 1) (at 11)) 11)) no_actuals) (at 10)))) ≡ refused 402 10
+activated_outside : first_concurrency_fault (program (one_part (process_part (process false (codes "p") [] [] no_parts (body_of (one_stmt empty)) (at 2))))
+    (one_stmt (call (name (codes "p") 10) (more_actuals (actual (factor (number (pos 1) (at 11)) 11)) no_actuals) (at 10)))) ≡ refused 402 10
 activated_outside = refl
 
 -- var i: integer; begin for i := true to x do end
-for_bounds : first_fault (program (one_part (var_part i 2 (an_integer 3))) (one_stmt (for_do i (named_value (codes "true") 12) false (named_value x 13) empty (at 9) (at 10)))) ≡ refused 321 10
+for_bounds : first_fault (program (one_part (var_part i 2 (an_integer 3)))
+    (one_stmt (for_do i (named_value (codes "true") 12) false (named_value x 13) empty (at 9) (at 10)))) ≡ refused 321 10
 for_bounds = refl

@@ -80,7 +80,8 @@ largest_type : first_fault (program (var_x (row (bound 1 4) (bound 65536 6))) em
 largest_type = refl
 
 -- program a; var x: array [1..65536] of integer; y: integer: the block has too many cells
-large_block : first_fault (program (more_parts (var_part x 2 (row (bound 1 4) (bound 65536 6))) (one_part (var_part (codes "y") 8 (an_integer 9)))) empty) ≡ refused 304 1
+large_block : first_fault (program (more_parts (var_part x 2 (row (bound 1 4) (bound 65536 6))) (one_part (var_part (codes "y") 8 (an_integer 9)))) empty) ≡
+    refused 304 1
 large_block = refl
 
 -- ## 310
@@ -142,7 +143,12 @@ sleep_true = refl
 -- procedure p (n: integer); begin end; begin p ('a') end
 abbrev procedure_p : PartTrees
 procedure_p =
-    one_part (sub_part (sub (codes "p") (record { reference = false; names = (codes "n", at 3) ∷ []; form = (codes "integer", at 4) } ∷ []) procedure no_parts (body_of (one_stmt empty)) (at 2)))
+    one_part (sub_part (sub (codes "p") (record {
+      reference = false;
+      names = (codes "n", at 3) ∷ [];
+      form =
+          (codes "integer", at 4);
+    } ∷ []) procedure no_parts (body_of (one_stmt empty)) (at 2)))
 
 char_passed : first_fault (program procedure_p (call_with (codes "p") 10 (actual (char_at 12)))) ≡ refused 317 12
 char_passed = refl
@@ -172,11 +178,14 @@ labels_differ = refl
 -- ## 322 and 323
 
 -- const c = -true
-signed_true : first_fault (program (one_part (consts (record { name = codes "c"; value = Named (Some (Minus, at 4)) (codes "true") (at 5); place = at 2 } ∷ []))) empty) ≡ refused 322 4
+signed_true : first_fault
+    (program (one_part (consts (record { name = codes "c"; value = Named (Some (Minus, at 4)) (codes "true") (at 5); place = at 2 } ∷ []))) empty) ≡
+    refused 322 4
 signed_true = refl
 
 -- const c = -maxint
-signed_number : first_fault (program (one_part (consts (record { name = codes "c"; value = Named (Some (Minus, at 4)) (codes "maxint") (at 5); place = at 2 } ∷ []))) empty) ≡ None
+signed_number : first_fault
+    (program (one_part (consts (record { name = codes "c"; value = Named (Some (Minus, at 4)) (codes "maxint") (at 5); place = at 2 } ∷ []))) empty) ≡ None
 signed_number = refl
 
 -- type x = record f: integer end; function f: x; begin end

@@ -37,7 +37,11 @@ pub subs_trans : {a b c : Blocks} → SubsGrown a b → SubsGrown b c → SubsGr
 subs_trans h k = record { count = omega (arith, h.count, k.count); same = λ n b. k.same n (omega (arith, b, h.count)) ∙ h.same n b }
 
 pub subs_push : (b : Blocks) (head : SubHead) → SubsGrown b (with_sub b head)
-subs_push b head = record { count = omega (arith, length-append b.subs (head ∷ [])); same = λ n h. ap is_whole_head (get_or-append b.subs (head ∷ []) no_sub n h) }
+subs_push b head = record {
+  count = omega (arith, length-append b.subs (head ∷ []));
+  same =
+      λ n h. ap is_whole_head (get_or-append b.subs (head ∷ []) no_sub n h);
+}
 
 pub subs_export : (b : Blocks) (n : ℕ) → SubsGrown b (with_export b n)
 subs_export b n = record { count = omega (arith, length-set b.subs n (record (sub_at b n) { exported = true })); same = λ k h. by (k == n) k refl h }
@@ -55,7 +59,9 @@ subs_export b n = record { count = omega (arith, length-set b.subs n (record (su
         no x = cc
 
     by : (t : Bool) (k : ℕ) → (k == n) ≡ t → k < length b.subs → is_whole_head (sub_at (with_export b n) k) ≡ is_whole_head (sub_at b k)
-    by true k e h = ap (λ m. is_whole_head (sub_at (with_export b n) m)) (eq_of k e) ∙ ap is_whole_head (get_or-set_same b.subs n (record (sub_at b n) { exported = true }) no_sub (subst (λ m. m < length b.subs) (eq_of k e) h)) ∙ ap (λ m. is_whole_head (sub_at b m)) (sym (eq_of k e))
+    by true k e h = ap (λ m. is_whole_head (sub_at (with_export b n) m)) (eq_of k e) ∙
+        ap is_whole_head (get_or-set_same b.subs n (record (sub_at b n) { exported = true }) no_sub (subst (λ m. m < length b.subs) (eq_of k e) h)) ∙
+        ap (λ m. is_whole_head (sub_at b m)) (sym (eq_of k e))
     by false k e h = ap is_whole_head (get_or-set_other b.subs n k (record (sub_at b n) { exported = true }) no_sub (ne_of k e))
 
 pub sound_grown : {b c : Blocks} → SubsGrown b c → (m : Option Meaning) → IsSound b m → IsSound c m
@@ -73,7 +79,8 @@ sound_grown g (Some Faulty) h = tt
 -- ## Names
 
 -- one name more
-pub sound_push : (b : Blocks) (names : Names) (x y : Text) (m : Meaning) → IsSound b (meaning_in names y) → IsSound b (Some m) → IsSound b (meaning_in (names ++ (x, m) ∷ []) y)
+pub sound_push : (b : Blocks) (names : Names) (x y : Text) (m : Meaning) → IsSound b (meaning_in names y) → IsSound b (Some m) →
+    IsSound b (meaning_in (names ++ (x, m) ∷ []) y)
 sound_push b [] x y m h g = by (bytes_eq y x)
   where
     by : (t : Bool) → IsSound b (cond t (Some m) None)
@@ -81,7 +88,8 @@ sound_push b [] x y m h g = by (bytes_eq y x)
     by false = tt
 sound_push b (e ∷ es) x y m h g = by (bytes_eq y e.0) h (λ k. sound_push b es x y m k g)
   where
-    by : (t : Bool) → IsSound b (cond t (Some e.1) (meaning_in es y)) → (IsSound b (meaning_in es y) → IsSound b (meaning_in (es ++ (x, m) ∷ []) y)) → IsSound b (cond t (Some e.1) (meaning_in (es ++ (x, m) ∷ []) y))
+    by : (t : Bool) → IsSound b (cond t (Some e.1) (meaning_in es y)) → (IsSound b (meaning_in es y) → IsSound b (meaning_in (es ++ (x, m) ∷ []) y)) →
+        IsSound b (cond t (Some e.1) (meaning_in (es ++ (x, m) ∷ []) y))
     by true k others = k
     by false k others = others k
 

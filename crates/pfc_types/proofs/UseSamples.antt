@@ -74,35 +74,57 @@ ord_char : first_fault (program integer_x (x_set (applied_to (codes "ord") (char
 ord_char = refl
 
 -- var x: integer; begin x.q := 1 end
-field_of_number : first_fault (program integer_x (assign (desig x (more_selectors (field q (at 42)) no_selectors) (at 40)) (int_at 1 44) (at 40) (at 43))) ≡ refused 315 42
+field_of_number : first_fault (program integer_x (assign (desig x (more_selectors (field q (at 42)) no_selectors) (at 40))
+    (int_at 1 44) (at 40) (at 43))) ≡ refused 315 42
 field_of_number = refl
 
 -- ## Constants
 
 -- const c = 'ab'
-string_constant : first_fault (program (one_part (consts (record { name = codes "c"; value = Literal (codes "ab") (at 4); place = at 2 } ∷ []))) empty) ≡ refused 325 4
+string_constant : first_fault
+    (program (one_part (consts (record { name = codes "c"; value = Literal (codes "ab") (at 4); place = at 2 } ∷ []))) empty) ≡ refused 325 4
 string_constant = refl
 
 -- begin case true of -true: end end
-signed_label : first_fault (program no_parts (case_of (value (codes "true") 41) (more_arms (arm (Named (Some (Minus, at 42)) (codes "true") (at 43) ∷ []) empty) no_arms) false (at 40))) ≡ refused 322 42
+signed_label : first_fault
+    (program no_parts (case_of (value (codes "true") 41) (more_arms (arm (Named (Some (Minus, at 42)) (codes "true") (at 43) ∷ []) empty) no_arms) false
+    (at 40))) ≡ refused 322 42
 signed_label = refl
 
 -- ## Objects
 
 -- type x = record q: semaphore end; procedure q; var p: x; begin end;
-shared_record : first_fault (program (more_parts (types (record { name = x; form = fields (more_vars (var_item ((q, at 4) ∷ []) (semaphore_at 5)) no_vars) false (at 3); place = at 2 } ∷ [])) (one_part (procedure_q (one_part (var_part p 22 (named x (at 23)))) empty))) empty) ≡ refused 404 23
+shared_record : first_fault
+    (program (more_parts (types (record {
+      name = x;
+      form = fields (more_vars (var_item ((q, at 4) ∷ []) (semaphore_at 5)) no_vars) false (at 3);
+      place =
+          at 2;
+    } ∷ [])) (one_part (procedure_q (one_part (var_part p 22 (named x (at 23)))) empty))) empty) ≡ refused 404 23
 shared_record = refl
 
 -- process p; var x: condition; begin end;
-condition_in_process : first_fault (program (one_part (process_p false (one_part (var_part x 4 (named (codes "condition") (at 5)))) empty)) empty) ≡ refused 405 5
+condition_in_process : first_fault
+    (program (one_part (process_p false (one_part (var_part x 4 (named (codes "condition") (at 5)))) empty)) empty) ≡ refused 405 5
 condition_in_process = refl
 
 -- process p; entry q (x: semaphore); begin end;
-semaphore_to_entry : first_fault (program (one_part (process_part (process false p [] (record { name = q; formals = record { reference = false; names = (x, at 5) ∷ []; form = (codes "semaphore", at 6) } ∷ []; place = at 4 } ∷ []) no_parts (body_of (one_stmt empty)) (at 2)))) empty) ≡ refused 406 6
+semaphore_to_entry : first_fault
+    (program (one_part (process_part (process false p [] (record {
+      name = q;
+      formals = record {
+        reference = false;
+        names = (x, at 5) ∷ [];
+        form =
+            (codes "semaphore", at 6);
+      } ∷ [];
+      place = at 4;
+    } ∷ []) no_parts (body_of (one_stmt empty)) (at 2)))) empty) ≡ refused 406 6
 semaphore_to_entry = refl
 
 -- type x = synchronous
-signal_named : first_fault (program (one_part (types (record { name = x; form = named (codes "synchronous") (at 3); place = at 2 } ∷ []))) empty) ≡ refused 411 3
+signal_named : first_fault
+    (program (one_part (types (record { name = x; form = named (codes "synchronous") (at 3); place = at 2 } ∷ []))) empty) ≡ refused 411 3
 signal_named = refl
 
 -- ## Modules
@@ -130,7 +152,8 @@ unknown_in_resource : first_fault (program (one_part (guarded_p (value (codes "t
 unknown_in_resource = refl
 
 -- begin r.p (1) end
-counted_in_resource : first_fault (program (one_part (guarded_p (value (codes "true") 24))) (call (in_r p) (more_actuals (actual (int_at 1 44)) no_actuals) (at 40))) ≡ refused 316 42
+counted_in_resource : first_fault (program (one_part (guarded_p (value (codes "true") 24)))
+    (call (in_r p) (more_actuals (actual (int_at 1 44)) no_actuals) (at 40))) ≡ refused 316 42
 counted_in_resource = refl
 
 -- when x: a variable of the resource, and no boolean
@@ -138,7 +161,8 @@ number_guards : first_fault (program (one_part (guarded_p (value x 24))) empty) 
 number_guards = refl
 
 -- when odd (x)
-odd_guards : first_fault (program (one_part (guarded_p (factor (applied (name (codes "odd") 24) (more_actuals (actual (value x 26)) no_actuals) (at 24)) 24))) empty) ≡ None
+odd_guards : first_fault
+    (program (one_part (guarded_p (factor (applied (name (codes "odd") 24) (more_actuals (actual (value x 26)) no_actuals) (at 24)) 24))) empty) ≡ None
 odd_guards = refl
 
 -- when eof
@@ -146,7 +170,8 @@ eof_guards : first_fault (program (one_part (guarded_p (value (codes "eof") 24))
 eof_guards = refl
 
 -- guarded procedure p when true; begin requeue p (1) end;
-requeue_counted : first_fault (program (resource_r no_parts (requeue (p, at 31) (more_actuals (actual (int_at 1 33)) no_actuals) (at 30))) empty) ≡ refused 316 31
+requeue_counted : first_fault
+    (program (resource_r no_parts (requeue (p, at 31) (more_actuals (actual (int_at 1 33)) no_actuals) (at 30))) empty) ≡ refused 316 31
 requeue_counted = refl
 
 -- guarded procedure p when true; begin requeue p end;
@@ -160,14 +185,25 @@ cobegin_in_sub : first_fault (program (one_part (procedure_q no_parts (cobegin (
 cobegin_in_sub = refl
 
 -- procedure q; begin select c ? x or terminate end end;
-terminate_outside : first_fault (program (with_c (one_part (procedure_q no_parts (select false (receive_or (terminate (at 40)) no_alts) (at 30) (at 30))))) empty) ≡ refused 421 40
+terminate_outside : first_fault
+    (program (with_c (one_part (procedure_q no_parts (select false (receive_or (terminate (at 40)) no_alts) (at 30) (at 30))))) empty) ≡ refused 421 40
 terminate_outside = refl
 
 -- process p; entry q (var x: integer); begin accept q (x: t) end;
 abbrev accepting_q : Bool → Text → PartTree
 accepting_q reference t =
-    process_part (process false p [] (record { name = q; formals = record { reference = true; names = (x, at 5) ∷ []; form = (codes "integer", at 6) } ∷ []; place = at 4 } ∷ []) no_parts
-    (body_of (one_stmt (accepting (accept q (record { reference = reference; names = (codes "y", at 32) ∷ []; form = (t, at 33) } ∷ []) (at 31)) (at 30)))) (at 2))
+    process_part (process false p [] (record {
+      name = q;
+      formals = record {
+        reference = true;
+        names = (x, at 5) ∷ [];
+        form =
+            (codes "integer", at 6);
+      } ∷ [];
+      place = at 4;
+    } ∷ []) no_parts
+    (body_of (one_stmt (accepting (accept q (record { reference = reference; names = (codes "y", at 32) ∷ []; form = (t, at 33) } ∷ []) (at 31)) (at 30))))
+    (at 2))
 
 -- accept q (y: integer): by value
 accepted_by_value : first_fault (program (one_part (accepting_q false (codes "integer"))) empty) ≡ refused 415 31
@@ -182,9 +218,13 @@ accepted_faulty : first_fault (program (one_part (accepting_q true (codes "unkno
 accepted_faulty = refl
 
 -- process type p; begin end; var x: array [1..2] of p; begin x end: what is called is no process
-array_activated : first_fault (program (more_parts (process_p true no_parts empty) (one_part (var_part x 10 (array (record { low = bound 1 12; high = bound 2 13 } ∷ []) (named p (at 14)) (at 11))))) (cobegin (one_stmt (call (name x 41) no_actuals (at 41))) (at 50) (at 40))) ≡ refused 310 41
+array_activated : first_fault
+    (program (more_parts (process_p true no_parts empty)
+    (one_part (var_part x 10 (array (record { low = bound 1 12; high = bound 2 13 } ∷ []) (named p (at 14)) (at 11)))))
+    (cobegin (one_stmt (call (name x 41) no_actuals (at 41))) (at 50) (at 40))) ≡ refused 310 41
 array_activated = refl
 
 -- var c: channel of integer; x: boolean; begin c ? x end
-boolean_received : first_fault (program (more_parts (var_part (codes "c") 12 (channel (an_integer 14) (at 13))) (one_part (var_part x 15 (named (codes "boolean") (at 16))))) (receive (name (codes "c") 40) (name x 42) (at 40) (at 41))) ≡ refused 312 41
+boolean_received : first_fault (program (more_parts (var_part (codes "c") 12 (channel (an_integer 14) (at 13)))
+    (one_part (var_part x 15 (named (codes "boolean") (at 16))))) (receive (name (codes "c") 40) (name x 42) (at 40) (at 41))) ≡ refused 312 41
 boolean_received = refl

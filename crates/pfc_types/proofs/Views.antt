@@ -24,15 +24,18 @@ Grown old new = (j : ℕ) → Begins (scope_at old j) (scope_at new j)
 
 pub within_grown : (old new : List Names) (view : List Level) → Grown old new → AllWithin old view → AllWithin new view
 within_grown old new [] g h = tt
-within_grown old new (level ∷ view) g h = (omega (arith, h.0, begins_length (scope_at old level.scope) (scope_at new level.scope) (g level.scope)), within_grown old new view g h.1)
+within_grown old new (level ∷ view) g h =
+    (omega (arith, h.0, begins_length (scope_at old level.scope) (scope_at new level.scope) (g level.scope)), within_grown old new view g h.1)
 
 pub within_here : (scopes : List Names) (i : ℕ) (outer : List Level) → AllWithin scopes outer → AllWithin scopes (here scopes i outer)
 within_here scopes i outer h = (omega arith, h)
 
-pub finds_alike : (scopes fin : List Names) (view : List Level) → Grown scopes fin → AllWithin scopes view → FindsAlike fin (record { scopes = scopes; view = view })
+pub finds_alike : (scopes fin : List Names) (view : List Level) → Grown scopes fin → AllWithin scopes view →
+    FindsAlike fin (record { scopes = scopes; view = view })
 finds_alike scopes fin [] g h x = refl
 finds_alike scopes fin (level ∷ view) g h x =
-    ap₂ (λ a b. option_or a b) (found_alike level (scope_at scopes level.scope) (scope_at fin level.scope) x (g level.scope) h.0) (finds_alike scopes fin view g h.1 x)
+    ap₂ (λ a b. option_or a b) (found_alike level (scope_at scopes level.scope) (scope_at fin level.scope) x
+    (g level.scope) h.0) (finds_alike scopes fin view g h.1 x)
 
 pub grown_trans : (a b c : List Names) → Grown a b → Grown b c → Grown a c
 grown_trans a b c g h j = begins_trans (scope_at a j) (scope_at b j) (scope_at c j) (g j) (h j)
@@ -71,7 +74,8 @@ walked_grown {i} {s} {t} h j = by (j == i) (nat_lt j (length (held s))) refl ref
   where
     by : (a b : Bool) → (j == i) ≡ a → nat_lt j (length (held s)) ≡ b → Begins (scope_at (held s) j) (scope_at (held t) j)
     by true b d e = subst (λ k. Begins (scope_at (held s) k) (scope_at (held t) k)) (sym (eq_of j i d)) h.own
-    by false true d e = subst (λ x. Begins (scope_at (held s) j) x) (sym (h.others j (lt_of j (length (held s)) e) (ne_of j i d))) (begins_same (scope_at (held s) j))
+    by false true d e = subst (λ x. Begins (scope_at (held s) j) x)
+        (sym (h.others j (lt_of j (length (held s)) e) (ne_of j i d))) (begins_same (scope_at (held s) j))
     by false false d e = grown_past (held s) (held t) j (le_of j (length (held s)) e)
 
 -- ## The finished scopes
@@ -93,7 +97,8 @@ finished_opened {b} {s} {t} {k} {fin} o h =
     }
 
 -- as it is before more names were declared in a scope that is not closed
-pub finished_walked : {b i : ℕ} {s t : State} {k : ℕ} {P : Names → ℕ → ℕ} {fin : List Names} → i < b → Walked i s t k P → Finished b (held t) fin → Finished b (held s) fin
+pub finished_walked : {b i : ℕ} {s t : State} {k : ℕ} {P : Names → ℕ → ℕ} {fin : List Names} → i < b → Walked i s t k P →
+    Finished b (held t) fin → Finished b (held s) fin
 finished_walked {b} {i} {s} {t} {k} {P} {fin} below w h =
     record {
       grown = grown_trans (held s) (held t) fin (walked_grown w) h.grown;
@@ -108,14 +113,16 @@ finished_walked {b} {i} {s} {t} {k} {P} {fin} below w h =
 pub counted_none : (fin : List Names) → AreCounted fin [] []
 counted_none fin = record { same = refl; alike = All-nil (FindsAlike fin) }
 
-pub counted_both : {fin : List Names} {vs ws : List Visit} {us xs : List (List Level)} → AreCounted fin vs us → AreCounted fin ws xs → AreCounted fin (vs ++ ws) (us ++ xs)
+pub counted_both : {fin : List Names} {vs ws : List Visit} {us xs : List (List Level)} → AreCounted fin vs us →
+    AreCounted fin ws xs → AreCounted fin (vs ++ ws) (us ++ xs)
 counted_both {fin} {vs} {ws} {us} {xs} h k =
     record {
       same = ap₂ (λ a b. a ++ b) h.same k.same ∙ sym (map-append (λ v. v.view) vs ws);
       alike = All-append (FindsAlike fin) vs ws h.alike k.alike;
     }
 
-pub counted_one : {fin scopes : List Names} {view : List Level} {vs : List Visit} {us : List (List Level)} → Grown scopes fin → AllWithin scopes view → AreCounted fin vs us → AreCounted fin (record { scopes = scopes; view = view } ∷ vs) (view ∷ us)
+pub counted_one : {fin scopes : List Names} {view : List Level} {vs : List Visit} {us : List (List Level)} → Grown scopes fin → AllWithin scopes view →
+    AreCounted fin vs us → AreCounted fin (record { scopes = scopes; view = view } ∷ vs) (view ∷ us)
 counted_one {fin} {scopes} {view} {vs} {us} g h k =
     record {
       same = ap (λ l. view ∷ l) k.same;

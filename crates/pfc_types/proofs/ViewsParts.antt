@@ -25,12 +25,16 @@ use Rattle.pfc_types.proofs.ViewsBlocks.{PartsCounted, sub_block, module_block, 
 more_parts_counted :
     (owner : Owner) (s : State) (i : ℕ) (outer : List Level) (q : PartTree) (qs : PartTrees) (fin : List Names)
     → i < length (held s) → AllWithin (held s) outer → Finished (length (held s)) (held (parts_state owner s i outer (more_parts q qs))) fin
-    → (Finished (length (held s)) (held (part_state owner s i outer q)) fin → AreCounted fin (part_visits owner s i outer q) (part_views fin i (length (scope_at (held s) i)) outer (length (held s)) q))
+    → (Finished (length (held s)) (held (part_state owner s i outer q)) fin →
+    AreCounted fin (part_visits owner s i outer q) (part_views fin i (length (scope_at (held s) i)) outer (length (held s)) q))
     → PartsCounted owner (part_state owner s i outer q) i outer qs fin
-    → AreCounted fin (parts_visits owner s i outer (more_parts q qs)) (parts_views fin i (length (scope_at (held s) i)) outer (length (held s)) (more_parts q qs))
+    → AreCounted fin (parts_visits owner s i outer (more_parts q qs))
+    (parts_views fin i (length (scope_at (held s) i)) outer (length (held s)) (more_parts q qs))
 more_parts_counted owner s i outer q qs fin b w f part parts =
-    counted_both {vs = part_visits owner s i outer q} {ws = parts_visits owner next i outer qs} {us = part_views fin i (length (scope_at (held s) i)) outer (length (held s)) q} (part behind)
-    (counted_as (parts inside (within_grown (held s) (held next) outer (walked_grown one) w) (finished_later f (omega (arith, one.count)))) (ap₂ (λ n m. parts_views fin i n outer m qs) (sym (one.counts (scope_at fin i) (behind.grown i))) one.count))
+    counted_both {vs = part_visits owner s i outer q} {ws = parts_visits owner next i outer qs} {us =
+    part_views fin i (length (scope_at (held s) i)) outer (length (held s)) q} (part behind)
+    (counted_as (parts inside (within_grown (held s) (held next) outer (walked_grown one) w) (finished_later f (omega (arith, one.count))))
+    (ap₂ (λ n m. parts_views fin i n outer m qs) (sym (one.counts (scope_at fin i) (behind.grown i))) one.count))
   where
     next : State
     next = part_state owner s i outer q
@@ -47,7 +51,8 @@ more_parts_counted owner s i outer q qs fin b w f part parts =
 -- ## Parts
 
 mutual
-  part_counted : (owner : Owner) (s : State) (i : ℕ) (outer : List Level) (q : PartTree) (fin : List Names) → i < length (held s) → AllWithin (held s) outer → Finished (length (held s)) (held (part_state owner s i outer q)) fin
+  part_counted : (owner : Owner) (s : State) (i : ℕ) (outer : List Level) (q : PartTree) (fin : List Names) → i < length (held s) → AllWithin (held s) outer →
+      Finished (length (held s)) (held (part_state owner s i outer q)) fin
       → AreCounted fin (part_visits owner s i outer q) (part_views fin i (length (scope_at (held s) i)) outer (length (held s)) q)
   part_counted owner s i outer (consts items) fin b w f = counted_none fin
   part_counted owner s i outer (types items) fin b w f = counted_none fin
@@ -59,23 +64,31 @@ mutual
 
   parts_counted : (owner : Owner) (s : State) (i : ℕ) (outer : List Level) (qs : PartTrees) (fin : List Names) → PartsCounted owner s i outer qs fin
   parts_counted owner s i outer no_parts fin b w f = counted_none fin
-  parts_counted owner s i outer (more_parts q qs) fin b w f = more_parts_counted owner s i outer q qs fin b w f (part_counted owner s i outer q fin b w) (parts_counted owner (part_state owner s i outer q) i outer qs fin)
+  parts_counted owner s i outer (more_parts q qs) fin b w f = more_parts_counted owner s i outer q qs fin b w f (part_counted owner s i outer q fin b w)
+      (parts_counted owner (part_state owner s i outer q) i outer qs fin)
 
-  sub_counted : (s : State) (i : ℕ) (outer : List Level) (q : SubTree) (fin : List Names) → i < length (held s) → AllWithin (held s) outer → Finished (length (held s)) (held (sub_state s i outer q)) fin
+  sub_counted : (s : State) (i : ℕ) (outer : List Level) (q : SubTree) (fin : List Names) → i < length (held s) → AllWithin (held s) outer →
+      Finished (length (held s)) (held (sub_state s i outer q)) fin
       → AreCounted fin (sub_visits s i outer q) (sub_views fin i (length (scope_at (held s) i)) outer (length (held s)) q)
   sub_counted s i outer (sub x gs kind ps inside p) fin b w f =
-      sub_block s i outer x gs kind ps inside p fin b w f (parts_counted elsewhere (sub_headed s i outer (x, p) gs kind) (length (held s)) (here (held (sub_headed s i outer (x, p) gs kind)) i outer) ps fin)
+      sub_block s i outer x gs kind ps inside p fin b w f (parts_counted elsewhere (sub_headed s i outer (x, p) gs kind) (length (held s))
+      (here (held (sub_headed s i outer (x, p) gs kind)) i outer) ps fin)
 
-  module_counted : (is_resource : Bool) (s : State) (i : ℕ) (outer : List Level) (m : ModuleTree) (fin : List Names) → i < length (held s) → AllWithin (held s) outer → Finished (length (held s)) (held (module_state is_resource s i outer m)) fin
+  module_counted : (is_resource : Bool) (s : State) (i : ℕ) (outer : List Level) (m : ModuleTree) (fin : List Names) → i < length (held s) →
+      AllWithin (held s) outer → Finished (length (held s)) (held (module_state is_resource s i outer m)) fin
       → AreCounted fin (module_visits is_resource s i outer m) (module_views fin i (length (scope_at (held s) i)) outer (length (held s)) m)
   module_counted is_resource s i outer (the_module x exports ps inside last p) fin b w f =
-      module_block is_resource s i outer x exports ps inside last p fin b w f (parts_counted (module_owner is_resource) (open_scope s) (length (held s)) (here (held s) i outer) ps fin)
+      module_block is_resource s i outer x exports ps inside last p fin b w f (parts_counted (module_owner is_resource) (open_scope s)
+      (length (held s)) (here (held s) i outer) ps fin)
 
-  process_counted : (s : State) (i : ℕ) (outer : List Level) (q : ProcessTree) (fin : List Names) → i < length (held s) → AllWithin (held s) outer → Finished (length (held s)) (held (process_state s i outer q)) fin
+  process_counted : (s : State) (i : ℕ) (outer : List Level) (q : ProcessTree) (fin : List Names) → i < length (held s) → AllWithin (held s) outer →
+      Finished (length (held s)) (held (process_state s i outer q)) fin
       → AreCounted fin (process_visits s i outer q) (process_views fin i (length (scope_at (held s) i)) outer (length (held s)) q)
   process_counted s i outer (process many x gs es ps inside p) fin b w f =
       process_block s i outer many x gs es ps inside p fin b w f
-      (parts_counted elsewhere (entries_state (process_headed s i outer many (x, p) gs) (length (held s)) (here (held (process_headed s i outer many (x, p) gs)) i outer) 0 es) (length (held s)) (here (held (process_headed s i outer many (x, p) gs)) i outer) ps fin)
+      (parts_counted elsewhere (entries_state (process_headed s i outer many (x, p) gs) (length (held s))
+      (here (held (process_headed s i outer many (x, p) gs)) i outer) 0 es) (length (held s))
+      (here (held (process_headed s i outer many (x, p) gs)) i outer) ps fin)
 
 -- ## The whole
 
@@ -100,4 +113,5 @@ program_counted t = counted_as {vs = visits t} counted (bodies_seen (finished t)
     f_declared = block_finished in_program begun 0 0 [] t.parts (Some t.body) fin f
 
     counted : AreCounted fin (visits t) (parts_views fin 0 0 [] 1 t.parts ++ body_views fin (here fin 0 []) (1 + parts_scopes t.parts) t.body)
-    counted = block_counted in_program begun 0 0 [] t.parts (Some t.body) fin (omega arith) (omega arith) tt f (parts_counted in_program begun 0 [] t.parts fin (omega arith) tt (finished_later f_declared (omega arith)))
+    counted = block_counted in_program begun 0 0 [] t.parts (Some t.body) fin (omega arith) (omega arith) tt f (parts_counted in_program begun 0 [] t.parts fin
+        (omega arith) tt (finished_later f_declared (omega arith)))

@@ -58,7 +58,12 @@ arrays_kept m (r ∷ rs) p = kept_trans (arrays_kept m rs p) (added_kept (made_a
 field_kept : (t : TypeId) (r : MadeFields) (x : Text × Place) → Kept r.state (made_field t r x).state
 field_kept t r x = by (is_some (type_named r.list x.0))
   where
-    by : (b : Bool) → Kept r.state (if b then record { state = note r.state (unless false x.1 302); list = r.list; whole = false } else record r { list = r.list ++ (x.0, t) ∷ [] }).state
+    by : (b : Bool) → Kept r.state (if b then record {
+      state = note r.state (unless false x.1 302);
+      list = r.list;
+      whole =
+          false;
+    } else record r { list = r.list ++ (x.0, t) ∷ [] }).state
     by true = note_kept r.state (unless false x.1 302)
     by false = kept_same r.state
 
@@ -76,13 +81,15 @@ mutual
   made_kept carried s view (channel t p) =
       kept_trans (made_kept true s view t)
       (kept_trans (note_kept (made true s view t).state (unless (not (has_object (made true s view t).state.forms (made true s view t).t)) (type_place t) 406))
-      (added_kept (note (made true s view t).state (unless (not (has_object (made true s view t).state.forms (made true s view t).t)) (type_place t) 406)) (channel_form (made true s view t).state.forms (made true s view t).t) p))
+      (added_kept (note (made true s view t).state (unless (not (has_object (made true s view t).state.forms (made true s view t).t)) (type_place t) 406))
+      (channel_form (made true s view t).state.forms (made true s view t).t) p))
   made_kept carried s view (array rs t p) =
       kept_trans (note_kept s (broken_ranges s.blocks.scopes view rs))
       (kept_trans (made_kept false (note s (broken_ranges s.blocks.scopes view rs)) view t)
       (arrays_kept (made false (note s (broken_ranges s.blocks.scopes view rs)) view t) (range_extents s.blocks.scopes view rs) p))
   made_kept carried s view (fields vs last p) =
-      kept_trans (items_kept view (fields_begun s) vs) (added_kept (made_items view (fields_begun s) vs).state (record_form (made_items view (fields_begun s) vs)) p)
+      kept_trans (items_kept view (fields_begun s) vs) (added_kept (made_items view (fields_begun s) vs).state
+      (record_form (made_items view (fields_begun s) vs)) p)
 
   pub items_kept : (view : List Level) (r : MadeFields) (vs : VarTrees) → Kept r.state (made_items view r vs).state
   items_kept view r no_vars = kept_same r.state
@@ -112,31 +119,44 @@ entry_sound false k b = tt
 
 -- ## Constants, types and variables
 
-const_walked : (s : State) (i : ℕ) (outer : List Level) (c : ConstItem) → i < length (held s) → Walked i s (const_state s i outer c) 0 (λ names n. passed names n c.name)
+const_walked : (s : State) (i : ℕ) (outer : List Level) (c : ConstItem) → i < length (held s) →
+    Walked i s (const_state s i outer c) 0 (λ names n. passed names n c.name)
 const_walked s i outer c b =
-    kept_then_walked b noted (declare_walked (note s (broken_constant s.blocks.scopes (here s.blocks.scopes i outer) c.value)) i (c.name, c.place) (constant_meaning (constant_value s.blocks.scopes (here s.blocks.scopes i outer) c.value)) (omega (arith, b, ap length noted.scopes)) good)
+    kept_then_walked b noted (declare_walked (note s (broken_constant s.blocks.scopes (here s.blocks.scopes i outer) c.value)) i (c.name, c.place)
+    (constant_meaning (constant_value s.blocks.scopes (here s.blocks.scopes i outer) c.value)) (omega (arith, b, ap length noted.scopes)) good)
   where
     noted : Kept s (note s (broken_constant s.blocks.scopes (here s.blocks.scopes i outer) c.value))
     noted = note_kept s (broken_constant s.blocks.scopes (here s.blocks.scopes i outer) c.value)
 
-    good : AreSound (note s (broken_constant s.blocks.scopes (here s.blocks.scopes i outer) c.value)).blocks → IsSound (note s (broken_constant s.blocks.scopes (here s.blocks.scopes i outer) c.value)).blocks (Some (constant_meaning (constant_value s.blocks.scopes (here s.blocks.scopes i outer) c.value)))
-    good r = constant_sound (note s (broken_constant s.blocks.scopes (here s.blocks.scopes i outer) c.value)).blocks (constant_value s.blocks.scopes (here s.blocks.scopes i outer) c.value) (constant_simple s.blocks.scopes (subst HoldSimpleConstants noted.scopes (sound_simple (note s (broken_constant s.blocks.scopes (here s.blocks.scopes i outer) c.value)).blocks r)) (here s.blocks.scopes i outer) c.value)
+    good : AreSound (note s (broken_constant s.blocks.scopes (here s.blocks.scopes i outer) c.value)).blocks →
+        IsSound (note s (broken_constant s.blocks.scopes (here s.blocks.scopes i outer) c.value)).blocks
+        (Some (constant_meaning (constant_value s.blocks.scopes (here s.blocks.scopes i outer) c.value)))
+    good r = constant_sound (note s (broken_constant s.blocks.scopes (here s.blocks.scopes i outer) c.value)).blocks
+        (constant_value s.blocks.scopes (here s.blocks.scopes i outer) c.value)
+        (constant_simple s.blocks.scopes
+        (subst HoldSimpleConstants noted.scopes (sound_simple (note s (broken_constant s.blocks.scopes (here s.blocks.scopes i outer) c.value)).blocks r))
+        (here s.blocks.scopes i outer) c.value)
 
-pub consts_walked : (s : State) (i : ℕ) (outer : List Level) (cs : List ConstItem) → i < length (held s) → Walked i s (consts_state s i outer cs) 0 (λ names n. passed_consts names n cs)
+pub consts_walked : (s : State) (i : ℕ) (outer : List Level) (cs : List ConstItem) → i < length (held s) →
+    Walked i s (consts_state s i outer cs) 0 (λ names n. passed_consts names n cs)
 consts_walked s i outer [] b = kept_walked b (kept_same s)
 consts_walked s i outer (c ∷ cs) b = walked_trans one (consts_walked (const_state s i outer c) i outer cs (omega (arith, b, one.count)))
   where
     one : Walked i s (const_state s i outer c) 0 (λ names n. passed names n c.name)
     one = const_walked s i outer c b
 
-type_walked : (s : State) (i : ℕ) (outer : List Level) (d : TypeItemTree) → i < length (held s) → Walked i s (type_state s i outer d) 0 (λ names n. passed names n d.name)
+type_walked : (s : State) (i : ℕ) (outer : List Level) (d : TypeItemTree) → i < length (held s) →
+    Walked i s (type_state s i outer d) 0 (λ names n. passed names n d.name)
 type_walked s i outer d b =
-    kept_then_walked b written (free_walked (made false s (here s.blocks.scopes i outer) d.form).state i (d.name, d.place) (type_meaning (made false s (here s.blocks.scopes i outer) d.form).t) (omega (arith, b, ap length written.scopes)) (type_sound (made false s (here s.blocks.scopes i outer) d.form).t))
+    kept_then_walked b written (free_walked (made false s (here s.blocks.scopes i outer) d.form).state i (d.name, d.place)
+    (type_meaning (made false s (here s.blocks.scopes i outer) d.form).t) (omega (arith, b, ap length written.scopes))
+    (type_sound (made false s (here s.blocks.scopes i outer) d.form).t))
   where
     written : Kept s (made false s (here s.blocks.scopes i outer) d.form).state
     written = made_kept false s (here s.blocks.scopes i outer) d.form
 
-pub types_walked : (s : State) (i : ℕ) (outer : List Level) (ds : List TypeItemTree) → i < length (held s) → Walked i s (types_state s i outer ds) 0 (λ names n. passed_types names n ds)
+pub types_walked : (s : State) (i : ℕ) (outer : List Level) (ds : List TypeItemTree) → i < length (held s) →
+    Walked i s (types_state s i outer ds) 0 (λ names n. passed_types names n ds)
 types_walked s i outer [] b = kept_walked b (kept_same s)
 types_walked s i outer (d ∷ ds) b = walked_trans one (types_walked (type_state s i outer d) i outer ds (omega (arith, b, one.count)))
   where
@@ -146,35 +166,44 @@ types_walked s i outer (d ∷ ds) b = walked_trans one (types_walked (type_state
 population_kept : (s : State) (n : ℕ) → Kept s (set_population s n)
 population_kept s n = record { scopes = refl; forms = begins_same s.forms; subs = subs_same s.blocks (set_population s n).blocks refl }
 
-pub populated_walked : (s : State) (i more : ℕ) (x : Text × Place) (m : Meaning) → i < length (held s) → ((c : Blocks) → IsSound c (Some m)) → Walked i s (populated s i more x m) 0 (λ names n. passed names n x.0)
+pub populated_walked : (s : State) (i more : ℕ) (x : Text × Place) (m : Meaning) → i < length (held s) → ((c : Blocks) → IsSound c (Some m)) →
+    Walked i s (populated s i more x m) 0 (λ names n. passed names n x.0)
 populated_walked s i more x m b good = by (passes_most s.blocks.population more)
   where
     counted : State
     counted = set_population s (most_processes (s.blocks.population + more))
 
     refused : Kept s (note (set_population s (most_processes (s.blocks.population + more))) (unless false x.1 424))
-    refused = kept_trans (population_kept s (most_processes (s.blocks.population + more))) (note_kept (set_population s (most_processes (s.blocks.population + more))) (unless false x.1 424))
+    refused = kept_trans (population_kept s (most_processes (s.blocks.population + more)))
+        (note_kept (set_population s (most_processes (s.blocks.population + more))) (unless false x.1 424))
 
     by : (t : Bool) → Walked i s
-        (if t then declare (note (set_population s (most_processes (s.blocks.population + more))) (unless false x.1 424)) i x Faulty else declare (set_population s (most_processes (s.blocks.population + more))) i x m) 0 (λ names n. passed names n x.0)
-    by true = kept_then_walked b refused (declare_walked (note (set_population s (most_processes (s.blocks.population + more))) (unless false x.1 424)) i x Faulty b (λ r. tt))
-    by false = kept_then_walked b (population_kept s (most_processes (s.blocks.population + more))) (free_walked (set_population s (most_processes (s.blocks.population + more))) i x m b good)
+        (if t then declare (note (set_population s (most_processes (s.blocks.population + more))) (unless false x.1 424)) i x Faulty else declare
+        (set_population s (most_processes (s.blocks.population + more))) i x m) 0 (λ names n. passed names n x.0)
+    by true = kept_then_walked b refused (declare_walked (note (set_population s (most_processes (s.blocks.population + more)))
+        (unless false x.1 424)) i x Faulty b (λ r. tt))
+    by false = kept_then_walked b (population_kept s (most_processes (s.blocks.population + more)))
+        (free_walked (set_population s (most_processes (s.blocks.population + more))) i x m b good)
 
-var_name_walked : (s : State) (i : ℕ) (t : Option TypeId) (x : Text × Place) → i < length (held s) → Walked i s (var_name_state s i t x) 0 (λ names n. passed names n x.0)
+var_name_walked : (s : State) (i : ℕ) (t : Option TypeId) (x : Text × Place) → i < length (held s) →
+    Walked i s (var_name_state s i t x) 0 (λ names n. passed names n x.0)
 var_name_walked s i t x b = by (is_some (meaning_in (scope_at s.blocks.scopes i) x.0))
   where
-    by : (r : Bool) → Walked i s (if r then declare s i x Faulty else populated s i (brought s.forms t) x (variable_meaning false t)) 0 (λ names n. passed names n x.0)
+    by : (r : Bool) → Walked i s (if r then
+        declare s i x Faulty else populated s i (brought s.forms t) x (variable_meaning false t)) 0 (λ names n. passed names n x.0)
     by true = declare_walked s i x Faulty b (λ r. tt)
     by false = populated_walked s i (brought s.forms t) x (variable_meaning false t) b (variable_sound false t)
 
-var_names_walked : (s : State) (i : ℕ) (t : Option TypeId) (xs : List (Text × Place)) → i < length (held s) → Walked i s (var_names_state s i t xs) 0 (λ names n. passed_names names n xs)
+var_names_walked : (s : State) (i : ℕ) (t : Option TypeId) (xs : List (Text × Place)) → i < length (held s) →
+    Walked i s (var_names_state s i t xs) 0 (λ names n. passed_names names n xs)
 var_names_walked s i t [] b = kept_walked b (kept_same s)
 var_names_walked s i t (x ∷ xs) b = walked_trans one (var_names_walked (var_name_state s i t x) i t xs (omega (arith, b, one.count)))
   where
     one : Walked i s (var_name_state s i t x) 0 (λ names n. passed names n x.0)
     one = var_name_walked s i t x b
 
-pub vars_walked : (owner : Owner) (s : State) (i : ℕ) (outer : List Level) (vs : VarTrees) → i < length (held s) → Walked i s (vars_state owner s i outer vs) 0 (λ names n. passed_vars names n vs)
+pub vars_walked : (owner : Owner) (s : State) (i : ℕ) (outer : List Level) (vs : VarTrees) → i < length (held s) →
+    Walked i s (vars_state owner s i outer vs) 0 (λ names n. passed_vars names n vs)
 vars_walked owner s i outer no_vars b = kept_walked b (kept_same s)
 vars_walked owner s i outer (more_vars (var_item xs t) vs) b =
     walked_trans one (vars_walked owner (var_state owner s i outer (var_item xs t)) i outer vs (omega (arith, b, one.count)))
@@ -182,37 +211,45 @@ vars_walked owner s i outer (more_vars (var_item xs t) vs) b =
     m : Made
     m = made false s (here s.blocks.scopes i outer) t
 
-    written : Kept s (note (made false s (here s.blocks.scopes i outer) t).state (owner_rules owner (made false s (here s.blocks.scopes i outer) t).state.forms (made false s (here s.blocks.scopes i outer) t).t (type_place t)))
+    written : Kept s (note (made false s (here s.blocks.scopes i outer) t).state (owner_rules owner (made false s (here s.blocks.scopes i outer) t).state.forms
+        (made false s (here s.blocks.scopes i outer) t).t (type_place t)))
     written =
         kept_trans (made_kept false s (here s.blocks.scopes i outer) t)
-        (note_kept (made false s (here s.blocks.scopes i outer) t).state (owner_rules owner (made false s (here s.blocks.scopes i outer) t).state.forms (made false s (here s.blocks.scopes i outer) t).t (type_place t)))
+        (note_kept (made false s (here s.blocks.scopes i outer) t).state (owner_rules owner (made false s (here s.blocks.scopes i outer) t).state.forms
+        (made false s (here s.blocks.scopes i outer) t).t (type_place t)))
 
     one : Walked i s (var_state owner s i outer (var_item xs t)) 0 (λ names n. passed_names names n xs)
-    one = kept_then_walked b written (var_names_walked _ i (owned_type owner (made false s (here s.blocks.scopes i outer) t).state.forms (made false s (here s.blocks.scopes i outer) t).t) xs (omega (arith, b, ap length written.scopes)))
+    one = kept_then_walked b written (var_names_walked _ i (owned_type owner (made false s (here s.blocks.scopes i outer) t).state.forms
+        (made false s (here s.blocks.scopes i outer) t).t) xs (omega (arith, b, ap length written.scopes)))
 
 -- ## Headings
 
-formals_walked : (i : ℕ) (reference : Bool) (t : Option TypeId) (h : Heading) (xs : List (Text × Place)) → i < length (held h.state) → Walked i h.state (formals_heading i reference t h xs).state 0 (λ names n. passed_names names n xs)
+formals_walked : (i : ℕ) (reference : Bool) (t : Option TypeId) (h : Heading) (xs : List (Text × Place)) → i < length (held h.state) →
+    Walked i h.state (formals_heading i reference t h xs).state 0 (λ names n. passed_names names n xs)
 formals_walked i reference t h [] b = kept_walked b (kept_same h.state)
 formals_walked i reference t h (x ∷ xs) b = walked_trans one (formals_walked i reference t (formal_heading i reference t h x) xs (omega (arith, b, one.count)))
   where
     one : Walked i h.state (declare h.state i x (variable_meaning reference t)) 0 (λ names n. passed names n x.0)
     one = free_walked h.state i x (variable_meaning reference t) b (variable_sound reference t)
 
-group_walked : (i : ℕ) (view : List Level) (h : Heading) (g : GroupTree) → i < length (held h.state) → Walked i h.state (group_viewed i view h g).state 0 (λ names n. passed_names names n g.names)
-group_walked i view h g b = kept_then_walked b noted (formals_walked i g.reference (group_type h.state view g) _ g.names (omega (arith, b, ap length noted.scopes)))
+group_walked : (i : ℕ) (view : List Level) (h : Heading) (g : GroupTree) → i < length (held h.state) →
+    Walked i h.state (group_viewed i view h g).state 0 (λ names n. passed_names names n g.names)
+group_walked i view h g b =
+    kept_then_walked b noted (formals_walked i g.reference (group_type h.state view g) _ g.names (omega (arith, b, ap length noted.scopes)))
   where
     noted : Kept h.state (note h.state (broken_group h.state view g))
     noted = note_kept h.state (broken_group h.state view g)
 
-pub groups_walked : (i : ℕ) (outer : List Level) (h : Heading) (gs : List GroupTree) → i < length (held h.state) → Walked i h.state (groups_heading i outer h gs).state 0 (λ names n. passed_groups names n gs)
+pub groups_walked : (i : ℕ) (outer : List Level) (h : Heading) (gs : List GroupTree) → i < length (held h.state) →
+    Walked i h.state (groups_heading i outer h gs).state 0 (λ names n. passed_groups names n gs)
 groups_walked i outer h [] b = kept_walked b (kept_same h.state)
 groups_walked i outer h (g ∷ gs) b = walked_trans one (groups_walked i outer (group_heading i outer h g) gs (omega (arith, b, one.count)))
   where
     one : Walked i h.state (group_heading i outer h g).state 0 (λ names n. passed_names names n g.names)
     one = group_walked i (here h.state.blocks.scopes i outer) h g b
 
-pub accept_groups_walked : (i : ℕ) (view : List Level) (h : Heading) (gs : List GroupTree) → i < length (held h.state) → Walked i h.state (accept_groups i view h gs).state 0 (λ names n. passed_groups names n gs)
+pub accept_groups_walked : (i : ℕ) (view : List Level) (h : Heading) (gs : List GroupTree) → i < length (held h.state) →
+    Walked i h.state (accept_groups i view h gs).state 0 (λ names n. passed_groups names n gs)
 accept_groups_walked i view h [] b = kept_walked b (kept_same h.state)
 accept_groups_walked i view h (g ∷ gs) b = walked_trans one (accept_groups_walked i view (group_viewed i view h g) gs (omega (arith, b, one.count)))
   where
@@ -223,7 +260,8 @@ accept_groups_walked i view h (g ∷ gs) b = walked_trans one (accept_groups_wal
 
 entry_formals_kept : (reference : Bool) (t : Option TypeId) (h : EntryHeading) (xs : List (Text × Place)) → Kept h.state (entry_formals reference t h xs).state
 entry_formals_kept reference t h [] = kept_same h.state
-entry_formals_kept reference t h (x ∷ xs) = kept_trans (note_kept h.state (unless (not (is_some (meaning_in h.own x.0))) x.1 302)) (entry_formals_kept reference t (entry_formal reference t h x) xs)
+entry_formals_kept reference t h (x ∷ xs) = kept_trans (note_kept h.state (unless (not (is_some (meaning_in h.own x.0))) x.1 302))
+    (entry_formals_kept reference t (entry_formal reference t h x) xs)
 
 entry_groups_kept : (view : List Level) (h : EntryHeading) (gs : List GroupTree) → Kept h.state (entry_groups view h gs).state
 entry_groups_kept view h [] = kept_same h.state
@@ -231,18 +269,23 @@ entry_groups_kept view h (g ∷ gs) =
     kept_trans (note_kept h.state (broken_group h.state view g))
     (kept_trans (entry_formals_kept g.reference (group_type h.state view g) _ g.names) (entry_groups_kept view (entry_group view h g) gs))
 
-entry_walked : (s : State) (i : ℕ) (outer : List Level) (k : ℕ) (e : EntryTree) → i < length (held s) → Walked i s (entry_state s i outer k e) 0 (λ names n. passed names n e.name)
-entry_walked s i outer k e b = kept_then_walked b added_entry (free_walked _ i (e.name, e.place) (entry_meaning h.whole k) (omega (arith, b, ap length added_entry.scopes)) (entry_sound h.whole k))
+entry_walked : (s : State) (i : ℕ) (outer : List Level) (k : ℕ) (e : EntryTree) → i < length (held s) →
+    Walked i s (entry_state s i outer k e) 0 (λ names n. passed names n e.name)
+entry_walked s i outer k e b =
+    kept_then_walked b added_entry (free_walked _ i (e.name, e.place) (entry_meaning h.whole k)
+    (omega (arith, b, ap length added_entry.scopes)) (entry_sound h.whole k))
   where
     h : EntryHeading
     h = entry_groups (here s.blocks.scopes i outer) (record { state = s; own = []; formals = []; whole = true }) e.formals
 
-    added_entry : Kept s (add_entry (entry_groups (here s.blocks.scopes i outer) (record { state = s; own = []; formals = []; whole = true }) e.formals).state (entry_groups (here s.blocks.scopes i outer) (record { state = s; own = []; formals = []; whole = true }) e.formals).formals)
+    added_entry : Kept s (add_entry (entry_groups (here s.blocks.scopes i outer) (record { state = s; own = []; formals = []; whole = true }) e.formals).state
+        (entry_groups (here s.blocks.scopes i outer) (record { state = s; own = []; formals = []; whole = true }) e.formals).formals)
     added_entry =
         kept_trans (entry_groups_kept (here s.blocks.scopes i outer) (record { state = s; own = []; formals = []; whole = true }) e.formals)
         (record { scopes = refl; forms = begins_same _; subs = subs_same _ _ refl })
 
-pub entries_walked : (s : State) (i : ℕ) (outer : List Level) (k : ℕ) (es : List EntryTree) → i < length (held s) → Walked i s (entries_state s i outer k es) 0 (λ names n. passed_entries names n es)
+pub entries_walked : (s : State) (i : ℕ) (outer : List Level) (k : ℕ) (es : List EntryTree) → i < length (held s) →
+    Walked i s (entries_state s i outer k es) 0 (λ names n. passed_entries names n es)
 entries_walked s i outer k [] b = kept_walked b (kept_same s)
 entries_walked s i outer k (e ∷ es) b = walked_trans one (entries_walked (entry_state s i outer k e) i outer (k + 1) es (omega (arith, b, one.count)))
   where
@@ -269,13 +312,15 @@ export_kept s (Some Faulty) p = kept_same s
 
 export_list_kept : (s : State) (i : ℕ) (xs : List (Text × Place)) → Kept s (export_list s i xs)
 export_list_kept s i [] = kept_same s
-export_list_kept s i (x ∷ xs) = kept_trans (export_kept s (meaning_in (scope_at s.blocks.scopes i) x.0) x.1) (export_list_kept (export_state s (meaning_in (scope_at s.blocks.scopes i) x.0) x.1) i xs)
+export_list_kept s i (x ∷ xs) = kept_trans (export_kept s (meaning_in (scope_at s.blocks.scopes i) x.0) x.1)
+    (export_list_kept (export_state s (meaning_in (scope_at s.blocks.scopes i) x.0) x.1) i xs)
 
 pub exports_kept : (s : State) (i : ℕ) (lists : List (List (Text × Place))) → Kept s (exports_state s i lists)
 exports_kept s i [] = kept_same s
 exports_kept s i (xs ∷ lists) = kept_trans (export_list_kept s i xs) (exports_kept (export_list s i xs) i lists)
 
-pub process_named_walked : (s : State) (i : ℕ) (many whole : Bool) (x : Text × Place) (n : ℕ) → i < length (held s) → Walked i s (process_named s i many whole x n) 0 (λ names m. passed names m x.0)
+pub process_named_walked : (s : State) (i : ℕ) (many whole : Bool) (x : Text × Place) (n : ℕ) → i < length (held s) →
+    Walked i s (process_named s i many whole x n) 0 (λ names m. passed names m x.0)
 process_named_walked s i many false x n b = declare_walked s i x Faulty b (λ r. tt)
 process_named_walked s i true true x n b =
     kept_then_walked b (add_form_kept s (AProcess n)) (declare_walked (add_form s (AProcess n)) i x (Named (record { place = length s.forms })) b (λ r. tt))

@@ -42,7 +42,10 @@ passed_parts names n (more_parts q qs) = passed_parts names (passed_part names n
 pub sub_named_walked :
     (s : State) (i : ℕ) (outer : List Level) (x : Text × Place) (gs : List GroupTree) (kind : KindTree) → i < length (held s)
     → Walked i (heading (open_scope s) (length (held s)) (here (held s) i outer) gs).state (sub_headed s i outer x gs kind) 0 (λ names n. passed names n x.0)
-sub_named_walked s i outer x gs kind b = kept_then_walked there added (declare_walked _ i x _ (omega (arith, there, ap length added.scopes)) (λ r. sub_sound (note h.state (broken_sort h.state view kind)).blocks head h.whole (length s.blocks.subs) (ap length (heading_subs s own around gs (broken_sort h.state view kind))) (heading_typed (open_scope s) own around gs)))
+sub_named_walked s i outer x gs kind b =
+    kept_then_walked there added (declare_walked _ i x _ (omega (arith, there, ap length added.scopes))
+    (λ r. sub_sound (note h.state (broken_sort h.state view kind)).blocks head h.whole (length s.blocks.subs)
+    (ap length (heading_subs s own around gs (broken_sort h.state view kind))) (heading_typed (open_scope s) own around gs)))
   where
     own : ℕ
     own = length s.blocks.scopes
@@ -63,7 +66,12 @@ sub_named_walked s i outer x gs kind b = kept_then_walked there added (declare_w
     there = omega (arith, b, (heading_opened s around gs).count)
 
     added : Kept h.state (add_sub (note h.state (broken_sort h.state view kind)) head)
-    added = kept_trans (note_kept h.state (broken_sort h.state view kind)) (record { scopes = refl; forms = begins_same _; subs = subs_push (note h.state (broken_sort h.state view kind)).blocks head })
+    added = kept_trans (note_kept h.state (broken_sort h.state view kind)) (record {
+      scopes = refl;
+      forms = begins_same _;
+      subs =
+          subs_push (note h.state (broken_sort h.state view kind)).blocks head;
+    })
 
 pub sub_headed_walked :
     (s : State) (i : ℕ) (outer : List Level) (x : Text × Place) (gs : List GroupTree) (kind : KindTree) → i < length (held s)
@@ -73,8 +81,10 @@ sub_headed_walked s i outer x gs kind b = opened_then_walked b (heading_opened s
 -- so is a process's
 pub process_named_behind :
     (s : State) (i : ℕ) (outer : List Level) (many : Bool) (x : Text × Place) (gs : List GroupTree) → i < length (held s)
-    → Walked i (heading (open_scope s) (length (held s)) (here (held s) i outer) gs).state (process_headed s i outer many x gs) 0 (λ names n. passed names n x.0)
-process_named_behind s i outer many x gs b = kept_then_walked there added (process_named_walked _ i many h.whole x _ (omega (arith, there, ap length added.scopes)))
+    → Walked i (heading (open_scope s) (length (held s)) (here (held s) i outer) gs).state
+    (process_headed s i outer many x gs) 0 (λ names n. passed names n x.0)
+process_named_behind s i outer many x gs b =
+    kept_then_walked there added (process_named_walked _ i many h.whole x _ (omega (arith, there, ap length added.scopes)))
   where
     own : ℕ
     own = length s.blocks.scopes
@@ -94,12 +104,14 @@ process_named_behind s i outer many x gs b = kept_then_walked there added (proce
 pub process_headed_walked :
     (s : State) (i : ℕ) (outer : List Level) (many : Bool) (x : Text × Place) (gs : List GroupTree) → i < length (held s)
     → Walked i s (process_headed s i outer many x gs) 1 (λ names n. passed names n x.0)
-process_headed_walked s i outer many x gs b = opened_then_walked b (heading_opened s (here s.blocks.scopes i outer) gs) (process_named_behind s i outer many x gs b)
+process_headed_walked s i outer many x gs b = opened_then_walked b (heading_opened s (here s.blocks.scopes i outer) gs)
+    (process_named_behind s i outer many x gs b)
 
 pub module_closed_walked :
     (is_resource : Bool) (s : State) (i own : ℕ) (x : Text × Place) (exports : List (List (Text × Place))) → i < length (held s)
     → Walked i s (module_closed is_resource s i own x exports) 0 (λ names n. passed names n x.0)
-module_closed_walked is_resource s i own x exports b = kept_then_walked b added (declare_walked _ i x (Module (length s.blocks.modules)) (omega (arith, b, ap length added.scopes)) (λ r. tt))
+module_closed_walked is_resource s i own x exports b =
+    kept_then_walked b added (declare_walked _ i x (Module (length s.blocks.modules)) (omega (arith, b, ap length added.scopes)) (λ r. tt))
   where
     added : Kept s (add_module (exports_state s own exports) (record { scope = own; resource = is_resource }))
     added = kept_trans (exports_kept s own exports) (record { scopes = refl; forms = begins_same _; subs = subs_same _ _ refl })
@@ -107,7 +119,8 @@ module_closed_walked is_resource s i own x exports b = kept_then_walked b added 
 -- ## Parts
 
 mutual
-  pub part_walked : (owner : Owner) (s : State) (i : ℕ) (outer : List Level) (q : PartTree) → i < length (held s) → Walked i s (part_state owner s i outer q) (part_scopes q) (λ names n. passed_part names n q)
+  pub part_walked : (owner : Owner) (s : State) (i : ℕ) (outer : List Level) (q : PartTree) → i < length (held s) →
+      Walked i s (part_state owner s i outer q) (part_scopes q) (λ names n. passed_part names n q)
   part_walked owner s i outer (consts items) b = consts_walked s i outer items b
   part_walked owner s i outer (types items) b = types_walked s i outer items b
   part_walked owner s i outer (vars vs) b = vars_walked owner s i outer vs b
@@ -116,12 +129,14 @@ mutual
   part_walked owner s i outer (resource m) b = module_walked true s i outer m b
   part_walked owner s i outer (process_part q) b = process_walked s i outer q b
 
-  pub parts_walked : (owner : Owner) (s : State) (i : ℕ) (outer : List Level) (qs : PartTrees) → i < length (held s) → Walked i s (parts_state owner s i outer qs) (parts_scopes qs) (λ names n. passed_parts names n qs)
+  pub parts_walked : (owner : Owner) (s : State) (i : ℕ) (outer : List Level) (qs : PartTrees) → i < length (held s) →
+      Walked i s (parts_state owner s i outer qs) (parts_scopes qs) (λ names n. passed_parts names n qs)
   parts_walked owner s i outer no_parts b = kept_walked b (kept_same s)
   parts_walked owner s i outer (more_parts q qs) b =
       let one = part_walked owner s i outer q b in walked_trans one (parts_walked owner (part_state owner s i outer q) i outer qs (omega (arith, b, one.count)))
 
-  sub_walked : (s : State) (i : ℕ) (outer : List Level) (q : SubTree) → i < length (held s) → Walked i s (sub_state s i outer q) (sub_scopes q) (λ names n. passed names n (sub_name q))
+  sub_walked : (s : State) (i : ℕ) (outer : List Level) (q : SubTree) → i < length (held s) →
+      Walked i s (sub_state s i outer q) (sub_scopes q) (λ names n. passed names n (sub_name q))
   sub_walked s i outer (sub x gs kind ps inside p) b =
       let own = length s.blocks.scopes in
       let headed = sub_headed s i outer (x, p) gs kind in
@@ -133,16 +148,19 @@ mutual
       walked_kept b (walked_opened b (walked_inner b first inner) (body_opened declared (here declared.blocks.scopes own around) inside))
       (note_kept done (cells_rule (scope_cells done.forms (scope_at done.blocks.scopes own) + result_cells kind) p))
 
-  module_walked : (is_resource : Bool) (s : State) (i : ℕ) (outer : List Level) (m : ModuleTree) → i < length (held s) → Walked i s (module_state is_resource s i outer m) (module_scopes m) (λ names n. passed names n (module_name m))
+  module_walked : (is_resource : Bool) (s : State) (i : ℕ) (outer : List Level) (m : ModuleTree) → i < length (held s) →
+      Walked i s (module_state is_resource s i outer m) (module_scopes m) (λ names n. passed names n (module_name m))
   module_walked is_resource s i outer (the_module x exports ps inside last p) b =
       let own = length s.blocks.scopes in
       let around = here s.blocks.scopes i outer in
       let declared = parts_state (module_owner is_resource) (open_scope s) own around ps in
       let begun = init_state declared (here declared.blocks.scopes own around) inside in
-      let opened = opened_trans (opened_inner (open_opened s) (parts_walked (module_owner is_resource) (open_scope s) own around ps (omega (arith, (open_opened s).count)))) (init_opened declared (here declared.blocks.scopes own around) inside) in
+      let opened = opened_trans (opened_inner (open_opened s) (parts_walked (module_owner is_resource) (open_scope s) own around ps
+      (omega (arith, (open_opened s).count)))) (init_opened declared (here declared.blocks.scopes own around) inside) in
       walked_count (opened_then_walked b opened (module_closed_walked is_resource begun i own (x, p) exports (omega (arith, b, opened.count)))) (omega arith)
 
-  process_walked : (s : State) (i : ℕ) (outer : List Level) (q : ProcessTree) → i < length (held s) → Walked i s (process_state s i outer q) (process_scopes q) (λ names n. passed names n (process_name q))
+  process_walked : (s : State) (i : ℕ) (outer : List Level) (q : ProcessTree) → i < length (held s) →
+      Walked i s (process_state s i outer q) (process_scopes q) (λ names n. passed names n (process_name q))
   process_walked s i outer (process many x gs es ps inside p) b =
       let own = length s.blocks.scopes in
       let headed = process_headed s i outer many (x, p) gs in
@@ -190,5 +208,6 @@ pub constants_simple : (t : ProgramTree) → HoldSimpleConstants (scopes_of t).s
 constants_simple t = sound_simple (scopes_of t) (scopes_sound t)
 
 -- in a tree a name is faulty exactly where it stands for nothing that is known
-pub names_faulty : (t : ProgramTree) (view : List Level) (x : Text) → is_faulty_found (scopes_of t) (found_in (scopes_of t).scopes view x) ≡ stands_faulty (look (scopes_of t).scopes view x)
+pub names_faulty : (t : ProgramTree) (view : List Level) (x : Text) →
+    is_faulty_found (scopes_of t) (found_in (scopes_of t).scopes view x) ≡ stands_faulty (look (scopes_of t).scopes view x)
 names_faulty t view x = sound_faulty (scopes_of t) (found_in (scopes_of t).scopes view x) (look_sound (scopes_of t) (scopes_sound t) view x)

@@ -40,18 +40,22 @@ labels_kept view r (c ∷ cs) =
 -- a scope of its own with the parameters of a heading
 pub heading_opened : (s : State) (view : List Level) (gs : List GroupTree) → Opened s (heading (open_scope s) (length s.blocks.scopes) view gs).state 1
 heading_opened s view gs =
-    opened_inner (open_opened s) (groups_walked (length s.blocks.scopes) view (record { state = open_scope s; formals = []; whole = true }) gs (omega (arith, (open_opened s).count)))
+    opened_inner (open_opened s) (groups_walked (length s.blocks.scopes) view (record { state = open_scope s; formals = []; whole = true }) gs
+    (omega (arith, (open_opened s).count)))
 
 -- a scope of its own with the parameters of an accept
-pub accept_heading_opened : (s : State) (view : List Level) (gs : List GroupTree) → Opened s (accept_heading (open_scope s) (length s.blocks.scopes) view gs).state 1
+pub accept_heading_opened : (s : State) (view : List Level) (gs : List GroupTree) →
+    Opened s (accept_heading (open_scope s) (length s.blocks.scopes) view gs).state 1
 accept_heading_opened s view gs =
-    opened_inner (open_opened s) (accept_groups_walked (length s.blocks.scopes) view (record { state = open_scope s; formals = []; whole = true }) gs (omega (arith, (open_opened s).count)))
+    opened_inner (open_opened s) (accept_groups_walked (length s.blocks.scopes) view (record { state = open_scope s; formals = []; whole = true }) gs
+    (omega (arith, (open_opened s).count)))
 
 pub accepted_opened : (s : State) (view : List Level) (x : Text) (gs : List GroupTree) (p : Place) → Opened s (accepted s view x gs p) 1
 accepted_opened s view x gs p =
     opened_kept (accept_heading_opened s view gs)
     (note_kept (accept_heading (open_scope s) (length s.blocks.scopes) view gs).state
-    (accept_rule (accept_heading (open_scope s) (length s.blocks.scopes) view gs).state.blocks (look s.blocks.scopes view x) (accept_heading (open_scope s) (length s.blocks.scopes) view gs).formals p))
+    (accept_rule (accept_heading (open_scope s) (length s.blocks.scopes) view gs).state.blocks (look s.blocks.scopes view x)
+    (accept_heading (open_scope s) (length s.blocks.scopes) view gs).formals p))
 
 -- ## Statements
 
@@ -94,7 +98,8 @@ mutual
   accept_opened : (s : State) (view : List Level) (a : AcceptTree) → Opened s (accept_state s view a) (accept_scopes a)
   accept_opened s view (accept x gs p) = accepted_opened s view x gs p
   accept_opened s view (accept_do x gs t p) =
-      opened_trans (accepted_opened s view x gs p) (stmt_opened (accepted s view x gs p) (here (accepted s view x gs p).blocks.scopes (length s.blocks.scopes) view) t)
+      opened_trans (accepted_opened s view x gs p)
+      (stmt_opened (accepted s view x gs p) (here (accepted s view x gs p).blocks.scopes (length s.blocks.scopes) view) t)
 
   pub alts_opened : (s : State) (view : List Level) (alts : AltTrees) → Opened s (alts_state s view alts) (alts_scopes alts)
   alts_opened s view no_alts = opened_same s

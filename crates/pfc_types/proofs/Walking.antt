@@ -51,13 +51,24 @@ pub kept_same : (s : State) → Kept s s
 kept_same s = record { scopes = refl; forms = begins_same s.forms; subs = subs_same s.blocks s.blocks refl }
 
 pub kept_trans : {s t u : State} → Kept s t → Kept t u → Kept s u
-kept_trans {s} {t} {u} h k = record { scopes = k.scopes ∙ h.scopes; forms = begins_trans s.forms t.forms u.forms h.forms k.forms; subs = subs_trans h.subs k.subs }
+kept_trans {s} {t} {u} h k = record {
+  scopes = k.scopes ∙ h.scopes;
+  forms =
+      begins_trans s.forms t.forms u.forms h.forms k.forms;
+  subs = subs_trans h.subs k.subs;
+}
 
 kept_sound : {s t : State} → Kept s t → AreSound s.blocks → AreSound t.blocks
-kept_sound {s} {t} h r j x = sound_grown h.subs (meaning_in (scope_at (held t) j) x) (subst (λ l. IsSound s.blocks (meaning_in (scope_at l j) x)) (sym h.scopes) (r j x))
+kept_sound {s} {t} h r j x =
+    sound_grown h.subs (meaning_in (scope_at (held t) j) x) (subst (λ l. IsSound s.blocks (meaning_in (scope_at l j) x)) (sym h.scopes) (r j x))
 
 pub kept_opened : {s t : State} → Kept s t → Opened s t 0
-kept_opened {s} {t} h = record { others = λ j l. ap (λ x. scope_at x j) h.scopes; count = ap length h.scopes ∙ plus (length (held s)); forms = h.forms; sound = kept_sound h }
+kept_opened {s} {t} h = record {
+  others = λ j l. ap (λ x. scope_at x j) h.scopes;
+  count = ap length h.scopes ∙ plus (length (held s));
+  forms = h.forms;
+  sound = kept_sound h;
+}
   where
     plus : (n : ℕ) → n ≡ n + 0
     plus n = omega arith
@@ -90,7 +101,15 @@ kept_then_opened {s} {t} {u} {k} h g = opened_count (opened_trans (kept_opened h
     plus n = omega arith
 
 pub walked_count : {i : ℕ} {s t : State} {k l : ℕ} {P : Names → ℕ → ℕ} → Walked i s t k P → k ≡ l → Walked i s t l P
-walked_count {s = s} h e = record { others = h.others; own = h.own; count = h.count ∙ ap (λ n. length (held s) + n) e; counts = h.counts; forms = h.forms; sound = h.sound }
+walked_count {s = s} h e = record {
+  others = h.others;
+  own = h.own;
+  count = h.count ∙ ap (λ n. length (held s) + n) e;
+  counts =
+      h.counts;
+  forms = h.forms;
+  sound = h.sound;
+}
 
 pub opened_walked : {i : ℕ} {s t : State} {k : ℕ} → i < length (held s) → Opened s t k → Walked i s t k nothing_passed
 opened_walked {i} {s} {t} {k} b h =
@@ -106,7 +125,8 @@ opened_walked {i} {s} {t} {k} b h =
 pub kept_walked : {i : ℕ} {s t : State} → i < length (held s) → Kept s t → Walked i s t 0 nothing_passed
 kept_walked b h = opened_walked b (kept_opened h)
 
-pub walked_trans : {i : ℕ} {s t u : State} {k l : ℕ} {P Q : Names → ℕ → ℕ} → Walked i s t k P → Walked i t u l Q → Walked i s u (k + l) (λ names n. Q names (P names n))
+pub walked_trans : {i : ℕ} {s t u : State} {k l : ℕ} {P Q : Names → ℕ → ℕ} → Walked i s t k P → Walked i t u l Q →
+    Walked i s u (k + l) (λ names n. Q names (P names n))
 walked_trans {i} {s} {t} {u} {k} {l} {P} {Q} h g =
     record {
       others = λ j b apart. g.others j (omega (arith, b, h.count)) apart ∙ h.others j b apart;
@@ -151,7 +171,8 @@ opened_inner {s} {t} {u} h g =
     apart : (j : ℕ) → j < length (held s) → j ≢ length (held s)
     apart j b e = absurd (omega (arith, b, e))
 
-pub walked_inner : {i : ℕ} {s t u : State} {k l : ℕ} {P Q : Names → ℕ → ℕ} → i < length (held s) → Walked i s t k P → Walked (length (held s)) t u l Q → Walked i s u (k + l) P
+pub walked_inner : {i : ℕ} {s t u : State} {k l : ℕ} {P Q : Names → ℕ → ℕ} → i < length (held s) → Walked i s t k P →
+    Walked (length (held s)) t u l Q → Walked i s u (k + l) P
 walked_inner {i} {s} {t} {u} {k} {l} {P} {Q} b h g =
     record {
       others = λ j c apart. g.others j (omega (arith, c, h.count)) (less j c) ∙ h.others j c apart;
@@ -192,7 +213,8 @@ open_opened s =
 
     by : AreSound s.blocks → (j : ℕ) (x : Text) (t : Bool) → nat_lt j (length (held s)) ≡ t → IsSound s.blocks (meaning_in (scope_at (held s ++ [] ∷ []) j) x)
     by r j x true h = subst (λ l. IsSound s.blocks (meaning_in l x)) (sym (get_or-append (held s) ([] ∷ []) [] j (lt_of j (length (held s)) h))) (r j x)
-    by r j x false h = subst (λ l. IsSound s.blocks (meaning_in l x)) (sym (get_or-append_right (held s) ([] ∷ []) j [] (le_of j (length (held s)) h) ∙ empty (j - length (held s)))) tt
+    by r j x false h = subst (λ l. IsSound s.blocks (meaning_in l x))
+        (sym (get_or-append_right (held s) ([] ∷ []) j [] (le_of j (length (held s)) h) ∙ empty (j - length (held s)))) tt
       where
         empty : (k : ℕ) → get_or {A = Names} ([] ∷ []) k [] ≡ []
         empty zero = refl
@@ -202,7 +224,8 @@ open_opened s =
 pub open_empty : (s : State) → scope_at (held (open_scope s)) (length (held s)) ≡ []
 open_empty s = get_or-append_seam (held s) [] [] []
 
-pub declare_walked : (s : State) (i : ℕ) (x : Text × Place) (m : Meaning) → i < length (held s) → (AreSound s.blocks → IsSound s.blocks (Some m)) → Walked i s (declare s i x m) 0 (λ names n. passed names n x.0)
+pub declare_walked : (s : State) (i : ℕ) (x : Text × Place) (m : Meaning) → i < length (held s) → (AreSound s.blocks → IsSound s.blocks (Some m)) →
+    Walked i s (declare s i x m) 0 (λ names n. passed names n x.0)
 declare_walked s i x m b good = by (is_some (meaning_in (scope_at (held s) i) x.0)) refl
   where
     plus : (n : ℕ) → n ≡ n + 0
@@ -220,7 +243,8 @@ declare_walked s i x m b good = by (is_some (meaning_in (scope_at (held s) i) x.
         no : true ≡ false → ⊥
         no y = cc
 
-    by : (t : Bool) → is_some (meaning_in (scope_at (held s) i) x.0) ≡ t → Walked i s (cond t (note s (unless false x.1 302)) (add_name s i x.0 m)) 0 (λ names n. passed names n x.0)
+    by : (t : Bool) → is_some (meaning_in (scope_at (held s) i) x.0) ≡ t →
+        Walked i s (cond t (note s (unless false x.1 302)) (add_name s i x.0 m)) 0 (λ names n. passed names n x.0)
     by true h =
         record {
           others = λ j l apart. refl;
@@ -247,8 +271,10 @@ declare_walked s i x m b good = by (is_some (meaning_in (scope_at (held s) i) x.
         at r j y true e =
             subst (λ l. IsSound s.blocks (meaning_in l y)) (sym (ap (λ k. scope_at (held (add_name s i x.0 m)) k) (eq_of j e) ∙ new))
             (sound_push s.blocks (scope_at (held s) i) x.0 y m (r i y) (good r))
-        at r j y false e = subst (λ l. IsSound s.blocks (meaning_in l y)) (sym (get_or-set_other (held s) i j (scope_at (held s) i ++ (x.0, m) ∷ []) [] (ne_of j e))) (r j y)
+        at r j y false e = subst (λ l. IsSound s.blocks (meaning_in l y))
+            (sym (get_or-set_other (held s) i j (scope_at (held s) i ++ (x.0, m) ∷ []) [] (ne_of j e))) (r j y)
 
 -- a name that is sound whatever the blocks hold
-pub free_walked : (s : State) (i : ℕ) (x : Text × Place) (m : Meaning) → i < length (held s) → ((b : Blocks) → IsSound b (Some m)) → Walked i s (declare s i x m) 0 (λ names n. passed names n x.0)
+pub free_walked : (s : State) (i : ℕ) (x : Text × Place) (m : Meaning) → i < length (held s) → ((b : Blocks) → IsSound b (Some m)) →
+    Walked i s (declare s i x m) 0 (λ names n. passed names n x.0)
 free_walked s i x m b good = declare_walked s i x m b (λ r. good s.blocks)

@@ -33,9 +33,11 @@ declare_subs s i x m = by (is_some (meaning_in (scope_at s.blocks.scopes i) x.0)
     by true = refl
     by false = refl
 
-formals_subs : (i : ℕ) (reference : Bool) (t : Option TypeId) (h : Heading) (xs : List (Text × Place)) → (formals_heading i reference t h xs).state.blocks.subs ≡ h.state.blocks.subs
+formals_subs : (i : ℕ) (reference : Bool) (t : Option TypeId) (h : Heading) (xs : List (Text × Place)) →
+    (formals_heading i reference t h xs).state.blocks.subs ≡ h.state.blocks.subs
 formals_subs i reference t h [] = refl
-formals_subs i reference t h (x ∷ xs) = formals_subs i reference t (formal_heading i reference t h x) xs ∙ declare_subs h.state i x (variable_meaning reference t)
+formals_subs i reference t h (x ∷ xs) = formals_subs i reference t (formal_heading i reference t h x) xs ∙
+    declare_subs h.state i x (variable_meaning reference t)
 
 groups_subs : (i : ℕ) (outer : List Level) (h : Heading) (gs : List GroupTree) → (groups_heading i outer h gs).state.blocks.subs ≡ h.state.blocks.subs
 groups_subs i outer h [] = refl
@@ -44,8 +46,10 @@ groups_subs i outer h (g ∷ gs) =
     ∙ formals_subs i g.reference (group_type h.state (here h.state.blocks.scopes i outer) g) _ g.names
     ∙ note_subs h.state (broken_group h.state (here h.state.blocks.scopes i outer) g)
 
-pub heading_subs : (s : State) (own : ℕ) (around : List Level) (gs : List GroupTree) (fs : Faults) → (note (heading (open_scope s) own around gs).state fs).blocks.subs ≡ s.blocks.subs
-heading_subs s own around gs fs = note_subs (heading (open_scope s) own around gs).state fs ∙ groups_subs own around (record { state = open_scope s; formals = []; whole = true }) gs
+pub heading_subs : (s : State) (own : ℕ) (around : List Level) (gs : List GroupTree) (fs : Faults) →
+    (note (heading (open_scope s) own around gs).state fs).blocks.subs ≡ s.blocks.subs
+heading_subs s own around gs fs = note_subs (heading (open_scope s) own around gs).state fs ∙
+    groups_subs own around (record { state = open_scope s; formals = []; whole = true }) gs
 
 -- ## A whole heading has types for all
 
@@ -62,7 +66,8 @@ typed_push (g ∷ fs) f = ap (λ x. is_some g.t && x) (typed_push fs f) ∙ by (
     by false b c = refl
 
 formals_typed :
-    (i : ℕ) (reference : Bool) (t : Option TypeId) (h : Heading) (xs : List (Text × Place)) → (h.whole ≡ true → (all_typed h.formals ≡ true) × (is_some t ≡ true))
+    (i : ℕ) (reference : Bool) (t : Option TypeId) (h : Heading) (xs : List (Text × Place)) →
+    (h.whole ≡ true → (all_typed h.formals ≡ true) × (is_some t ≡ true))
     → (formals_heading i reference t h xs).whole ≡ true → all_typed (formals_heading i reference t h xs).formals ≡ true
 formals_typed i reference t h [] known w = (known w).0
 formals_typed i reference t h (x ∷ xs) known w = formals_typed i reference t (formal_heading i reference t h x) xs next w
@@ -71,10 +76,14 @@ formals_typed i reference t h (x ∷ xs) known w = formals_typed i reference t (
     fresh = not (is_some (meaning_in (scope_at h.state.blocks.scopes i) x.0))
 
     next : (h.whole && fresh) ≡ true → (all_typed (h.formals ++ record { t = t; reference = reference } ∷ []) ≡ true) × (is_some t ≡ true)
-    next e =
-        (typed_push h.formals (record { t = t; reference = reference }) ∙ ap₂ (λ a b. a && b) (known (and-left h.whole fresh e)).0 (known (and-left h.whole fresh e)).1, (known (and-left h.whole fresh e)).1)
+    next e = (
+      typed_push h.formals (record { t = t; reference = reference }) ∙
+          ap₂ (λ a b. a && b) (known (and-left h.whole fresh e)).0 (known (and-left h.whole fresh e)).1,
+      (known (and-left h.whole fresh e)).1,
+    )
 
-groups_typed : (i : ℕ) (outer : List Level) (h : Heading) (gs : List GroupTree) → (h.whole ≡ true → all_typed h.formals ≡ true) → (groups_heading i outer h gs).whole ≡ true → all_typed (groups_heading i outer h gs).formals ≡ true
+groups_typed : (i : ℕ) (outer : List Level) (h : Heading) (gs : List GroupTree) → (h.whole ≡ true → all_typed h.formals ≡ true) →
+    (groups_heading i outer h gs).whole ≡ true → all_typed (groups_heading i outer h gs).formals ≡ true
 groups_typed i outer h [] known w = known w
 groups_typed i outer h (g ∷ gs) known w = groups_typed i outer (group_heading i outer h g) gs (λ e. formals_typed i g.reference t _ g.names next e) w
   where
@@ -84,19 +93,24 @@ groups_typed i outer h (g ∷ gs) known w = groups_typed i outer (group_heading 
     next : (h.whole && is_some t) ≡ true → (all_typed h.formals ≡ true) × (is_some t ≡ true)
     next e = (known (and-left h.whole (is_some t) e), and-right h.whole (is_some t) e)
 
-pub heading_typed : (s : State) (own : ℕ) (around : List Level) (gs : List GroupTree) → (heading s own around gs).whole ≡ true → all_typed (heading s own around gs).formals ≡ true
+pub heading_typed : (s : State) (own : ℕ) (around : List Level) (gs : List GroupTree) → (heading s own around gs).whole ≡ true →
+    all_typed (heading s own around gs).formals ≡ true
 heading_typed s own around gs = groups_typed own around (record { state = s; formals = []; whole = true }) gs (λ e. refl)
 
 -- ## The name of a sub
 
 -- the sub with number n, which is added last
-pub sub_sound : (b : Blocks) (head : SubHead) (whole : Bool) (n : ℕ) → length b.subs ≡ n → (whole ≡ true → all_typed head.formals ≡ true) → IsSound (with_sub b head) (Some (sub_meaning (whole && whole_sort head.sort) n))
+pub sub_sound : (b : Blocks) (head : SubHead) (whole : Bool) (n : ℕ) → length b.subs ≡ n → (whole ≡ true → all_typed head.formals ≡ true) →
+    IsSound (with_sub b head) (Some (sub_meaning (whole && whole_sort head.sort) n))
 sub_sound b head whole n count known = by (whole && whole_sort head.sort) refl
   where
     at : sub_at (with_sub b head) n ≡ head
     at = ap (sub_at (with_sub b head)) (sym count) ∙ get_or-append_seam b.subs head [] no_sub
 
     by : (w : Bool) → (whole && whole_sort head.sort) ≡ w → IsSound (with_sub b head) (Some (sub_meaning w n))
-    by true e =
-        (omega (arith, count, length-append b.subs (head ∷ [])), ap is_whole_head at ∙ ap₂ (λ x y. x && y) (known (and-left whole (whole_sort head.sort) e)) (and-right whole (whole_sort head.sort) e))
+    by true e = (
+      omega (arith, count, length-append b.subs (head ∷ [])),
+      ap is_whole_head at ∙
+          ap₂ (λ x y. x && y) (known (and-left whole (whole_sort head.sort) e)) (and-right whole (whole_sort head.sort) e),
+    )
     by false e = tt

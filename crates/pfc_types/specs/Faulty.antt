@@ -51,6 +51,7 @@ IsMadeExactly s m uses = (m.t ≡ None) ↔ ((m.state.blocks.noted ≢ s.blocks.
 
 -- Of constants, of types and of groups of parameters as they are written in some state.
 pub record AreWrittenExactly (s : State) (view : List Level) : Type 0 where
-  pub constants : (c : Constant) → IsFaultyExactly (constant_value s.blocks.scopes view c) (broken_constant s.blocks.scopes view c) (constant_uses_faulty s.blocks.scopes view c)
+  pub constants : (c : Constant) → IsFaultyExactly (constant_value s.blocks.scopes view c) (broken_constant s.blocks.scopes view c)
+      (constant_uses_faulty s.blocks.scopes view c)
   pub types : (carried : Bool) (t : TypeTree) → IsMadeExactly s (made carried s view t) (type_uses_faulty s.blocks.scopes view t)
   pub groups : (g : GroupTree) → IsFaultyExactly (group_type s view g) (broken_group s view g) (group_uses_faulty s.blocks.scopes view g)

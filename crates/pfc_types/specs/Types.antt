@@ -63,7 +63,13 @@ most_processes n = min n 1024
 
 -- both together
 abbrev pub held_with : Held → Held → Held
-held_with a b = record { cells = a.cells + b.cells; processes = most_processes (a.processes + b.processes); conditions = a.conditions || b.conditions; shared = a.shared || b.shared }
+held_with a b = record {
+  cells = a.cells + b.cells;
+  processes = most_processes (a.processes + b.processes);
+  conditions =
+      a.conditions || b.conditions;
+  shared = a.shared || b.shared;
+}
 
 -- n times the same
 abbrev pub held_times : ℕ → Held → Held

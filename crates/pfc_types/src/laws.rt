@@ -35,7 +35,8 @@ pub fn first_concurrency_fault_is_first(tree: &Tree)
 pub fn an_expression_is_faulty_exactly()
     ensures parts { (env : Env) → BeginsPredeclared env.state.forms → AreFaultyExactly env }
     ensures table { (t : ProgramTree) → BeginsPredeclared (types_of t) }
-    ensures names { (t : ProgramTree) (view : List Level) (x : Text) → is_faulty_found (scopes_of t) (found_in (scopes_of t).scopes view x) ≡ stands_faulty (look (scopes_of t).scopes view x) }
+    ensures names { (t : ProgramTree) (view : List Level) (x : Text) →
+        is_faulty_found (scopes_of t) (found_in (scopes_of t).scopes view x) ≡ stands_faulty (look (scopes_of t).scopes view x) }
 {}
 
 /// A constant, a type and a group of parameters, as they are written, have no value and no type exactly where a rule is

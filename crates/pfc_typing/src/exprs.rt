@@ -120,7 +120,8 @@ fn indexed(es: &[Expr], t: Option<TypeId>, env: Env) -> Option<TypeId>
 /// there is none or it is faulty.
 #[cycle(exprs)]
 pub fn arguments(args: &[Actual], found: Option<Found>, env: Env) -> (bool, Option<TypeId>)
-    ensures fit { result.0 ≡ expressions.args_fit (env_view env.entry) (routines.called_function env.entry.scopes.now (scopes.meaning_of found)).wants (actuals_view args.now) }
+    ensures fit { result.0 ≡ expressions.args_fit (env_view env.entry) (routines.called_function env.entry.scopes.now
+        (scopes.meaning_of found)).wants (actuals_view args.now) }
     ensures first { result.1 ≡ expressions.first_type (env_view env.entry) (actuals_view args.now) }
 {
     let mut fit = true;

@@ -66,7 +66,8 @@ pub fn name_type(
     first: Option<TypeId>,
     env: Env,
 ) -> Option<TypeId>
-    ensures { result ≡ expressions.use_type (env_view env.entry) found alone bare part (fit && routines.site_fits env.entry.around (routines.called_function env.entry.scopes.now (scopes.meaning_of found)).site first) first }
+    ensures { result ≡ expressions.use_type (env_view env.entry) found alone bare part (fit && routines.site_fits env.entry.around
+        (routines.called_function env.entry.scopes.now (scopes.meaning_of found)).site first) first }
 {
     if alone {
         let callee = callee_of(found, true, env);

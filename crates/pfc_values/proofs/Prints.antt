@@ -71,7 +71,8 @@ behind_digits-none (b ∷ rest) h = go (is_digit b) h
 
 -- a number behind its sign
 unsigned_read : (negative : Bool) (ds rest : List ℕ) → 0 < length ds → digits ds ≡ ds → digits rest ≡ []
-    → unsigned_item negative (ds ++ rest) (digits (ds ++ rest)) ≡ read_to rest (fitting (if negative then neg_ℤ (pos (number_behind 0 ds)) else pos (number_behind 0 ds)))
+    → unsigned_item negative (ds ++ rest) (digits (ds ++ rest)) ≡ read_to rest (fitting (if negative then
+    neg_ℤ (pos (number_behind 0 ds)) else pos (number_behind 0 ds)))
 unsigned_read negative [] rest some h none = absurd (omega arith)
 unsigned_read negative (d ∷ ds) rest some h none =
     let front : digits ((d ∷ ds) ++ rest) ≡ d ∷ ds = digits-append (d ∷ ds) rest h ∙ ap (λ x. (d ∷ ds) ++ x) none ∙ append-nil (d ∷ ds) in
@@ -89,7 +90,8 @@ digit_plain : (d : ℕ) → is_digit d ≡ true → IsPlain d
 digit_plain d h = record { blank = grind (arith, nat_tests); plus = grind (arith, nat_tests); minus = grind (arith, nat_tests) }
 
 -- a number without a sign
-plain_read : (ds rest : List ℕ) → 0 < length ds → digits ds ≡ ds → digits rest ≡ [] → integer_item (ds ++ rest) ≡ read_to rest (fitting (pos (number_behind 0 ds)))
+plain_read : (ds rest : List ℕ) → 0 < length ds → digits ds ≡ ds → digits rest ≡ [] →
+    integer_item (ds ++ rest) ≡ read_to rest (fitting (pos (number_behind 0 ds)))
 plain_read [] rest some h none = absurd (omega arith)
 plain_read (d ∷ ds) rest some h none =
     let p = digit_plain d (digits_parts d ds (is_digit d) h).0 in
@@ -99,7 +101,8 @@ plain_read (d ∷ ds) rest some h none =
     rw (blank, plus, minus) (unsigned_read false (d ∷ ds) rest some h none)
 
 -- a number behind `-`
-minus_read : (ds rest : List ℕ) → 0 < length ds → digits ds ≡ ds → digits rest ≡ [] → integer_item (45 ∷ (ds ++ rest)) ≡ read_to rest (fitting (neg_ℤ (pos (number_behind 0 ds))))
+minus_read : (ds rest : List ℕ) → 0 < length ds → digits ds ≡ ds → digits rest ≡ [] →
+    integer_item (45 ∷ (ds ++ rest)) ≡ read_to rest (fitting (neg_ℤ (pos (number_behind 0 ds))))
 minus_read ds rest some h none = unsigned_read true ds rest some h none
 
 -- an integer fits
@@ -107,14 +110,17 @@ fitted : (n : ℤ) (rest : List ℕ) → is_of Integer n ≡ true → read_to re
 fitted n rest is = ap (read_to rest) (cond-true (is_of Integer n) (Ok n) (Err Overflow) is)
 
 -- an integer as it prints
-signed_read : (n : ℤ) (rest : List ℕ) → is_of Integer n ≡ true → digits rest ≡ [] → integer_item (signed_decimal n ++ rest) ≡ Ok (record { value = n; left = rest })
+signed_read : (n : ℤ) (rest : List ℕ) → is_of Integer n ≡ true → digits rest ≡ [] →
+    integer_item (signed_decimal n ++ rest) ≡ Ok (record { value = n; left = rest })
 signed_read (pos n) rest is none =
     let bound : n < 2 ^ 64 = grind (arith, nat_tests) in
-    plain_read (decimal n) rest (decimal_nonempty n bound) (digits_decimal all_digits n bound) none ∙ ap (λ k. read_to rest (fitting (pos k))) (digits_value-decimal all_digits n bound)
+    plain_read (decimal n) rest (decimal_nonempty n bound) (digits_decimal all_digits n bound) none ∙
+    ap (λ k. read_to rest (fitting (pos k))) (digits_value-decimal all_digits n bound)
     ∙ fitted (pos n) rest is
 signed_read (negsuc n) rest is none =
     let bound : suc n < 2 ^ 64 = grind (arith, nat_tests) in
-    minus_read (decimal (suc n)) rest (decimal_nonempty (suc n) bound) (digits_decimal all_digits (suc n) bound) none ∙ ap (λ k. read_to rest (fitting (neg_ℤ (pos k)))) (digits_value-decimal all_digits (suc n) bound)
+    minus_read (decimal (suc n)) rest (decimal_nonempty (suc n) bound) (digits_decimal all_digits (suc n) bound) none ∙
+    ap (λ k. read_to rest (fitting (neg_ℤ (pos k)))) (digits_value-decimal all_digits (suc n) bound)
     ∙ fitted (negsuc n) rest is
 
 -- blanks before it are passed
@@ -129,7 +135,8 @@ put_is false bytes added h = cc
 -- what was put is read
 pub piece_read : (n : ℤ) (width : Option ℤ) (added rest : List ℕ) → is_of Integer n ≡ true → piece width (shown Integer n) ≡ Ok added
     → digits rest ≡ [] → item Integer (added ++ rest) ≡ Ok (record { value = n; left = rest })
-piece_read n None added rest is put none = let same : signed_decimal n ≡ added = cc in ap (λ x. integer_item (x ++ rest)) (sym same) ∙ signed_read n rest is none
+piece_read n None added rest is put none = let same : signed_decimal n ≡ added =
+    cc in ap (λ x. integer_item (x ++ rest)) (sym same) ∙ signed_read n rest is none
 piece_read n (Some w) added rest is put none =
     let blanks : List ℕ = blanks_for (unsigned_abs w) (signed_decimal n) in
     let same : blanks ++ signed_decimal n ≡ added = put_is (is_width w) (blanks ++ signed_decimal n) added put in

@@ -24,5 +24,6 @@ number_behind-min n m bound bytes e = go (cases_lt n bound)
 pub number_more : (digits : List ℕ) (i value next bound : ℕ) → i < length digits → next ≡ min (value * 10 + (get_or digits i 0 - 48)) bound
     → min (number_behind next (drop (i + 1) digits)) bound ≡ min (number_behind value (drop i digits)) bound
 number_more digits i value next bound h e =
-    let later : number_behind value (drop i digits) ≡ number_behind (value * 10 + (get_or digits i 0 - 48)) (drop (i + 1) digits) = at_drop_more (number_behind value) digits i 0 h in
+    let later : number_behind value (drop i digits) ≡ number_behind (value * 10 + (get_or digits i 0 - 48)) (drop (i + 1) digits) =
+    at_drop_more (number_behind value) digits i 0 h in
     number_behind-min (value * 10 + (get_or digits i 0 - 48)) next bound (drop (i + 1) digits) e ∙ ap (λ k. min k bound) (sym later)

@@ -21,7 +21,8 @@ use Rattle.pfc_views.proofs.Links.{linked_is_kept}
 some_same : {A : Type 0} (x y : A) → Some x ≡ Some y → x ≡ y
 some_same x y h = cc
 
-module _ (g : Program) (keeps : ℕ → Bool) (homes homes' : Homes) (entries entries' : Entries) (store store' : Store) (like : IsLike g keeps homes homes' entries entries' store store') where
+module _ (g : Program) (keeps : ℕ → Bool) (homes homes' : Homes) (entries entries' : Entries) (store store' : Store)
+    (like : IsLike g keeps homes homes' entries entries' store store') where
   pub lies_still : (l : Location) (t : Option TypeId) (r : Ref) → Lies g homes l t r → Lies g homes' l t r
   lies_still l t r h =
       let is = h.is in
@@ -54,7 +55,8 @@ module _ (g : Program) (keeps : ℕ → Bool) (homes homes' : Homes) (entries en
   linked_still w [] h = tt
   linked_still w (a ∷ chain) h = (kept_still w a h.0, linked_still (get_or h.0.entry.own link_place (pos 0)) chain h.1)
 
-  module _ (display : Display) (b : Block) (accepts : List ℕ) (w : ℤ) (chain : List ℕ) (view : View) (sees : Sees g homes entries store keeps display b accepts w chain view) where
+  module _ (display : Display) (b : Block) (accepts : List ℕ) (w : ℤ) (chain : List ℕ) (view : View)
+      (sees : Sees g homes entries store keeps display b accepts w chain view) where
     -- an activation that static links lead to is kept, and has its home in both
     home_still : (l a : ℕ) (home : Home) → slice_get chain l ≡ Some a → homes' a ≡ Some home → homes a ≡ Some home
     home_still l a home there at =
@@ -96,9 +98,11 @@ module _ (g : Program) (keeps : ℕ → Bool) (homes homes' : Homes) (entries en
           refers = h.refers;
           target = λ t is. (
               let old = h.target t is in
-              let there : slice_get (layout_at g h.home) (own_location display v).variable ≡ Some (Variable t true) = ap₂ (λ xs k. slice_get xs k) h.layout h.place ∙ laid ∙ ap Some is in
+              let there : slice_get (layout_at g h.home) (own_location display v).variable ≡ Some (Variable t true) =
+              ap₂ (λ xs k. slice_get xs k) h.layout h.place ∙ laid ∙ ap Some is in
               let same : variable store' (own_location display v) ≡ variable store (own_location display v) =
-              like.references (frame_of display v.scope).activation (own_location display v).variable h.home t (is_kept (links_to (block_site g b) v.scope) _ h.linked) h.at there in
+              like.references (frame_of display v.scope).activation (own_location display v).variable h.home t
+              (is_kept (links_to (block_site g b) v.scope) _ h.linked) h.at there in
               (old.0, old.1, same ∙ old.2, old.3, lies_still old.0 (Some t) old.1 old.4, old.5));
         }
 
@@ -109,6 +113,7 @@ module _ (g : Program) (keeps : ℕ → Bool) (homes homes' : Homes) (entries en
           links = linked_still w chain sees.links;
           firsts = λ l a home there at. sees.firsts l a home there (home_still l a home there at);
           cells = λ l d reached. (let old = sees.cells l d reached in (old.0, old.1, cell_still old.0 d old.2, old.3));
-          references = λ l d reached refers. (let old = sees.references l d reached refers in (old.0, old.1, reference_still l old.0 d (view.held l d) old.1 old.2));
+          references = λ l d reached refers. (let old =
+              sees.references l d reached refers in (old.0, old.1, reference_still l old.0 d (view.held l d) old.1 old.2));
           names = λ v meaning known own laid is. named_still v meaning laid (sees.names v meaning known own laid is);
         }

@@ -27,12 +27,14 @@ head_same x a chain h = cc
 
 module _ (homes : Homes) (entries : Entries) (keeps : ℕ → Bool) where
   -- an activation that static links lead to is kept, and lives
-  pub linked_is_kept : (w : ℤ) (chain : List ℕ) (l a : ℕ) → AreLinked homes entries keeps w chain → slice_get chain l ≡ Some a → (v : ℤ) × IsKept homes entries keeps v a
+  pub linked_is_kept : (w : ℤ) (chain : List ℕ) (l a : ℕ) → AreLinked homes entries keeps w chain → slice_get chain l ≡ Some a →
+      (v : ℤ) × IsKept homes entries keeps v a
   linked_is_kept w [] l a h there = absurd (cc)
   linked_is_kept w (x ∷ chain) zero a h there = (w, subst (λ (y : ℕ). IsKept homes entries keeps w y) (head_same x a chain there) h.0)
   linked_is_kept w (x ∷ chain) (suc l) a h there = linked_is_kept (get_or h.0.entry.own link_place (pos 0)) chain l a h.1 there
 
-module _ (g : Program) (homes : Homes) (entries : Entries) (store : Store) (keeps : ℕ → Bool) (stacks : Stacks) (memory : MemoryIs g homes entries store stacks) (few : (q : ℕ) → length (cells_of stacks q) < 2 ^ 32) where
+module _ (g : Program) (homes : Homes) (entries : Entries) (store : Store) (keeps : ℕ → Bool) (stacks : Stacks) (memory : MemoryIs g homes entries store stacks)
+    (few : (q : ℕ) → length (cells_of stacks q) < 2 ^ 32) where
   -- the cell of the static link
   pub link_is : (w : ℤ) (a : ℕ) (is : IsKept homes entries keeps w a) → link_at stacks w ≡ get_or is.entry.own link_place (pos 0)
   link_is w a is =
@@ -50,7 +52,8 @@ module _ (g : Program) (homes : Homes) (entries : Entries) (store : Store) (keep
       ∙ get_or-append-add own.before (is.entry.own ++ own.after) link_place (pos 0)
       ∙ get_or_append_left is.entry.own own.after (pos 0) link_place inside
 
-  pub links_lead : (w : ℤ) (chain : List ℕ) (l a : ℕ) (home : Home) → AreLinked homes entries keeps w chain → slice_get chain l ≡ Some a → homes a ≡ Some home → links_up stacks l w ≡ word_of (own_place home)
+  pub links_lead : (w : ℤ) (chain : List ℕ) (l a : ℕ) (home : Home) → AreLinked homes entries keeps w chain → slice_get chain l ≡ Some a → homes a ≡ Some home →
+      links_up stacks l w ≡ word_of (own_place home)
   links_lead w [] l a home h there at = absurd (cc)
   links_lead w (x ∷ chain) zero a home h there at =
       let one : x ≡ a = cc in

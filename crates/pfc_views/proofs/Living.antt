@@ -23,7 +23,8 @@ pub record Living (a : ℕ) (entries : List Entry) : Type 0 where
 pub is_living : (a : ℕ) (entries : List Entry) → IsAmong a entries → Living a entries
 is_living a [] h = absurd h
 is_living a (e ∷ below) (inl h) = record { entry = e; living = latest below; number = h }
-is_living a (e ∷ below) (inr h) = (let inner = is_living a below h in record { entry = inner.entry; living = earlier e below inner.living; number = inner.number })
+is_living a (e ∷ below) (inr h) =
+    (let inner = is_living a below h in record { entry = inner.entry; living = earlier e below inner.living; number = inner.number })
 
 some_same : {A : Type 0} (x y : A) → Some x ≡ Some y → x ≡ y
 some_same x y h = cc
@@ -41,7 +42,8 @@ pub record OwnCells (q : ℕ) (e : Entry) (home : Home) (cells : List ℤ) : Typ
   pub reads : cells ≡ before ++ (e.own ++ after)
 
 module _ (g : Program) (homes : Homes) (store : Store) (q : ℕ) where
-  own_on_top : (e : Entry) (home : Home) (lower cells : List ℤ) → homes e.activation ≡ Some home → StandsOver g homes store q e lower cells → OwnCells q e home cells
+  own_on_top : (e : Entry) (home : Home) (lower cells : List ℤ) → homes e.activation ≡ Some home →
+      StandsOver g homes store q e lower cells → OwnCells q e home cells
   own_on_top e home lower cells at h =
       let one : h.home ≡ home = some_same h.home home (sym h.at ∙ at) in
       record {
@@ -53,7 +55,8 @@ module _ (g : Program) (homes : Homes) (store : Store) (q : ℕ) where
         reads = h.is;
       }
 
-  own_below : (e top : Entry) (home : Home) (lower cells : List ℤ) → OwnCells q e home lower → StandsOver g homes store q top lower cells → OwnCells q e home cells
+  own_below : (e top : Entry) (home : Home) (lower cells : List ℤ) → OwnCells q e home lower →
+      StandsOver g homes store q top lower cells → OwnCells q e home cells
   own_below e top home lower cells inner h =
       record {
         before = inner.before;
@@ -65,11 +68,13 @@ module _ (g : Program) (homes : Homes) (store : Store) (q : ℕ) where
             ∙ ap (λ l. inner.before ++ l) (append_assoc e.own inner.after (top.own ++ h.block));
       }
 
-  own_among : (e : Entry) (home : Home) (entries : List Entry) (cells : List ℤ) → homes e.activation ≡ Some home → CellsAre g homes store q entries cells → IsLiving e entries → OwnCells q e home cells
+  own_among : (e : Entry) (home : Home) (entries : List Entry) (cells : List ℤ) → homes e.activation ≡ Some home → CellsAre g homes store q entries cells →
+      IsLiving e entries → OwnCells q e home cells
   own_among e home _ cells at h (latest below) = own_on_top e home h.0 cells at h.2
   own_among e home _ cells at h (earlier other below there) = own_below e other home h.0 cells (own_among e home below h.0 at h.1 there) h.2
 
-  own_in_process : (e : Entry) (home : Home) (entries : List Entry) (cells : List ℤ) → homes e.activation ≡ Some home → ProcessIs g homes store q entries cells → IsLiving e entries → OwnCells q e home cells
+  own_in_process : (e : Entry) (home : Home) (entries : List Entry) (cells : List ℤ) → homes e.activation ≡ Some home →
+      ProcessIs g homes store q entries cells → IsLiving e entries → OwnCells q e home cells
   own_in_process e home [] cells at h there = absurd (nobody e there)
   own_in_process e home (x ∷ below) cells at h there = own_among e home (x ∷ below) cells at h there
 

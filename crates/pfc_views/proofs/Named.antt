@@ -41,12 +41,15 @@ no_pointer forms (Some t) _ (is_record u fields vs form of) l e = cc
 behind : (r : Ref) (n k : ℕ) → word_of r ≡ pos n → pos (n + k) ≡ word_of (record r { cell = r.cell + k })
 behind r n k h = (let same : r.process * 2 ^ 32 + r.cell ≡ n = cc in ap pos (omega (arith, same)))
 
-module _ (g : Program) (sound : AreCounted g.state.forms) (homes : Homes) (entries : Entries) (store : Store) (keeps : ℕ → Bool) (display : Display) (b : Block) (accepts : List ℕ) (w : ℤ) (chain : List ℕ) (view : View) (stacks : Stacks) (memory : MemoryIs g homes entries store stacks) (sees : Sees g homes entries store keeps display b accepts w chain view) where
+module _ (g : Program) (sound : AreCounted g.state.forms) (homes : Homes) (entries : Entries) (store : Store) (keeps : ℕ → Bool) (display : Display) (b : Block)
+    (accepts : List ℕ) (w : ℤ) (chain : List ℕ) (view : View) (stacks : Stacks) (memory : MemoryIs g homes entries store stacks)
+    (sees : Sees g homes entries store keeps display b accepts w chain view) where
   abbrev whole : Spot → Spot
   whole v = record v { selectors = [] }
 
   -- a part of the variable at a location
-  lies_behind : (l : Location) (t u : Option TypeId) (r : Ref) (ss : List Selector) (behind : ℕ) → Lies g homes l t r → IsPath g.state.forms t (path_of ss) u behind → Lies g homes (inside l ss) u (record r { cell = r.cell + behind })
+  lies_behind : (l : Location) (t u : Option TypeId) (r : Ref) (ss : List Selector) (behind : ℕ) → Lies g homes l t r →
+      IsPath g.state.forms t (path_of ss) u behind → Lies g homes (inside l ss) u (record r { cell = r.cell + behind })
   lies_behind l t u r ss behind h path =
       let is = h.is in
       record {
@@ -58,7 +61,8 @@ module _ (g : Program) (sound : AreCounted g.state.forms) (homes : Homes) (entri
           laid = is.laid;
           variable = is.variable;
           own = is.own;
-          path = subst (λ (p : List ℕ). IsPath g.state.forms (laid_type is.meaning) p u (h.behind + behind)) (sym (path_of_joined l.selectors ss)) (path_joined g.state.forms is.path path);
+          path = subst (λ (p : List ℕ). IsPath g.state.forms (laid_type is.meaning) p u (h.behind + behind)) (sym (path_of_joined l.selectors ss))
+              (path_joined g.state.forms is.path path);
         };
         place = ap (λ (x : Ref). record x { cell = x.cell + behind }) h.place ∙ ap (λ c. record { process = h.home.process; cell = c }) (omega arith);
       }
@@ -71,12 +75,21 @@ module _ (g : Program) (sound : AreCounted g.state.forms) (homes : Homes) (entri
     kept : keeps (located store display (whole v)).activation ≡ true
     further : located store display v ≡ inside (located store display (whole v)) v.selectors
 
-  own_of_named : (v : Spot) (meaning : Meaning) → IsNamed g homes store keeps display b chain view (whole v) meaning → (x : ℤ) × IsKept homes entries keeps x (frame_of display v.scope).activation
-  own_of_named v meaning is = linked_is_kept homes entries keeps w chain (links_to (block_site g b) v.scope) (frame_of display v.scope).activation sees.links is.linked
+  own_of_named : (v : Spot) (meaning : Meaning) → IsNamed g homes store keeps display b chain view (whole v) meaning → (x : ℤ) ×
+      IsKept homes entries keeps x (frame_of display v.scope).activation
+  own_of_named v meaning is = linked_is_kept homes entries keeps w chain (links_to (block_site g b) v.scope)
+      (frame_of display v.scope).activation sees.links is.linked
 
   -- one that is no reference parameter lies in its own cells
-  own_lies : (v : Spot) (meaning : Meaning) (t : Option TypeId) → slice_get (layout_with (block_site g b) v.scope) (place_of (block_site g b) (whole v)) ≡ Some meaning → is_laid meaning ≡ true → t ≡ laid_type meaning → is_reference meaning ≡ false
-      → (is : IsNamed g homes store keeps display b chain view (whole v) meaning) → Lies g homes (own_location display (whole v)) t (record { process = is.home.process; cell = is.home.cell + own_cells + cells_before g.state.forms (layout_at g is.home) (own_location display (whole v)).variable + 0 })
+  own_lies : (v : Spot) (meaning : Meaning) (t : Option TypeId) →
+      slice_get (layout_with (block_site g b) v.scope) (place_of (block_site g b) (whole v)) ≡ Some meaning → is_laid meaning ≡ true →
+      t ≡ laid_type meaning → is_reference meaning ≡ false
+      → (is : IsNamed g homes store keeps display b chain view (whole v) meaning) →
+      Lies g homes (own_location display (whole v)) t (record {
+        process = is.home.process;
+        cell =
+            is.home.cell + own_cells + cells_before g.state.forms (layout_at g is.home) (own_location display (whole v)).variable + 0;
+      })
   own_lies v meaning t laid variable typed own is =
       record {
         home = is.home;
@@ -93,27 +106,38 @@ module _ (g : Program) (sound : AreCounted g.state.forms) (homes : Homes) (entri
       }
 
   -- its value is of its type, so it points nowhere
-  own_value : (v : Spot) (meaning : Meaning) (t : Option TypeId) → slice_get (layout_with (block_site g b) v.scope) (place_of (block_site g b) (whole v)) ≡ Some meaning → is_laid meaning ≡ true → t ≡ laid_type meaning → is_reference meaning ≡ false
+  own_value : (v : Spot) (meaning : Meaning) (t : Option TypeId) →
+      slice_get (layout_with (block_site g b) v.scope) (place_of (block_site g b) (whole v)) ≡ Some meaning → is_laid meaning ≡ true →
+      t ≡ laid_type meaning → is_reference meaning ≡ false
       → (is : IsNamed g homes store keeps display b chain view (whole v) meaning) → Fits g.state.forms t (variable store (own_location display (whole v)))
   own_value v meaning t laid variable typed own is =
       let kept = own_of_named v meaning is in
-      let living : Lives entries (frame_of display v.scope).activation = subst (λ (a : ℕ). Lives entries a) kept.1.number (lives entries kept.1.process kept.1.entry kept.1.living) in
+      let living : Lives entries (frame_of display v.scope).activation =
+      subst (λ (a : ℕ). Lives entries a) kept.1.number (lives entries kept.1.process kept.1.entry kept.1.living) in
       fits g sound homes entries store stacks (own_location display (whole v)) t _ memory living (own_lies v meaning t laid variable typed own is)
 
-  whole_own : (v : Spot) (meaning : Meaning) (t : Option TypeId) → slice_get (layout_with (block_site g b) v.scope) (place_of (block_site g b) (whole v)) ≡ Some meaning → is_laid meaning ≡ true → t ≡ laid_type meaning → is_reference meaning ≡ false
+  whole_own : (v : Spot) (meaning : Meaning) (t : Option TypeId) →
+      slice_get (layout_with (block_site g b) v.scope) (place_of (block_site g b) (whole v)) ≡ Some meaning → is_laid meaning ≡ true →
+      t ≡ laid_type meaning → is_reference meaning ≡ false
       → IsNamed g homes store keeps display b chain view (whole v) meaning → Whole v t
   whole_own v meaning t laid variable typed own is =
       let nowhere = no_pointer g.state.forms t _ (own_value v meaning t laid variable typed own is) in
       let at : located store display (whole v) ≡ own_location display (whole v) = reached_within _ _ [] nowhere in
       let further : located store display v ≡ inside (own_location display (whole v)) v.selectors = reached_within _ _ v.selectors nowhere in
-      let refers_not : refers (block_site g b) (whole v) ≡ false = ap is_reference (get_or_from_slice_get (layout_with (block_site g b) v.scope) (place_of (block_site g b) (whole v)) meaning Faulty laid) ∙ own in
+      let refers_not : refers (block_site g b) (whole v) ≡ false =
+      ap is_reference (get_or_from_slice_get (layout_with (block_site g b) v.scope) (place_of (block_site g b) (whole v)) meaning Faulty laid) ∙ own in
       let first : view.first (links_to (block_site g b) v.scope) ≡ first_number is.home = sees.firsts _ _ is.home is.linked is.at in
       let kept = own_of_named v meaning is in
       let word : first_word view (block_site g b) (whole v) ≡ view.first (links_to (block_site g b) v.scope) + cell_of (block_site g b) (whole v) =
-      ap (λ (r : Bool). if r then view.held (links_to (block_site g b) v.scope) (cell_of (block_site g b) (whole v)) else view.first (links_to (block_site g b) v.scope) + cell_of (block_site g b) (whole v)) refers_not in
+      ap (λ (r : Bool). if r then view.held (links_to (block_site g b) v.scope) (cell_of (block_site g b) (whole v)) else view.first
+      (links_to (block_site g b) v.scope) + cell_of (block_site g b) (whole v)) refers_not in
       let cells : cells_before g.state.forms (layout_at g is.home) (own_location display (whole v)).variable ≡ cell_of (block_site g b) (whole v) =
       ap₂ (λ xs k. cells_before g.state.forms xs k) is.layout is.place in
-      let place : Ref = record { process = is.home.process; cell = is.home.cell + own_cells + cells_before g.state.forms (layout_at g is.home) (own_location display (whole v)).variable + 0 } in
+      let place : Ref = record {
+        process = is.home.process;
+        cell = is.home.cell + own_cells + cells_before g.state.forms (layout_at g is.home)
+            (own_location display (whole v)).variable + 0;
+      } in
       record {
         place = place;
         lies = subst (λ (l : Location). Lies g homes l t place) (sym at) (own_lies v meaning t laid variable typed own is);
@@ -128,11 +152,14 @@ module _ (g : Program) (sound : AreCounted g.state.forms) (homes : Homes) (entri
   whole_lent v u laid is =
       let target = is.target u refl in
       let at : located store display (whole v) ≡ inside target.0 [] = ap (λ (x : Value). reached x (own_location display (whole v)) []) target.2 in
-      let further : located store display v ≡ inside target.0 v.selectors = ap (λ (x : Value). reached x (own_location display (whole v)) v.selectors) target.2 in
+      let further : located store display v ≡ inside target.0 v.selectors =
+      ap (λ (x : Value). reached x (own_location display (whole v)) v.selectors) target.2 in
       let again : inside target.0 [] ≡ target.0 = ap (λ (ss : List Selector). record target.0 { selectors = ss }) (append-nil target.0.selectors) in
-      let refers_so : refers (block_site g b) (whole v) ≡ true = ap is_reference (get_or_from_slice_get (layout_with (block_site g b) v.scope) (place_of (block_site g b) (whole v)) (Variable u true) Faulty laid) in
+      let refers_so : refers (block_site g b) (whole v) ≡ true =
+      ap is_reference (get_or_from_slice_get (layout_with (block_site g b) v.scope) (place_of (block_site g b) (whole v)) (Variable u true) Faulty laid) in
       let word : first_word view (block_site g b) (whole v) ≡ view.held (links_to (block_site g b) v.scope) (cell_of (block_site g b) (whole v)) =
-      ap (λ (r : Bool). if r then view.held (links_to (block_site g b) v.scope) (cell_of (block_site g b) (whole v)) else view.first (links_to (block_site g b) v.scope) + cell_of (block_site g b) (whole v)) refers_so in
+      ap (λ (r : Bool). if r then view.held (links_to (block_site g b) v.scope) (cell_of (block_site g b) (whole v)) else view.first
+      (links_to (block_site g b) v.scope) + cell_of (block_site g b) (whole v)) refers_so in
       record {
         place = target.1;
         lies = subst (λ (l : Location). Lies g homes l (Some u) target.1) (sym (at ∙ again)) target.4;
@@ -141,14 +168,16 @@ module _ (g : Program) (sound : AreCounted g.state.forms) (homes : Homes) (entri
         further = further ∙ ap (λ (l : Location). inside l v.selectors) (sym (at ∙ again));
       }
 
-  whole_of : (v : Spot) (meaning : Meaning) (t : Option TypeId) → slice_get (layout_with (block_site g b) v.scope) (place_of (block_site g b) (whole v)) ≡ Some meaning → is_laid meaning ≡ true → t ≡ laid_type meaning
+  whole_of : (v : Spot) (meaning : Meaning) (t : Option TypeId) →
+      slice_get (layout_with (block_site g b) v.scope) (place_of (block_site g b) (whole v)) ≡ Some meaning → is_laid meaning ≡ true → t ≡ laid_type meaning
       → IsNamed g homes store keeps display b chain view (whole v) meaning → Whole v t
   whole_of v (Variable u true) t laid variable typed is = subst (λ (x : Option TypeId). Whole v x) (sym typed) (whole_lent v u laid is)
   whole_of v (Variable u false) t laid variable typed is = whole_own v (Variable u false) t laid variable typed refl is
   whole_of v (Process n) t laid variable typed is = whole_own v (Process n) t laid variable typed refl is
   whole_of v meaning t laid variable typed is = absurd (cc)
 
-  pub lies_in_view : (env : Env) (line : ℕ) (v : Spot) (t : Option TypeId) (word : ℤ) → AreKnown g b accepts env → IsWord view (record { program = g; block = b; env = env; line = line }) v t word → LiesAt g homes store keeps display v t word
+  pub lies_in_view : (env : Env) (line : ℕ) (v : Spot) (t : Option TypeId) (word : ℤ) → AreKnown g b accepts env →
+      IsWord view (record { program = g; block = b; env = env; line = line }) v t word → LiesAt g homes store keeps display v t word
   lies_in_view env line v t word known h =
       let d = h.declared in
       let named = sees.names (whole v) d.meaning (known v.scope d.seen) d.own d.laid d.variable in

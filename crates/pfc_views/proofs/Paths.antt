@@ -9,7 +9,8 @@ module _ (forms : Forms) where
   path_at : {t : Option TypeId} {path : List ℕ} {u : Option TypeId} {o p : ℕ} → o ≡ p → IsPath forms t path u o → IsPath forms t path u p
   path_at {t} {path} {u} e h = subst (λ n. IsPath forms t path u n) e h
 
-  pub path_joined : {t : Option TypeId} {path : List ℕ} {u : Option TypeId} {o : ℕ} {more : List ℕ} {v : Option TypeId} {p : ℕ} → IsPath forms t path u o → IsPath forms u more v p → IsPath forms t (path ++ more) v (o + p)
+  pub path_joined : {t : Option TypeId} {path : List ℕ} {u : Option TypeId} {o : ℕ} {more : List ℕ} {v : Option TypeId} {p : ℕ} → IsPath forms t path u o →
+      IsPath forms u more v p → IsPath forms t (path ++ more) v (o + p)
   path_joined (here t) h = path_at (omega arith) h
   path_joined (into_element t over element u low high i path o form below rest) h =
       path_at (omega arith) (into_element t over element _ low high i _ _ form below (path_joined rest h))

@@ -86,7 +86,8 @@ block_site g b = record { program = g; block = b; env = b.env; line = 0 }
 
 -- The variable that a spot names belongs to the activation so many static links up, and has that place in its block; a reference parameter stands for a
 -- location of an activation that is kept, where the view has it.
-pub record IsNamed (g : Program) (homes : Homes) (store : Store) (keeps : ℕ → Bool) (display : Display) (b : Block) (chain : List ℕ) (view : View) (v : Spot) (meaning : Meaning) : Type 0 where
+pub record IsNamed (g : Program) (homes : Homes) (store : Store) (keeps : ℕ → Bool) (display : Display) (b : Block) (chain : List ℕ) (view : View)
+    (v : Spot) (meaning : Meaning) : Type 0 where
   pub linked : slice_get chain (links_to (block_site g b) v.scope) ≡ Some (frame_of display v.scope).activation
   pub home : Home
   pub at : homes (frame_of display v.scope).activation ≡ Some home
@@ -102,7 +103,8 @@ pub record IsNamed (g : Program) (homes : Homes) (store : Store) (keeps : ℕ �
 
 -- An activation of block b whose first own cell has the word w, in which the parameters of these accepts are in view, sees this. It keeps
 -- some activations: these do not end before it does.
-pub record Sees (g : Program) (homes : Homes) (entries : Entries) (store : Store) (keeps : ℕ → Bool) (display : Display) (b : Block) (accepts : List ℕ) (w : ℤ) (chain : List ℕ) (view : View) : Type 0 where
+pub record Sees (g : Program) (homes : Homes) (entries : Entries) (store : Store) (keeps : ℕ → Bool) (display : Display) (b : Block) (accepts : List ℕ) (w : ℤ)
+    (chain : List ℕ) (view : View) : Type 0 where
   pub live : (a : ℕ) → keeps a ≡ true → Lives entries a
   pub links : AreLinked homes entries keeps w chain
   pub firsts : (l a : ℕ) (home : Home) → slice_get chain l ≡ Some a → homes a ≡ Some home → view.first l ≡ first_number home

@@ -67,7 +67,8 @@ other_objects source s mid c p a n table counts monitors before is acted table_i
     record {
       hand = before.hand;
       there = subst (λ (ys : List Activity). IsIn ys p a) (sym same) before.there;
-      activities = before.activities ∙ ap (λ (ys : List Activity). set (activities_shown source.program.tables ys) p (shown_before source a n before.hand)) (sym same);
+      activities = before.activities ∙
+          ap (λ (ys : List Activity). set (activities_shown source.program.tables ys) p (shown_before source a n before.hand)) (sym same);
       agrees = record {
         table = table_is;
         counts = counts_is;

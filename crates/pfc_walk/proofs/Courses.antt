@@ -186,7 +186,8 @@ module _ (tree : ProgramTree) (settings : Settings) where
   course_of told limit picking state ending old new most picks course =
       subst (λ (f : Run). IsCourse told (program_of tree) settings.limit f from state ending old new) (sym (run_is tree settings))
       (subst
-      (λ (p : Picking). IsCourse told (program_of tree) settings.limit (run_from (program_of tree) settings.limit settings.limit p from) from state ending old new)
+      (λ (p : Picking). IsCourse told (program_of tree) settings.limit
+      (run_from (program_of tree) settings.limit settings.limit p from) from state ending old new)
       picks
       (subst (λ (n : ℕ). IsCourse told (program_of tree) n (run_from (program_of tree) n n picking from) from state ending old new) most course))
 
@@ -218,7 +219,8 @@ module _ (tree : ProgramTree) (held : HeldProgram) (state : tables_view held.tab
   pub program_is :
       (values : List HeldValue) (objects : HeldObjects)
       → blocks_view held.tables held.modules.items ≡ (program_of tree).modules → block_view held.tables held.main ≡ (program_of tree).main
-      → held.resource_ends.items ≡ (program_of tree).resource_ends → main_objects held.tables.types.now held.tables.scopes.now ≡ numbered_variables values objects
+      → held.resource_ends.items ≡ (program_of tree).resource_ends →
+      main_objects held.tables.types.now held.tables.scopes.now ≡ numbered_variables values objects
       → program_with (record { program = held; objects = objects }) (values_view values) ≡ program_of tree
   program_is values objects modules main ends numbered =
       let p : Program = program_of tree in

@@ -32,7 +32,8 @@ pub meant : (t : ProgramTree) (s : Settings) → whole_meaning.run t s ≡ told_
 unfolding whole_meaning
 meant t s = refl
 
-pub run_is : (t : ProgramTree) (s : Settings) → run_of t s ≡ run_from (program_of t) s.limit s.limit (first_picking s.policy) (start (program_of t) s.input s.seed)
+pub run_is : (t : ProgramTree) (s : Settings) →
+    run_of t s ≡ run_from (program_of t) s.limit s.limit (first_picking s.policy) (start (program_of t) s.input s.seed)
 unfolding run_of
 run_is t s = refl
 
@@ -44,7 +45,8 @@ imaged t = refl
 pub report_same :
     (ending : Ending) (standings : List Standing) (open_line : Bool) (i : PlainImage) (processes : List ProcessInfo) → i.processes ≡ processes
     → report_text ending standings i open_line ≡ report_text ending standings (labelled_image processes) open_line
-report_same ending standings open_line i processes same = ap (λ (ps : List ProcessInfo). report_text ending standings (record i { processes = ps }) open_line) same
+report_same ending standings open_line i processes same =
+    ap (λ (ps : List ProcessInfo). report_text ending standings (record i { processes = ps }) open_line) same
 
 -- the report of a run that the walker came to the end of
 pub reported :

@@ -26,7 +26,8 @@ use Rattle.pfc_walk.specs.declared.replies.Stop.TheVariants.{WriteFailed, Memory
 -- ## Two pieces, one behind the other
 
 -- the second was not written whole
-pub second_cut : (old mid new : Option (List ℕ)) (first rest : List ℕ) → Appends old mid first → AppendsFront mid new rest → AppendsFront old new (first ++ rest)
+pub second_cut : (old mid new : Option (List ℕ)) (first rest : List ℕ) → Appends old mid first →
+    AppendsFront mid new rest → AppendsFront old new (first ++ rest)
 second_cut old mid new first rest whole front = AppendsFront-after old mid new first rest whole front
 
 -- ## Stops
@@ -129,12 +130,14 @@ module _ (files : List File) (asked : Asked) (loaded : Loaded) (are : AreLoaded 
   same_listing : listing_written loaded_request loaded.text ≡ listing_by files asked
   same_listing = ap₂ (λ (r : Request) (x : List ℕ). listing_written r x) (sym request_is) (sym are.text)
 
-  told_up : (shown : Shown) (outcome : Outcome) → IsToldOfText shown whole_meaning loaded.text loaded_request outcome → IsToldOf shown whole_meaning asked files outcome
+  told_up : (shown : Shown) (outcome : Outcome) → IsToldOfText shown whole_meaning loaded.text loaded_request outcome →
+      IsToldOf shown whole_meaning asked files outcome
   told_up shown outcome is =
       told_through shown (listing_written loaded_request loaded.text) (listing_by files asked) (IsOutcomeOfText whole_meaning loaded.text loaded_request)
       (IsOutcomeOf whole_meaning asked files) same_listing files_up outcome is
 
-  told_down : (shown : Shown) (outcome : Outcome) → IsToldOf shown whole_meaning asked files outcome → IsToldOfText shown whole_meaning loaded.text loaded_request outcome
+  told_down : (shown : Shown) (outcome : Outcome) → IsToldOf shown whole_meaning asked files outcome →
+      IsToldOfText shown whole_meaning loaded.text loaded_request outcome
   told_down shown outcome is =
       told_through shown (listing_by files asked) (listing_written loaded_request loaded.text) (IsOutcomeOf whole_meaning asked files)
       (IsOutcomeOfText whole_meaning loaded.text loaded_request) (sym same_listing) files_down outcome is
@@ -171,7 +174,8 @@ other_status n these (Err stop) h = tt
 
 -- a call that was answered or stopped has none of these
 pub none_of :
-    (n : ℕ) → (n ≡ 2) ⊎ (n ≡ 6) ⊎ (n ≡ 9) → (reply : Result ℕ Stop) → IfOk reply (λ status. IsAnswerToText status) → (status : ℕ) → status ≡ ended reply → status ≡ n → ⊥
+    (n : ℕ) → (n ≡ 2) ⊎ (n ≡ 6) ⊎ (n ≡ 9) → (reply : Result ℕ Stop) → IfOk reply (λ status. IsAnswerToText status) →
+    (status : ℕ) → status ≡ ended reply → status ≡ n → ⊥
 none_of n these (Ok m) h status same is = omega (arith, these, h, same, is)
 none_of n these (Err WriteFailed) h status same is = omega (arith, these, same, is)
 none_of n these (Err Memory) h status same is = omega (arith, these, same, is)

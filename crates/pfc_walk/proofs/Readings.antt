@@ -39,7 +39,8 @@ tokens_read ts tree (Ok c) written level same sound =
     subst (λ (t : Tree). AreRead ts (tree_view t)) (sym same) (record { written = written; level = level; sound = sound })
 tokens_read ts tree (Err why) written level same sound = tt
 
-pub text_read : (text : List ℕ) (ts us : List Token) (end : Place) (tree : ProgramTree) → IsCut text (tokens ts end) → us ≡ ts → AreRead us tree → IsRead text tree
+pub text_read : (text : List ℕ) (ts us : List Token) (end : Place) (tree : ProgramTree) → IsCut text (tokens ts end) →
+    us ≡ ts → AreRead us tree → IsRead text tree
 text_read text ts us end tree cut same are = record { ts = ts; end = end; cut = cut; read = subst (λ (x : List Token). AreRead x tree) same are }
 
 -- ## Refusals
@@ -80,11 +81,13 @@ static_refusal tree r broken = λ request. static_fault r broken refl
 
 -- a syntax fault refuses tokens
 pub syntax_refused :
-    (ts : List Token) (end : Place) (code i : ℕ) (why : Unread) → why ≡ Refused (syntax_refusal ts end code i) → IsSyntaxFault (symbols ts) code i → AreUnread ts end why
+    (ts : List Token) (end : Place) (code i : ℕ) (why : Unread) → why ≡ Refused (syntax_refusal ts end code i) →
+    IsSyntaxFault (symbols ts) code i → AreUnread ts end why
 syntax_refused ts end code i why same fault =
     subst (λ (w : Unread). AreUnread ts end w) (sym same) (λ request. syntax_fault code i fault refl)
 
-pub refused_for : (is : Request → Outcome → Type 0) (why : Unread) (r : Refusal) → why ≡ Refused r → RefusedFor is why → (request : Request) → is request (refused r)
+pub refused_for : (is : Request → Outcome → Type 0) (why : Unread) (r : Refusal) → why ≡ Refused r → RefusedFor is why →
+    (request : Request) → is request (refused r)
 refused_for is why r same h = subst (λ (w : Unread). RefusedFor is w) same h
 
 -- ## The outcome of a text
@@ -96,7 +99,8 @@ pub listed_outcome :
 listed_outcome text request outcome is = record { unlisted = outcome; is = is; listed = refl }
 
 -- no code text stands before it
-without_code : (m : Meaning) (tree : ProgramTree) (request : Request) (outcome : Outcome) → request.code ≡ false → behind (code_written m tree request) outcome ≡ outcome
+without_code : (m : Meaning) (tree : ProgramTree) (request : Request) (outcome : Outcome) → request.code ≡ false →
+    behind (code_written m tree request) outcome ≡ outcome
 without_code m tree request outcome none = ap (λ b. behind (if b then code_text (m.image tree) else []) outcome) none
 
 -- a program that is run

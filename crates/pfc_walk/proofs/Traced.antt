@@ -58,7 +58,8 @@ raced_under : (heading : List ℕ) (tree : ProgramTree) (request : Request) (pol
     → behind heading (under_shown Races tree request policy) ≡ raced (behind heading (run_under whole_meaning tree request policy))
 raced_under heading tree request (Ok policy) =
     let o : Outcome = run_under whole_meaning tree request (Ok policy) in
-    ap (λ (bytes : List ℕ). (let x : Outcome = record o { bytes = bytes } in x)) (sym (append_assoc heading o.bytes (races_by tree (settings_of request policy))))
+    ap (λ (bytes : List ℕ). (let x : Outcome = record o { bytes = bytes } in x))
+    (sym (append_assoc heading o.bytes (races_by tree (settings_of request policy))))
 raced_under heading tree request (Err item) = refl
 
 pub told_program :
@@ -100,7 +101,8 @@ module _ (shown : Shown) (listing : List ℕ) (tree : ProgramTree) (settings : S
   bytes_are : told_first.bytes ++ races_shown shown tree settings ≡ whole.bytes
   bytes_are = at shown
     where
-      at : (s : Shown) → (behind listing (run_told (told_in s) tree settings)).bytes ++ races_shown s tree settings ≡ (behind listing (run_shown s tree settings)).bytes
+      at : (s : Shown) → (behind listing (run_told (told_in s) tree settings)).bytes ++ races_shown s tree settings ≡
+          (behind listing (run_shown s tree settings)).bytes
       at Output = append-nil (behind listing (run_shown Output tree settings)).bytes
       at Trace = append-nil (behind listing (run_shown Trace tree settings)).bytes
       at Races = append_assoc listing (run_shown Output tree settings).bytes (races_by tree settings)
@@ -118,7 +120,8 @@ module _ (shown : Shown) (listing : List ℕ) (tree : ProgramTree) (settings : S
     first_front front =
         subst (λ (bytes : List ℕ). AppendsFront old new bytes) bytes_are (AppendsFront-append old new told_first.bytes (races_shown shown tree settings) front)
 
-    pub second_front : (status : ℕ) → Gives told_first status old mid → AppendsFront mid new (races_shown shown tree settings) → AppendsFront old new whole.bytes
+    pub second_front : (status : ℕ) → Gives told_first status old mid →
+        AppendsFront mid new (races_shown shown tree settings) → AppendsFront old new whole.bytes
     second_front status first front =
         subst (λ (bytes : List ℕ). AppendsFront old new bytes) bytes_are
         (AppendsFront-after old mid new told_first.bytes (races_shown shown tree settings) first.written front)

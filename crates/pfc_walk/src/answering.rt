@@ -48,7 +48,8 @@ pub(crate) fn answer<O: Sink>(
     requires short { length loaded.now.text ≤ 262144 }
     requires codeless { options.now.code ≡ false }
     requires few { shown ≡ Shown.Races → options.now.limit ≤ most_watched }
-    ensures replies { Replies (IsToldOfText shown whole_meaning loaded.now.text (asks options.now loaded.now)) result (O.written sink.old) (O.written sink.new) }
+    ensures replies { Replies (IsToldOfText shown whole_meaning loaded.now.text (asks options.now loaded.now)) result
+        (O.written sink.old) (O.written sink.new) }
     ensures sound { IfOk result (λ status. IsAnswerToText status) }
     ensures cut { IsErrOf result Stop.WriteFailed → Rose (O.faults sink.old) (O.faults sink.new) }
 {
@@ -98,7 +99,8 @@ fn answer_sound<O: Sink>(
     sink: &mut O,
 ) -> Result<u8, Stop>
     requires { shown ≡ Shown.Races → options.now.limit ≤ most_watched }
-    ensures written { IsWritten (program_shown shown listing.now (tree_view sound.now.checked.0) (asks options.now loaded.now)) result (O.written sink.old) (O.written sink.new) }
+    ensures written { IsWritten (program_shown shown listing.now (tree_view sound.now.checked.0) (asks options.now loaded.now)) result
+        (O.written sink.old) (O.written sink.new) }
     ensures sound { IfOk result (λ status. IsAnswerToText status) }
     ensures cut { IsErrOf result Stop.WriteFailed → Rose (O.faults sink.old) (O.faults sink.new) }
 {
@@ -125,7 +127,8 @@ fn run_shown<O: Sink>(
 ) -> Result<u8, Stop>
     requires policy { policy_of (asks options.now loaded.now) ≡ Ok policy }
     requires few { shown ≡ Shown.Races → options.now.limit ≤ most_watched }
-    ensures written { IsWritten (behind listing.now (run_shown shown (tree_view sound.now.checked.0) (settings_of (asks options.now loaded.now) policy))) result (O.written sink.old) (O.written sink.new) }
+    ensures written { IsWritten (behind listing.now (run_shown shown (tree_view sound.now.checked.0) (settings_of (asks options.now loaded.now) policy))) result
+        (O.written sink.old) (O.written sink.new) }
     ensures sound { IfOk result (λ status. IsAnswerToText status) }
     ensures cut { IsErrOf result Stop.WriteFailed → Rose (O.faults sink.old) (O.faults sink.new) }
 {
@@ -156,9 +159,11 @@ fn tell_races<O: Sink>(
 ) -> Result<(), Stop>
     requires { shown ≡ Shown.Races → options.now.limit ≤ most_watched }
     ensures whole { (policy : Picks) → policy_of (asks options.now loaded.now) ≡ Ok policy
-        → IfOk result (λ done. Appends (O.written sink.old) (O.written sink.new) (races_shown shown (tree_view sound.now.checked.0) (settings_of (asks options.now loaded.now) policy))) }
+        → IfOk result (λ done. Appends (O.written sink.old) (O.written sink.new) (races_shown shown (tree_view sound.now.checked.0)
+        (settings_of (asks options.now loaded.now) policy))) }
     ensures front { (policy : Picks) → policy_of (asks options.now loaded.now) ≡ Ok policy
-        → IfErr result (λ stop. AppendsFront (O.written sink.old) (O.written sink.new) (races_shown shown (tree_view sound.now.checked.0) (settings_of (asks options.now loaded.now) policy))) }
+        → IfErr result (λ stop. AppendsFront (O.written sink.old) (O.written sink.new) (races_shown shown (tree_view sound.now.checked.0)
+        (settings_of (asks options.now loaded.now) policy))) }
     ensures cut { IsErrOf result Stop.WriteFailed → Rose (O.faults sink.old) (O.faults sink.new) }
 {
     if let Shown::Races = shown {
@@ -177,9 +182,11 @@ fn say_races<O: Sink>(
 ) -> Result<(), Stop>
     requires { options.now.limit ≤ most_watched }
     ensures whole { (policy : Picks) → policy_of (asks options.now loaded.now) ≡ Ok policy
-        → IfOk result (λ done. Appends (O.written sink.old) (O.written sink.new) (races_by (tree_view sound.now.checked.0) (settings_of (asks options.now loaded.now) policy))) }
+        → IfOk result (λ done. Appends (O.written sink.old) (O.written sink.new) (races_by (tree_view sound.now.checked.0)
+        (settings_of (asks options.now loaded.now) policy))) }
     ensures front { (policy : Picks) → policy_of (asks options.now loaded.now) ≡ Ok policy
-        → IfErr result (λ stop. AppendsFront (O.written sink.old) (O.written sink.new) (races_by (tree_view sound.now.checked.0) (settings_of (asks options.now loaded.now) policy))) }
+        → IfErr result (λ stop. AppendsFront (O.written sink.old) (O.written sink.new) (races_by (tree_view sound.now.checked.0)
+        (settings_of (asks options.now loaded.now) policy))) }
     ensures cut { IsErrOf result Stop.WriteFailed → Rose (O.faults sink.old) (O.faults sink.new) }
 {
     let Ok(policy) = policy(alloc, options, loaded) else {

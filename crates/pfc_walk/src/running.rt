@@ -50,7 +50,8 @@ pub(crate) fn run<O: Sink>(
     listing: &[u8],
     sink: &mut O,
 ) -> Result<u8, Stop>
-    ensures written { IsWritten (behind listing.now (run_told told (tree_view sound.now.checked.0) (settings_of (asks options.now loaded.now) policy))) result (O.written sink.old) (O.written sink.new) }
+    ensures written { IsWritten (behind listing.now (run_told told (tree_view sound.now.checked.0) (settings_of (asks options.now loaded.now) policy))) result
+        (O.written sink.old) (O.written sink.new) }
     ensures sound { IfOk result (λ status. IsAnswerToText status) }
     ensures cut { IsErrOf result Stop.WriteFailed → Rose (O.faults sink.old) (O.faults sink.new) }
     ensures faults { O.faults sink.old ≤ O.faults sink.new }
@@ -89,7 +90,8 @@ fn run_source<O: Sink>(
     sink: &mut O,
 ) -> Result<u8, Stop>
     requires { program_with source.now (values_view variables.items) ≡ program_of (tree_view sound.now.checked.0) }
-    ensures written { IsWritten (behind listing.now (run_told told (tree_view sound.now.checked.0) (settings_of (asks options.now loaded.now) policy))) result (O.written sink.old) (O.written sink.new) }
+    ensures written { IsWritten (behind listing.now (run_told told (tree_view sound.now.checked.0) (settings_of (asks options.now loaded.now) policy))) result
+        (O.written sink.old) (O.written sink.new) }
     ensures sound { IfOk result (λ status. IsAnswerToText status) }
     ensures cut { IsErrOf result Stop.WriteFailed → Rose (O.faults sink.old) (O.faults sink.new) }
     ensures faults { O.faults sink.old ≤ O.faults sink.new }

@@ -26,9 +26,11 @@ use Rattle.pfc_walker.specs.declared.telling.Told.TheVariants.{Output, Trace}
 use Rattle.pfc_walker.proofs.Joining.{goes_here, goes_twice, told_as, told_end, told_still, told_twice}
 
 -- a front of bytes and of the first of others is one of all of them
-front_of_more : (before after : Option (List ℕ)) (held bytes : List ℕ) (n : ℕ) → AppendsFront before after (held ++ take n bytes) → AppendsFront before after (held ++ bytes)
+front_of_more : (before after : Option (List ℕ)) (held bytes : List ℕ) (n : ℕ) → AppendsFront before after (held ++ take n bytes) →
+    AppendsFront before after (held ++ bytes)
 front_of_more before after held bytes n front =
-    subst (λ (x : List ℕ). AppendsFront before after x) (append_assoc held (take n bytes) (drop n bytes) ∙ ap (λ (x : List ℕ). held ++ x) (take-append-drop n bytes))
+    subst (λ (x : List ℕ). AppendsFront before after x) (append_assoc held (take n bytes) (drop n bytes) ∙
+    ap (λ (x : List ℕ). held ++ x) (take-append-drop n bytes))
     (AppendsFront-append before after (held ++ take n bytes) (drop n bytes) front)
 
 -- what was sent, what was held and what came behind it, of which some is held again

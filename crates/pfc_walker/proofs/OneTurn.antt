@@ -57,7 +57,8 @@ settled_fault c = either_fault (may_all_end (settled c.table).rows) (terminated_
 pub ends_in_fault : (d : Config) (f : FaultAt) → d.fault ≡ Some f → ending_at d ≡ Some (Fault f.process f.line f.fault)
 ends_in_fault d f e = ap (λ (x : Option FaultAt). ending_at (record d { fault = x })) e
 
-ends_sound : (d : Config) → d.fault ≡ None → ending_at d ≡ (if is_done (at d.table.rows 0) then Some Finished else if some_ready d.table.rows then None else Some Deadlock)
+ends_sound : (d : Config) → d.fault ≡ None → ending_at d ≡ (if is_done (at d.table.rows 0) then
+    Some Finished else if some_ready d.table.rows then None else Some Deadlock)
 ends_sound d e = ap (λ (x : Option FaultAt). ending_at (record d { fault = x })) e
 
 pub ends_finished : (d : Config) → d.fault ≡ None → is_done (at d.table.rows 0) ≡ true → ending_at d ≡ Some Finished
@@ -65,7 +66,8 @@ ends_finished d sound e =
     ends_sound d sound
     ∙ ap (λ (b : Bool). (let x : Option Ending = if b then Some Finished else if some_ready d.table.rows then None else Some Deadlock in x)) e
 
-either_dead : (o r : Bool) → o ≡ false → r ≡ false → (let x : Option Ending = if o then Some Finished else if r then None else Some Deadlock in x) ≡ Some Deadlock
+either_dead : (o r : Bool) → o ≡ false → r ≡ false → (let x : Option Ending = if o then Some Finished else if r then
+    None else Some Deadlock in x) ≡ Some Deadlock
 either_dead true r e f = absurd cc
 either_dead false true e f = absurd cc
 either_dead false false e f = refl
@@ -84,7 +86,8 @@ goes_further d sound o r = ends_sound d sound ∙ either_none (is_done (at d.tab
 -- ## The first turn
 
 module _ (g : Program) (limit : ℕ) (picking : Picking) (c : Config) where
-  pub ended : (ending : Ending) → ending_at (settled_config c) ≡ Some ending → (left : ℕ) → run_from g limit left picking c ≡ ended_with (settled_config c) ending
+  pub ended : (ending : Ending) → ending_at (settled_config c) ≡ Some ending → (left : ℕ) →
+      run_from g limit left picking c ≡ ended_with (settled_config c) ending
   ended ending e zero = ap (unless_ended (settled_config c) (ended_with (settled_config c) (Limit limit))) e
   ended ending e (suc left) = ap (unless_ended (settled_config c) _) e
 
@@ -145,7 +148,8 @@ run_of g limit left picking c pick e some is =
 
 -- ## The first step
 
-pub ended_steps : (g : Program) (picking : Picking) (c : Config) (ending : Ending) → ending_at (settled_config c) ≡ Some ending → (left : ℕ) → steps_from g left picking c ≡ []
+pub ended_steps : (g : Program) (picking : Picking) (c : Config) (ending : Ending) → ending_at (settled_config c) ≡ Some ending →
+    (left : ℕ) → steps_from g left picking c ≡ []
 ended_steps g picking c ending e zero = refl
 ended_steps g picking c ending e (suc left) = ap (unless_over _) e
 

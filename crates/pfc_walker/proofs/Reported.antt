@@ -66,7 +66,8 @@ told_more s p items more total a state low within there is push so =
     let y : Standing = record { process = p; state = state_of (at rows p); line = get_or lines p 0 } in
     let same : (let x : Standing = record { process = p; state = state; line = a.line } in x) ≡ y
     = ap (λ (w : Where). (let x : Standing = record { process = p; state = w; line = a.line } in x)) is
-    ∙ ap (λ (l : ℕ). (let x : Standing = record { process = p; state = state_of (at rows p); line = l } in x)) (ap (λ (b : HeldActivity). b.line) there ∙ sym (get_or-map (λ (b : HeldActivity). b.line) s.activities.items p a 0 within)) in
+    ∙ ap (λ (l : ℕ). (let x : Standing = record { process = p; state = state_of (at rows p); line = l } in x)) (ap (λ (b : HeldActivity). b.line) there ∙
+    sym (get_or-map (λ (b : HeldActivity). b.line) s.activities.items p a 0 within)) in
     ap (λ (l : List Standing). l ++ standings_at (p + 1) (drop (p + 1) rows) (drop (p + 1) lines)) (push ∙ ap (λ (x : Standing). items ++ x ∷ []) same)
     ∙ append_assoc items (y ∷ []) (standings_at (p + 1) (drop (p + 1) rows) (drop (p + 1) lines))
     ∙ ap (λ (k : ℕ). items ++ y ∷ standings_at (p + 1) (drop k rows) (drop k lines)) (add-one p)

@@ -36,7 +36,8 @@ module _
     abbrev later : Bool → List EventSeen
     later waited = events_from g left (behind_step g d p behind) waited t.config
 
-    from_pick : (waited : Bool) → events_from g (left + 1) picking waited c ≡ unless_fault t.config.fault (event_behind waited t) ++ later (waited_behind waited t)
+    from_pick : (waited : Bool) → events_from g (left + 1) picking waited c ≡ unless_fault t.config.fault
+        (event_behind waited t) ++ later (waited_behind waited t)
     from_pick waited = ap (λ (ts : List Step). ordered waited ts) pick.steps
 
     -- its event is the next one, unless it is a fault
@@ -65,7 +66,8 @@ module _
 -- ## One event behind the others
 
 pub watched_more :
-    (source : Source) (g : Program) (left : ℕ) (picking picking' : Picking) (waited waited' : Bool) (s new : State) (events all : List EventSeen) (event : EventSeen) (n : ℕ)
+    (source : Source) (g : Program) (left : ℕ) (picking picking' : Picking) (waited waited' : Bool) (s new : State)
+    (events all : List EventSeen) (event : EventSeen) (n : ℕ)
     → (w : Watched source g left picking waited s events all) → (next : IsFirstEvent source g left picking picking' waited waited' w.config new event)
     → next.rest ≡ n → Watched source g n picking' waited' new (events ++ event ∷ []) all
 watched_more source g left picking picking' waited waited' s new events all event n w next rest =

@@ -30,7 +30,8 @@ pub record GoesOn (first : List Event) (f h : Run) : Type 0 where
 -- A configuration of a run, with the actions that lead there: its last one, or one from which it goes on to its end.
 pub data IsPassed (g : Program) (limit : ℕ) (f : Run) : Config → List Event → Type 0 where
   last : IsPassed g limit f f.config f.events
-  on_the_way : (left : ℕ) (picking : Picking) (d : Config) (events : List Event) → GoesOn events (run_from g limit left picking d) f → IsPassed g limit f d events
+  on_the_way : (left : ℕ) (picking : Picking) (d : Config) (events : List Event) →
+      GoesOn events (run_from g limit left picking d) f → IsPassed g limit f d events
 
 -- the run came to this ending: the state reports how all stand at its end, and what is told of it is written
 pub record Completes (told : Told) (f : Run) (c : Config) (new : State) (ending : Ending) (before after : Option (List ℕ)) : Type 0 where
@@ -74,7 +75,8 @@ EndsLine told f ending line = KnowsLine told line f.config.output
 
 -- An action was done and no fault: the state stands for a further configuration, what is told of the action is written, and the run goes on from
 -- there to the same end, with one action less that is left.
-pub record Continues (told : Told) (source : Source) (g : Program) (limit left : ℕ) (picking picking' : Picking) (c : Config) (new : State) (before after : Option (List ℕ)) : Type 0 where
+pub record Continues (told : Told) (source : Source) (g : Program) (limit left : ℕ) (picking picking' : Picking) (c : Config) (new : State)
+    (before after : Option (List ℕ)) : Type 0 where
   pub config : Config
   pub rest : ℕ
   pub one : left ≡ rest + 1
@@ -108,7 +110,8 @@ pub record IsOver (g : Program) (limit left : ℕ) (picking : Picking) (c : Conf
 
 -- Turns led from a configuration to a further one without a fault, from which the run goes on to the same end: of what is told of them the first
 -- bytes were sent to the sink, and the others are held. Whether those that were sent end inside a line is known.
-pub record Gathers (told : Told) (source : Source) (g : Program) (limit : ℕ) (f : Run) (left : ℕ) (picking : Picking) (c : Config) (now : State) (held : List ℕ) (line : Bool) (before after : Option (List ℕ)) : Type 0 where
+pub record Gathers (told : Told) (source : Source) (g : Program) (limit : ℕ) (f : Run) (left : ℕ) (picking : Picking) (c : Config) (now : State) (held : List ℕ)
+    (line : Bool) (before after : Option (List ℕ)) : Type 0 where
   pub config : Config
   pub stands : Stands source now config
   pub events : List Event

@@ -28,7 +28,8 @@ abbrev pub behind_step : Program → Config → ℕ → Picking → Picking
 behind_step g d p picking = behind_choice picking (choices g d p (next_of g d p))
 
 -- The action of process p was done that comes next for it, and what is told of it stands behind the other bytes.
-pub record IsTold (told : Told) (source : Source) (g : Program) (new : State) (c : Config) (p : ℕ) (picking picking' : Picking) (out out' : List ℕ) (d : Done) : Type 0 where
+pub record IsTold (told : Told) (source : Source) (g : Program) (new : State) (c : Config) (p : ℕ) (picking picking' : Picking)
+    (out out' : List ℕ) (d : Done) : Type 0 where
   pub printed : List ℕ
   pub ends : Ends source g new c p (choice_among picking (choices g c p (next_of g c p))) (next_of g c p) printed d
   pub picked : picking' ≡ behind_step g c p picking

@@ -22,7 +22,8 @@ event_in (Stepped event) = Some event
 event_in (Faulted line fault) = None
 
 -- This is the first of them, behind which the state stands for a further configuration, and the others are those of the run from there on.
-pub record IsFirstEvent (source : Source) (g : Program) (left : ℕ) (picking picking' : Picking) (waited waited' : Bool) (c : Config) (new : State) (event : EventSeen) : Type 0 where
+pub record IsFirstEvent (source : Source) (g : Program) (left : ℕ) (picking picking' : Picking) (waited waited' : Bool) (c : Config)
+    (new : State) (event : EventSeen) : Type 0 where
   pub config : Config
   pub rest : ℕ
   pub one : left ≡ rest + 1

@@ -26,7 +26,8 @@ impl<'t> Walker<'t> {
         out: &mut Output,
     ) -> Result<Walked, Memory>
         requires { (g : Program) × (c : Config) × WalksBefore self.old g c p × IsReadyToAct c p }
-        ensures ok { IfOk result (λ walked. (g : Program) (c : Config) → WalksBefore self.old g c p → IsStep self.old.waited self.new g c p picker.old picker.new out.old out.new walked) }
+        ensures ok { IfOk result (λ walked. (g : Program) (c : Config) → WalksBefore self.old g c p →
+            IsStep self.old.waited self.new g c p picker.old picker.new out.old out.new walked) }
         ensures err { OnErr result ((g : Program) (c : Config) → WalksBefore self.old g c p → WalksBefore self.new g c p) }
         ensures kept { OnErr result (out.new ≡ out.old) }
         ensures unchosen { OnErr result (picker.new ≡ picker.old) }

@@ -55,11 +55,13 @@ pub(crate) fn next_actor(
     left: u64,
 ) -> Result<u32, Ending>
     requires { (source : Source) × (c : Config) × Stands source state.old c }
-    ensures pick { IfOk result (λ p. (source : Source) (g : Program) (c : Config) → Stands source state.old c → IsPick g limit (left - 1) picker.old picker.new c (settled_config c) p) }
+    ensures pick { IfOk result (λ p. (source : Source) (g : Program) (c : Config) → Stands source state.old c →
+        IsPick g limit (left - 1) picker.old picker.new c (settled_config c) p) }
     ensures stands { IfOk result (λ p. (source : Source) (c : Config) → Stands source state.old c → Stands source state.new (settled_config c)) }
     ensures may { IfOk result (λ p. MayAct state.new p) }
     ensures some { IfOk result (λ p. 0 < left) }
-    ensures over { IfErr result (λ ending. (source : Source) (g : Program) (c : Config) → Stands source state.old c → IsOver g limit left picker.old c state.new ending) }
+    ensures over { IfErr result (λ ending. (source : Source) (g : Program) (c : Config) → Stands source state.old c →
+        IsOver g limit left picker.old c state.new ending) }
     ensures written { IfErr result (λ ending. ending ≢ Ending.SinkFailed) }
 {
     let settled = settle(alloc, state);

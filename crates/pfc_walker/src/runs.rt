@@ -35,7 +35,8 @@ impl<'t> Walker<'t> {
         sink: &mut O,
     ) -> Ending
         requires { (g : Program) × (c : Config) × Walks self.old g c }
-        ensures run { (g : Program) (c : Config) → Walks self.old g c → IsCourse told g limit (run_from g limit limit picker.old c) c self.new.state result (O.written sink.old) (O.written sink.new) }
+        ensures run { (g : Program) (c : Config) → Walks self.old g c → IsCourse told g limit (run_from g limit limit picker.old c) c self.new.state result
+            (O.written sink.old) (O.written sink.new) }
         ensures line { (g : Program) (c : Config) → Walks self.old g c → EndsLine told (run_from g limit limit picker.old c) result self.new.in_line }
         ensures source { self.new.source.now ≡ self.old.source.now }
         ensures faults { O.faults sink.old ≤ O.faults sink.new }
@@ -66,8 +67,10 @@ fn run_state<'t, O: Sink>(
     sink: &mut O,
 ) -> Ending
     requires { (g : Program) × (c : Config) × IsProgram source.now g × Stands source.now state.old c × (in_line.old ≡ is_open_line c.output) }
-    ensures run { (g : Program) (c : Config) → IsProgram source.now g → Stands source.now state.old c → in_line.old ≡ is_open_line c.output → IsCourse told g limit (run_from g limit limit picker.old c) c state.new result (O.written sink.old) (O.written sink.new) }
-    ensures line { (g : Program) (c : Config) → IsProgram source.now g → Stands source.now state.old c → in_line.old ≡ is_open_line c.output → EndsLine told (run_from g limit limit picker.old c) result in_line.new }
+    ensures run { (g : Program) (c : Config) → IsProgram source.now g → Stands source.now state.old c → in_line.old ≡ is_open_line c.output →
+        IsCourse told g limit (run_from g limit limit picker.old c) c state.new result (O.written sink.old) (O.written sink.new) }
+    ensures line { (g : Program) (c : Config) → IsProgram source.now g → Stands source.now state.old c → in_line.old ≡ is_open_line c.output →
+        EndsLine told (run_from g limit limit picker.old c) result in_line.new }
     ensures faults { O.faults sink.old ≤ O.faults sink.new }
     ensures failed { result ≡ Ending.SinkFailed → Rose (O.faults sink.old) (O.faults sink.new) }
 {

@@ -29,7 +29,9 @@ fn act_out<'t>(
 ) -> Option<Ending>
     requires may { MayAct state.old p }
     requires before { (g : Program) × (c : Config) × IsProgram source.now g × Stands source.now state.old c }
-    ensures turn { (g : Program) (limit left : ℕ) (picking : Picking) (c d : Config) → IsProgram source.now g → Stands source.now state.old d → IsPick g limit left picking picker.old c d p → IsTurn told source.now g limit (left + 1) picking picker.new c state.new result (Some out.old) (Some out.new) }
+    ensures turn { (g : Program) (limit left : ℕ) (picking : Picking) (c d : Config) → IsProgram source.now g → Stands source.now state.old d →
+        IsPick g limit left picking picker.old c d p →
+        IsTurn told source.now g limit (left + 1) picking picker.new c state.new result (Some out.old) (Some out.new) }
     ensures written { result ≢ Some Ending.SinkFailed }
 {
     let Ok(done) = act_told(alloc, source, state, p, picker, told, out) else {
@@ -61,7 +63,8 @@ pub(crate) fn turn<'t>(
     out: &mut Output,
 ) -> Option<Ending>
     requires before { (g : Program) × (c : Config) × IsProgram source.now g × Stands source.now state.old c }
-    ensures turn { (g : Program) (c : Config) → IsProgram source.now g → Stands source.now state.old c → IsTurn told source.now g limit left picker.old picker.new c state.new result (Some out.old) (Some out.new) }
+    ensures turn { (g : Program) (c : Config) → IsProgram source.now g → Stands source.now state.old c →
+        IsTurn told source.now g limit left picker.old picker.new c state.new result (Some out.old) (Some out.new) }
     ensures some { result ≡ None → 0 < left }
     ensures written { result ≢ Some Ending.SinkFailed }
 {

@@ -33,7 +33,8 @@ impl<'t> Walker<'t> {
     ) -> Result<Walker<'t>, Memory>
         ensures source { IfOk result (λ w. w.source.now ≡ source.now) }
         ensures unwaited { IfOk result (λ w. w.waited ≡ false) }
-        ensures walks { IfOk result (λ w. Walks w (program_with source.now (values_view variables.items)) (start (program_with source.now (values_view variables.items)) input.now seed)) }
+        ensures walks { IfOk result (λ w. Walks w (program_with source.now (values_view variables.items))
+            (start (program_with source.now (values_view variables.items)) input.now seed)) }
     {
         let state = at_start(alloc, source, variables, input, seed)?;
         Ok(Walker {

@@ -54,7 +54,8 @@ fn events_of<'t>(
     limit: u64,
 ) -> Result<Vec<Event>, Memory>
     requires { (g : Program) × (c : Config) × IsProgram source.now g × Stands source.now state.old c }
-    ensures { IfOk result (λ events. (g : Program) (c : Config) → IsProgram source.now g → Stands source.now state.old c → events.items ≡ events_from g limit picker.old waited.old c) }
+    ensures { IfOk result (λ events. (g : Program) (c : Config) → IsProgram source.now g → Stands source.now state.old c →
+        events.items ≡ events_from g limit picker.old waited.old c) }
 {
     let mut events = Vec::new(alloc);
     let mut left = limit;
@@ -75,7 +76,8 @@ fn next_event<'t>(
     left: u64,
 ) -> Result<Option<Event>, Memory>
     requires { (g : Program) × (c : Config) × IsProgram source.now g × Stands source.now state.old c }
-    ensures event { IfOk result (λ event. (g : Program) (c : Config) → IsProgram source.now g → Stands source.now state.old c → IsNextEvent source.now g left picker.old picker.new waited.old waited.new c state.new event) }
+    ensures event { IfOk result (λ event. (g : Program) (c : Config) → IsProgram source.now g → Stands source.now state.old c →
+        IsNextEvent source.now g left picker.old picker.new waited.old waited.new c state.new event) }
     ensures some { IfOk result (λ event. IsSome event → 0 < left) }
 {
     match next_actor(alloc, state, picker, left, left) {
@@ -104,7 +106,8 @@ fn event_of<'t>(
     picker: &mut Picker,
 ) -> Result<Option<Event>, Memory>
     requires { MayAct state.old p }
-    ensures { IfOk result (λ event. (g : Program) (limit left : ℕ) (picking : Picking) (c d : Config) → IsProgram source.now g → Stands source.now state.old d → IsPick g limit left picking picker.old c d p
+    ensures { IfOk result (λ event. (g : Program) (limit left : ℕ) (picking : Picking) (c d : Config) → IsProgram source.now g → Stands source.now state.old d →
+        IsPick g limit left picking picker.old c d p
         → IsNextEvent source.now g (left + 1) picking picker.new waited.old waited.new c state.new event) }
 {
     let mut out = Output::new(alloc);

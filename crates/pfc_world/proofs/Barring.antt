@@ -65,7 +65,8 @@ given g after Is_done t h = no-ticket _ t h
 wait-barred : (after : Option ℕ) (why : Why) (ticket : ℕ) (arms : List Arm) (d : Delay) → barred_of (Waits why ticket arms) ≡ Some d
     → (d.rank ≡ pos 0) × (is_above after d.ticket ≡ true → ticket_barred d.object after (Waits why ticket arms) ≡ Some d.ticket)
 wait-barred after (Barred r procedure) ticket arms d h =
-    subst (λ v. (v.rank ≡ pos 0) × (is_above after v.ticket ≡ true → ticket_barred v.object after (Waits (Barred r procedure) ticket arms) ≡ Some v.ticket)) (same h)
+    subst (λ v. (v.rank ≡ pos 0) × (is_above after v.ticket ≡ true → ticket_barred v.object after (Waits (Barred r procedure) ticket arms) ≡ Some v.ticket))
+    (same h)
     (refl, λ above. ap (λ b. cond b (Some ticket) None) (both (r == r) (is_above after ticket) (eq-eqb r r refl) above))
   where
     same : Some (barred_at r ticket) ≡ Some d → barred_at r ticket ≡ d
@@ -88,7 +89,8 @@ none-is None f = refl
 none-is (Some t) f = absurd (f t refl)
 
 -- the first at the resource is the first who is barred there
-pub first-barred : (g : ℕ) (rows : List Stand) (delays : List (Option Delay)) (o : Option ℕ) → delays ≡ map barred_of rows → MatchOption o (IsNobodyDelayed delays g) (IsFirstDelayed delays g)
+pub first-barred : (g : ℕ) (rows : List Stand) (delays : List (Option Delay)) (o : Option ℕ) → delays ≡ map barred_of rows →
+    MatchOption o (IsNobodyDelayed delays g) (IsFirstDelayed delays g)
     → MatchOption o (IsNobody (ticket_barred g None) rows) (IsFirst (ticket_barred g None) rows)
 first-barred g rows delays None is nobody = λ q. none-is (ticket_barred g None (at rows q)) (λ t own.
     nobody q (barred_at g t) (barred-kept rows delays q is ∙ (given g None (at rows q) t own).0) refl)
@@ -142,6 +144,7 @@ next-barred g a rows delays (Some p) is f =
     least q t has level = elim (cases_lt t f.found.ticket) [
       | inl lt ↦
           contrary (f.found.ticket ≤ t) (is_before (barred_at g t) f.found) (before-made (barred_at g t) f.found (Before.sooner (sym f.there) (sym level) lt))
-          (f.least q (barred_at g t) (barred-kept rows delays q is ∙ has.0) refl (before-made (barred_at g a) (barred_at g t) (Before.sooner refl refl (above-is a t has.1))))
+          (f.least q (barred_at g t) (barred-kept rows delays q is ∙
+          has.0) refl (before-made (barred_at g a) (barred_at g t) (Before.sooner refl refl (above-is a t has.1))))
       | inr le ↦ le
     ]

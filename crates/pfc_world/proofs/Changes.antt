@@ -54,7 +54,8 @@ seats-set seats a b room p y s each e others k lt =
           let at_p : p < length seats = subst (λ n. n < length seats) here lt' in
           let got : get_or (set seats p y) k nobody ≡ y = ap (λ n. get_or (set seats p y) n nobody) here ∙ get_or-set_same seats p y nobody at_p in
           let stand : y.stand ≡ s = ap (λ v. v.stand) e in
-          got ∙ e ∙ ap (λ v. seat_at p b room v) (sym stand ∙ ap (λ v. v.stand) (sym got)) ∙ ap (λ n. seat_at n b room (get_or (set seats p y) k nobody).stand) (sym here)
+          got ∙ e ∙ ap (λ v. seat_at p b room v) (sym stand ∙ ap (λ v. v.stand) (sym got)) ∙
+          ap (λ n. seat_at n b room (get_or (set seats p y) k nobody).stand) (sym here)
       | inr away ↦
           let got : get_or (set seats p y) k nobody ≡ get_or seats k nobody = get_or-set_other seats p k y nobody away in
           got ∙ each k lt' ∙ ap (λ v. seat_of k v (get_or seats k nobody).stand room) (others k away) ∙ ap (λ v. seat_at k b room v.stand) (sym got)
@@ -175,7 +176,8 @@ tickets-none rows p d s lt none tickets = record {
     apart j k t h g = tickets.apart j k t (old j t h) (old k t g)
 
 -- a process takes the ticket of the present action
-pub tickets-more : (rows : List Stand) (p d : ℕ) (s : Stand) → p < length rows → ticket_of s ≡ Some (d + 1) → IsNew rows d → AreTickets rows d → AreTickets (set rows p s) d
+pub tickets-more : (rows : List Stand) (p d : ℕ) (s : Stand) → p < length rows → ticket_of s ≡ Some (d + 1) → IsNew rows d →
+    AreTickets rows d → AreTickets (set rows p s) d
 tickets-more rows p d s lt more new tickets = record {
   upto = λ k t h. upto k t (whose rows p s k t lt h);
   apart = λ j k t h g. apart j k t (whose rows p s j t lt h) (whose rows p s k t lt g);
@@ -274,7 +276,8 @@ blocks seats a d m room p r why arms x y w now same acts got e new =
     let fresh : IsNew w.rows d = subst (λ n. IsNew w.rows n) (sym done) new in
     subst (λ n. Now (set seats p y) None d m room (rested (placed w r (Waits why (n + 1) arms)))) done
     (gives_up seats a d m room p r (Waits why (d + 1) arms) x y w now same acts got e
-    (tickets-more w.rows p d (Waits why (d + 1) arms) (subst (λ n. p < n) (sym (rows-length seats a d m room w now)) lt) refl fresh (tickets-now seats a d m room w now)))
+    (tickets-more w.rows p d (Waits why (d + 1) arms) (subst (λ n. p < n) (sym (rows-length seats a d m room w now)) lt) refl
+    fresh (tickets-now seats a d m room w now)))
 
 -- the process that acted does not wait
 pub leaves : (seats : List Seat) (a : Option ℕ) (d m room p r : ℕ) (s : Stand) (x y : Seat) (w : Table)

@@ -35,7 +35,8 @@ pub record IsEnding (old now : Table) : Type 0 where
   pub servers : AreServers now.rows
 
 -- who may end waits
-wait-ends : (spread : Spread) (why : Why) (ticket : ℕ) (arms : List Arm) → may_end (Waits why ticket arms) ≡ true → member_of spread (Waits why ticket arms) ≡ in_list (list_at spread 7 0) ticket
+wait-ends : (spread : Spread) (why : Why) (ticket : ℕ) (arms : List Arm) → may_end (Waits why ticket arms) ≡ true →
+    member_of spread (Waits why ticket arms) ≡ in_list (list_at spread 7 0) ticket
 wait-ends spread (Select due terminate) ticket arms h = refl
 wait-ends spread _ ticket arms h = cc
 
@@ -70,7 +71,8 @@ right-of : (a b : Bool) → (a && b) ≡ true → b ≡ true
 right-of true b h = h
 right-of false b h = cc
 
-each-serves : (rows : List Stand) → list_all (λ s. not (is_unfinished s) || may_end s) rows ≡ true → (q : ℕ) → is_unfinished (at rows q) ≡ true → may_end (at rows q) ≡ true
+each-serves : (rows : List Stand) → list_all (λ s. not (is_unfinished s) || may_end s) rows ≡ true → (q : ℕ) →
+    is_unfinished (at rows q) ≡ true → may_end (at rows q) ≡ true
 each-serves [] h q is = cc
 each-serves (s ∷ rest) h zero is = go (is_unfinished s) (may_end s) is (left-of (not (is_unfinished s) || may_end s) _ h)
   where
@@ -94,7 +96,8 @@ child-ended children k h =
     ∙ ap (λ s. set (map terminated_child children) k s) (sym (get_or-map terminated_child children k Is_idle ∙ ap (λ b. cond b Is_done (at children k)) h))
     ∙ set-get_or (map terminated_child children) k Is_idle
 
-one-ended : (rows : List Stand) (p : ℕ) → 0 < p → may_end (at rows p) ≡ true → over_children terminated_child (set rows p Is_done) ≡ over_children terminated_child rows
+one-ended : (rows : List Stand) (p : ℕ) → 0 < p → may_end (at rows p) ≡ true →
+    over_children terminated_child (set rows p Is_done) ≡ over_children terminated_child rows
 one-ended [] p some h = refl
 one-ended (main ∷ children) zero some h = absurd (omega (arith, some))
 one-ended (main ∷ children) (suc k) some h = ap (λ v. main ∷ v) (child-ended children k h)
@@ -103,9 +106,11 @@ still-serve : (rows : List Stand) (p : ℕ) → AreServers rows → AreServers (
 still-serve rows p serves q some is = elim (cases_eq q p) [
   | inl here ↦ elim (cases_lt p (length rows)) [
     | inl lt ↦ over (at (set rows p Is_done) q) (ap (λ n. at (set rows p Is_done) n) here ∙ get_or-set_same rows p Is_done Is_idle lt) is
-    | inr past ↦ let same : at (set rows p Is_done) q ≡ at rows q = ap (λ v. at v q) (set_past rows p Is_done past) in ap may_end same ∙ serves q some (ap is_unfinished (sym same) ∙ is)
+    | inr past ↦ let same : at (set rows p Is_done) q ≡ at rows q = ap (λ v. at v q) (set_past rows p Is_done past) in ap may_end same ∙
+        serves q some (ap is_unfinished (sym same) ∙ is)
   ]
-  | inr away ↦ let same : at (set rows p Is_done) q ≡ at rows q = get_or-set_other rows p q Is_done Is_idle away in ap may_end same ∙ serves q some (ap is_unfinished (sym same) ∙ is)
+  | inr away ↦ let same : at (set rows p Is_done) q ≡ at rows q = get_or-set_other rows p q Is_done Is_idle away in ap may_end same ∙
+      serves q some (ap is_unfinished (sym same) ∙ is)
 ]
   where
     over : (s : Stand) → s ≡ Is_done → is_unfinished s ≡ true → may_end s ≡ true
@@ -123,7 +128,8 @@ ending-goes-on old now new p h server is = record {
 pub ending-nearer : (now new : Table) (p : ℕ) → IsServer now.rows p → new ≡ placed now p Is_done → count_of may_end new.rows < count_of may_end now.rows
 ending-nearer now new p server is =
     let lt : p < length now.rows = waits-within now.rows p (ends-wait (at now.rows p) server.1) in
-    let sum : count_of may_end (set now.rows p Is_done) + number (may_end (at now.rows p)) ≡ count_of may_end now.rows + 0 = count-set may_end now.rows p Is_done lt in
+    let sum : count_of may_end (set now.rows p Is_done) + number (may_end (at now.rows p)) ≡ count_of may_end now.rows + 0 =
+    count-set may_end now.rows p Is_done lt in
     let one : number (may_end (at now.rows p)) ≡ 1 = ap number server.1 in
     let rows : count_of may_end new.rows ≡ count_of may_end (set now.rows p Is_done) = ap (λ v. count_of may_end v.rows) is in
     omega (arith, sum, one, rows)
@@ -145,18 +151,23 @@ not-true true f = absurd (f refl)
 not-true false f = refl
 
 -- nobody is in the list of selects
-pub no-server : (spread : Spread) (rows : List Stand) (lists : Lists) → AreListed spread rows lists → IsEmpty lists.members (list_at spread 7 0) → IsNoServer rows
+pub no-server : (spread : Spread) (rows : List Stand) (lists : Lists) → AreListed spread rows lists →
+    IsEmpty lists.members (list_at spread 7 0) → IsNoServer rows
 no-server spread rows lists listed h q some =
-    not-true (may_end (at rows q)) (λ is. let own : (t : ℕ) × (member_of spread (at rows q) ≡ in_list (list_at spread 7 0) t) = ends-listed spread (at rows q) is in h.none q own.0 (same-member spread rows lists q listed ∙ own.1))
+    not-true (may_end (at rows q)) (λ is. let own : (t : ℕ) × (member_of spread (at rows q) ≡ in_list (list_at spread 7 0) t) =
+    ends-listed spread (at rows q) is in h.none q own.0 (same-member spread rows lists q listed ∙ own.1))
 
 -- the first of the list, which is not main, is a server
-pub first-server : (spread : Spread) (rows : List Stand) (lists : Lists) (p : ℕ) → AreListed spread rows lists → AreServers rows → 0 < p → IsFirstIn lists.members (list_at spread 7 0) p → IsServer rows p
+pub first-server : (spread : Spread) (rows : List Stand) (lists : Lists) (p : ℕ) → AreListed spread rows lists → AreServers rows → 0 < p →
+    IsFirstIn lists.members (list_at spread 7 0) p → IsServer rows p
 first-server spread rows lists p listed serves some h =
     (some, serves p some (listed-unfinished spread (at rows p) (list_at spread 7 0) h.ticket (sym (same-member spread rows lists p listed) ∙ h.own)))
 
 -- main is the first, and the next is a server, if there is one
-pub second-server : (spread : Spread) (rows : List Stand) (lists : Lists) (o : Option ℕ) → AreApart rows → AreListed spread rows lists → AreServers rows → (h : IsFirstIn lists.members (list_at spread 7 0) 0)
-    → MatchOption o (IsNobodyAbove lists.members (list_at spread 7 0) h.ticket) (IsNext lists.members (list_at spread 7 0) h.ticket) → MatchOption o (IsNoServer rows) (IsServer rows)
+pub second-server : (spread : Spread) (rows : List Stand) (lists : Lists) (o : Option ℕ) → AreApart rows → AreListed spread rows lists → AreServers rows →
+    (h : IsFirstIn lists.members (list_at spread 7 0) 0)
+    → MatchOption o (IsNobodyAbove lists.members (list_at spread 7 0) h.ticket) (IsNext lists.members (list_at spread 7 0) h.ticket) →
+    MatchOption o (IsNoServer rows) (IsServer rows)
 second-server spread rows lists o apart listed serves h = go o
   where
     main : member_of spread (at rows 0) ≡ in_list (list_at spread 7 0) h.ticket
@@ -168,17 +179,20 @@ second-server spread rows lists o apart listed serves h = go o
     from : (a b : ℕ) → Some a ≡ Some b → a ≡ b
     from a b e = cc
 
-    go : (o : Option ℕ) → MatchOption o (IsNobodyAbove lists.members (list_at spread 7 0) h.ticket) (IsNext lists.members (list_at spread 7 0) h.ticket) → MatchOption o (IsNoServer rows) (IsServer rows)
+    go : (o : Option ℕ) → MatchOption o (IsNobodyAbove lists.members (list_at spread 7 0) h.ticket) (IsNext lists.members (list_at spread 7 0) h.ticket) →
+        MatchOption o (IsNoServer rows) (IsServer rows)
     go None n = λ q some. not-true (may_end (at rows q)) (λ is.
         let own : (t : ℕ) × (member_of spread (at rows q) ≡ in_list (list_at spread 7 0) t) = ends-listed spread (at rows q) is in
         let least : h.ticket ≤ own.0 = h.least q own.0 (same-member spread rows lists q listed ∙ own.1) in
         let most : own.0 ≤ h.ticket = n.most q own.0 (same-member spread rows lists q listed ∙ own.1) in
         let same : own.0 ≡ h.ticket = omega (arith, least, most) in
-        let here : q ≡ 0 = apart q 0 h.ticket (member-ticket spread (at rows q) (list_at spread 7 0) own.0 own.1 ∙ ap (λ v. Some v) same) (member-ticket spread (at rows 0) (list_at spread 7 0) h.ticket main) in
+        let here : q ≡ 0 = apart q 0 h.ticket (member-ticket spread (at rows q) (list_at spread 7 0) own.0 own.1 ∙
+        ap (λ v. Some v) same) (member-ticket spread (at rows 0) (list_at spread 7 0) h.ticket main) in
         omega (arith, some, here))
     go (Some q) n =
         let own : member_of spread (at rows q) ≡ in_list (list_at spread 7 0) n.ticket = sym (same-member spread rows lists q listed) ∙ n.own in
         let above : h.ticket < n.ticket = n.above in
-        let away : q ≢ 0 = λ here. let same : h.ticket ≡ n.ticket = from h.ticket n.ticket (ticket-same n.ticket (ap (λ m. member_of spread (at rows m)) (sym here) ∙ own)) in omega (arith, above, same) in
+        let away : q ≢ 0 = λ here. let same : h.ticket ≡ n.ticket =
+        from h.ticket n.ticket (ticket-same n.ticket (ap (λ m. member_of spread (at rows m)) (sym here) ∙ own)) in omega (arith, above, same) in
         let some : 0 < q = omega (arith, away) in
         (some, serves q some (listed-unfinished spread (at rows q) (list_at spread 7 0) n.ticket own))

@@ -22,8 +22,10 @@ count-set holds (r ∷ rest) zero s lt =
     let old : one_more (holds r) (count_of holds rest) ≡ number (holds r) + count_of holds rest = more-is (holds r) (count_of holds rest) in
     omega (arith, new, old)
 count-set holds (r ∷ rest) (suc p) s lt =
-    let ih : count_of holds (set rest p s) + number (holds (at rest p)) ≡ count_of holds rest + number (holds s) = count-set holds rest p s (omega (arith, lt)) in
-    let new : one_more (holds r) (count_of holds (set rest p s)) ≡ number (holds r) + count_of holds (set rest p s) = more-is (holds r) (count_of holds (set rest p s)) in
+    let ih : count_of holds (set rest p s) + number (holds (at rest p)) ≡ count_of holds rest + number (holds s) =
+    count-set holds rest p s (omega (arith, lt)) in
+    let new : one_more (holds r) (count_of holds (set rest p s)) ≡ number (holds r) + count_of holds (set rest p s) =
+    more-is (holds r) (count_of holds (set rest p s)) in
     let old : one_more (holds r) (count_of holds rest) ≡ number (holds r) + count_of holds rest = more-is (holds r) (count_of holds rest) in
     omega (arith, ih, new, old)
 
@@ -51,9 +53,11 @@ count-one holds (s ∷ rest) (suc p) lt =
     omega (arith, le, sum)
 
 -- a change that keeps what is counted keeps the count
-pub count-map : (holds : Stand → Bool) (change : Stand → Stand) → ((s : Stand) → holds (change s) ≡ holds s) → (rows : List Stand) → count_of holds (map change rows) ≡ count_of holds rows
+pub count-map : (holds : Stand → Bool) (change : Stand → Stand) → ((s : Stand) → holds (change s) ≡ holds s) → (rows : List Stand) →
+    count_of holds (map change rows) ≡ count_of holds rows
 count-map holds change same [] = refl
-count-map holds change same (s ∷ rest) = ap (λ b. one_more b (count_of holds (map change rest))) (same s) ∙ ap (λ n. one_more (holds s) n) (count-map holds change same rest)
+count-map holds change same (s ∷ rest) = ap (λ b. one_more b (count_of holds (map change rest))) (same s) ∙
+    ap (λ n. one_more (holds s) n) (count-map holds change same rest)
 
 pub count-idle : (holds : Stand → Bool) → holds Is_idle ≡ false → (n : ℕ) → count_of holds (replicate n Is_idle) ≡ 0
 count-idle holds none zero = refl
@@ -64,7 +68,8 @@ none-all : (holds : Stand → Bool) (rows : List Stand) → (count_of holds rows
 none-all holds [] = refl
 none-all holds (s ∷ rest) = go (holds s) (none-all holds rest)
   where
-    go : (b : Bool) → (count_of holds rest == 0) ≡ list_all (λ v. not (holds v)) rest → (one_more b (count_of holds rest) == 0) ≡ (not b && list_all (λ v. not (holds v)) rest)
+    go : (b : Bool) → (count_of holds rest == 0) ≡ list_all (λ v. not (holds v)) rest →
+        (one_more b (count_of holds rest) == 0) ≡ (not b && list_all (λ v. not (holds v)) rest)
     go true ih = let e : (suc (count_of holds rest) == 0) ≡ false = grind (arith, nat_tests) in e
     go false ih = ih
 
@@ -104,7 +109,8 @@ fewer-end : (rows : List Stand) → count_of may_end rows ≤ count_of is_unfini
 fewer-end [] = omega arith
 fewer-end (s ∷ rest) = go (may_end s) (is_unfinished s) (ends-unfinished s) (fewer-end rest)
   where
-    go : (a b : Bool) → (a ≡ true → b ≡ true) → count_of may_end rest ≤ count_of is_unfinished rest → one_more a (count_of may_end rest) ≤ one_more b (count_of is_unfinished rest)
+    go : (a b : Bool) → (a ≡ true → b ≡ true) → count_of may_end rest ≤ count_of is_unfinished rest →
+        one_more a (count_of may_end rest) ≤ one_more b (count_of is_unfinished rest)
     go true true h ih = omega (arith, ih)
     go true false h ih = let no : false ≡ true = h refl in cc
     go false true h ih = omega (arith, ih)
@@ -119,8 +125,10 @@ all-end (s ∷ rest) = go (may_end s) (is_unfinished s) (ends-unfinished s) (all
     fewer = fewer-end rest
 
     go : (a b : Bool) → (a ≡ true → b ≡ true) → (count_of is_unfinished rest == count_of may_end rest) ≡ list_all (λ v. not (is_unfinished v) || may_end v) rest
-        → (one_more b (count_of is_unfinished rest) == one_more a (count_of may_end rest)) ≡ ((not b || a) && list_all (λ v. not (is_unfinished v) || may_end v) rest)
-    go true true h ih = let e : (suc (count_of is_unfinished rest) == suc (count_of may_end rest)) ≡ (count_of is_unfinished rest == count_of may_end rest) = grind (arith, nat_tests) in e ∙ ih
+        → (one_more b (count_of is_unfinished rest) == one_more a (count_of may_end rest)) ≡
+        ((not b || a) && list_all (λ v. not (is_unfinished v) || may_end v) rest)
+    go true true h ih = let e : (suc (count_of is_unfinished rest) == suc (count_of may_end rest)) ≡ (count_of is_unfinished rest == count_of may_end rest) =
+        grind (arith, nat_tests) in e ∙ ih
     go true false h ih = let no : false ≡ true = h refl in cc
     go false true h ih = let e : (suc (count_of is_unfinished rest) == count_of may_end rest) ≡ false = grind (arith, nat_tests, fewer) in e
     go false false h ih = ih
@@ -149,15 +157,19 @@ released-by (main ∷ children) n some is = go main is
     go Is_ready e = both (n == 1)
     go Is_done e = both (n == 1)
     go (Waits why ticket arms) e =
-        turned (n == 1) (is_at_coend (Waits why ticket arms)) ∙ ap (λ b. is_at_coend (Waits why ticket arms) && b) (counted n e ∙ none-all is_unfinished children)
+        turned (n == 1) (is_at_coend (Waits why ticket arms)) ∙
+        ap (λ b. is_at_coend (Waits why ticket arms) && b) (counted n e ∙ none-all is_unfinished children)
 
 -- the children may all end
-pub may-end-by : (rows : List Stand) (a b n m : ℕ) → 0 < length rows → n ≡ count_of is_unfinished rows - a → a ≡ number (is_unfinished (at rows 0)) → m ≡ count_of may_end rows - b
+pub may-end-by : (rows : List Stand) (a b n m : ℕ) → 0 < length rows → n ≡ count_of is_unfinished rows - a →
+    a ≡ number (is_unfinished (at rows 0)) → m ≡ count_of may_end rows - b
     → b ≡ number (may_end (at rows 0)) → (nat_lt 0 n && (n == m)) ≡ children_may_end rows
 may-end-by [] a b n m some e f g h = absurd (omega (arith, some))
 may-end-by (main ∷ children) a b n m some e f g h =
-    let all : one_more (is_unfinished main) (count_of is_unfinished children) ≡ number (is_unfinished main) + count_of is_unfinished children = more-is (is_unfinished main) (count_of is_unfinished children) in
-    let ends : one_more (may_end main) (count_of may_end children) ≡ number (may_end main) + count_of may_end children = more-is (may_end main) (count_of may_end children) in
+    let all : one_more (is_unfinished main) (count_of is_unfinished children) ≡ number (is_unfinished main) + count_of is_unfinished children =
+    more-is (is_unfinished main) (count_of is_unfinished children) in
+    let ends : one_more (may_end main) (count_of may_end children) ≡ number (may_end main) + count_of may_end children =
+    more-is (may_end main) (count_of may_end children) in
     let unfinished : n ≡ count_of is_unfinished children = omega (arith, e, f, all) in
     let ending : m ≡ count_of may_end children = omega (arith, g, h, ends) in
     ap (λ k. nat_lt 0 k && (k == m)) unfinished

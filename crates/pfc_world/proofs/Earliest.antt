@@ -11,7 +11,8 @@ use Rattle.pfc_world.specs.Tables.{at}
 use Rattle.pfc_world.proofs.FirstIs.{least-is, least-none}
 
 -- who is due first is due at its moment
-pub due-at : (rows : List Stand) (dues : List (Option ℕ)) (due : Due) → dues ≡ map due_of rows → IsFirst dues due → due_of (at rows due.process) ≡ Some due.moment
+pub due-at : (rows : List Stand) (dues : List (Option ℕ)) (due : Due) → dues ≡ map due_of rows → IsFirst dues due →
+    due_of (at rows due.process) ≡ Some due.moment
 due-at rows dues due is h = sym (ap (λ v. moment_at v due.process) is ∙ get_or-map due_of rows due.process Is_idle) ∙ h.own
 
 -- who is due first is due at the earliest moment

@@ -54,7 +54,8 @@ holder-is : (key : Stand → Option ℕ) (rows : List Stand) (p t : ℕ)
     → key Is_idle ≡ None → key (at rows p) ≡ Some t → ((q : ℕ) → key (at rows q) ≡ Some t → q ≡ p) → holder key t rows ≡ Some p
 holder-is key [] p t idle own only = let e : None ≡ Some t = sym idle ∙ own in cc
 holder-is key (s ∷ rest) zero t idle own only =
-    ap (λ o. cond (has_number t o) (Some 0) (option_map suc (holder key t rest))) own ∙ ap (λ b. cond b (Some 0) (option_map suc (holder key t rest))) (eq-eqb t t refl)
+    ap (λ o. cond (has_number t o) (Some 0) (option_map suc (holder key t rest))) own ∙
+    ap (λ b. cond b (Some 0) (option_map suc (holder key t rest))) (eq-eqb t t refl)
 holder-is key (s ∷ rest) (suc p) t idle own only =
     go (key s) (only 0) ∙ ap (λ o. option_map suc o) (holder-is key rest p t idle own (λ q h. let e : suc q ≡ suc p = only (suc q) h in omega arith))
   where

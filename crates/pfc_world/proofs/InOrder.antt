@@ -35,7 +35,8 @@ same-lists spread (Semaphore s) (Semaphore t) h = ap (λ n. list_at spread 1 n) 
 same-lists spread (Send s) (Send t) h = ap (λ n. list_at spread 2 n) (eqb-true s t h)
 same-lists spread (Receive s) (Receive t) h = ap (λ n. list_at spread 3 n) (eqb-true s t h)
 same-lists spread (Call p e) (Call q f) h =
-    ap (λ n. list_at spread 4 (call_place spread n e)) (eqb-true p q (left-of (p == q) (e == f) h)) ∙ ap (λ n. list_at spread 4 (call_place spread q n)) (eqb-true e f (right-of (p == q) (e == f) h))
+    ap (λ n. list_at spread 4 (call_place spread n e)) (eqb-true p q (left-of (p == q) (e == f) h)) ∙
+    ap (λ n. list_at spread 4 (call_place spread q n)) (eqb-true e f (right-of (p == q) (e == f) h))
 same-lists spread (Meeting s) (Meeting t) h = ap (λ n. list_at spread 5 n) (eqb-true s t h)
 same-lists spread (Accept s) (Accept t) h = ap (λ n. list_at spread 6 n) (eqb-true s t h)
 same-lists spread (Select d e) (Select f g) h = refl
@@ -61,7 +62,8 @@ given false ticket t h = cc
 -- whose wait is this one is in its list
 pub why-listed : (spread : Spread) (why : Why) (s : Stand) (t : ℕ) → ticket_at why s ≡ Some t → member_of spread s ≡ in_list (list_of spread why) t
 why-listed spread why (Waits cause ticket arms) t h =
-    ap (λ n. in_list n ticket) (same-lists spread cause why (passed (same_why cause why) ticket t h)) ∙ ap (λ n. in_list (list_of spread why) n) (given (same_why cause why) ticket t h)
+    ap (λ n. in_list n ticket) (same-lists spread cause why (passed (same_why cause why) ticket t h)) ∙
+    ap (λ n. in_list (list_of spread why) n) (given (same_why cause why) ticket t h)
 why-listed spread why Is_idle t h = no-ticket _ t h
 why-listed spread why Is_created t h = no-ticket _ t h
 why-listed spread why Is_ready t h = no-ticket _ t h
@@ -75,7 +77,8 @@ IsIn spread rows list p t = member_of spread (at rows p) ≡ in_list list t
 abbrev pub AreIn : Spread → (Stand → Option ℕ) → ℕ → Type 0
 AreIn spread key list = (s : Stand) (t : ℕ) → key s ≡ Some t → member_of spread s ≡ in_list list t
 
-pub same-member : (spread : Spread) (rows : List Stand) (lists : Lists) (q : ℕ) → AreListed spread rows lists → member_at lists.members q ≡ member_of spread (at rows q)
+pub same-member : (spread : Spread) (rows : List Stand) (lists : Lists) (q : ℕ) → AreListed spread rows lists →
+    member_at lists.members q ≡ member_of spread (at rows q)
 same-member spread rows lists q h = ap (λ v. member_at v q) h.members ∙ get_or-map (member_of spread) rows q Is_idle
 
 -- Process p is in the list, and who is sought has no lesser ticket than it.
@@ -92,9 +95,11 @@ none-is : (o : Option ℕ) → ((t : ℕ) → o ≡ Some t → ⊥) → o ≡ No
 none-is None f = refl
 none-is (Some t) f = absurd (f t refl)
 
-pub forward-starts : (spread : Spread) (key : Stand → Option ℕ) (rows : List Stand) (list : ℕ) (lists : Lists) (o : Option ℕ) → AreIn spread key list → AreListed spread rows lists
+pub forward-starts : (spread : Spread) (key : Stand → Option ℕ) (rows : List Stand) (list : ℕ) (lists : Lists) (o : Option ℕ) →
+    AreIn spread key list → AreListed spread rows lists
     → MatchOption o (IsEmpty lists.members list) (IsFirstIn lists.members list) → IsForward spread key rows list o
-forward-starts spread key rows list lists None all listed h = λ q. none-is (key (at rows q)) (λ t e. h.none q t (same-member spread rows lists q listed ∙ all (at rows q) t e))
+forward-starts spread key rows list lists None all listed h =
+    λ q. none-is (key (at rows q)) (λ t e. h.none q t (same-member spread rows lists q listed ∙ all (at rows q) t e))
 forward-starts spread key rows list lists (Some p) all listed h = record {
   ticket = h.ticket;
   own = sym (same-member spread rows lists p listed) ∙ h.own;
@@ -106,7 +111,8 @@ not-key A None t h e = cc
 not-key A (Some u) t h e = cc
 
 -- the next of the list, where this one is not sought
-pub forward-steps : (spread : Spread) (key : Stand → Option ℕ) (rows : List Stand) (list p : ℕ) (lists : Lists) (o : Option ℕ) → GivesTickets key → AreIn spread key list → AreApart rows → AreListed spread rows lists
+pub forward-steps : (spread : Spread) (key : Stand → Option ℕ) (rows : List Stand) (list p : ℕ) (lists : Lists) (o : Option ℕ) → GivesTickets key →
+    AreIn spread key list → AreApart rows → AreListed spread rows lists
     → (h : IsFrontier spread key rows list p) → is_some (key (at rows p)) ≡ false
     → MatchOption o (IsNobodyAbove lists.members list h.ticket) (IsNext lists.members list h.ticket) → IsForward spread key rows list o
 forward-steps spread key rows list p lists o gives all apart listed h not = go o
@@ -123,7 +129,8 @@ forward-steps spread key rows list p lists o gives all apart listed h not = go o
 
     go : (o : Option ℕ) → MatchOption o (IsNobodyAbove lists.members list h.ticket) (IsNext lists.members list h.ticket) → IsForward spread key rows list o
     go None n = λ q. none-is (key (at rows q)) (λ t e.
-        let le : t ≤ h.ticket = n.most q t (same-member spread rows lists q listed ∙ all (at rows q) t e) in let lt : h.ticket < t = above q t e in omega (arith, le, lt))
+        let le : t ≤ h.ticket = n.most q t (same-member spread rows lists q listed ∙
+        all (at rows q) t e) in let lt : h.ticket < t = above q t e in omega (arith, le, lt))
     go (Some q) n = record {
       ticket = n.ticket;
       own = sym (same-member spread rows lists q listed) ∙ n.own;
@@ -135,7 +142,8 @@ some-of None h = cc
 some-of (Some t) h = (t, refl)
 
 -- this one is sought
-pub forward-found : (spread : Spread) (key : Stand → Option ℕ) (rows : List Stand) (list p : ℕ) → GivesTickets key → IsFrontier spread key rows list p → is_some (key (at rows p)) ≡ true → IsFirst key rows p
+pub forward-found : (spread : Spread) (key : Stand → Option ℕ) (rows : List Stand) (list p : ℕ) → GivesTickets key → IsFrontier spread key rows list p →
+    is_some (key (at rows p)) ≡ true → IsFirst key rows p
 forward-found spread key rows list p gives h found =
     let own : (t : ℕ) × (key (at rows p) ≡ Some t) = some-of (key (at rows p)) found in
     let same : Some own.0 ≡ Some h.ticket = sym (gives (at rows p) own.0 own.1) ∙ member-ticket spread (at rows p) list h.ticket h.own in
@@ -146,7 +154,8 @@ abbrev pub ahead : List Stand → ℕ → Option ℕ → ℕ
 ahead rows done None = 0
 ahead rows done (Some p) = suc (done + 1 - unwrap_or (ticket_of (at rows p)) 0)
 
-pub ahead-of : (spread : Spread) (rows : List Stand) (list p t done : ℕ) (lists : Lists) (o : Option ℕ) → AreTickets rows done → AreListed spread rows lists → IsIn spread rows list p t
+pub ahead-of : (spread : Spread) (rows : List Stand) (list p t done : ℕ) (lists : Lists) (o : Option ℕ) → AreTickets rows done →
+    AreListed spread rows lists → IsIn spread rows list p t
     → MatchOption o (IsNobodyAbove lists.members list t) (IsNext lists.members list t) → ahead rows done o < ahead rows done (Some p)
 ahead-of spread rows list p t done lists None tickets listed own n = omega arith
 ahead-of spread rows list p t done lists (Some q) tickets listed own n =
@@ -158,7 +167,8 @@ ahead-of spread rows list p t done lists (Some q) tickets listed own n =
     let f : unwrap_or (ticket_of (at rows q)) 0 ≡ n.ticket = ap (λ v. unwrap_or v 0) there in
     omega (arith, le, beyond, e, f)
 
-pub forward-nearer : (spread : Spread) (key : Stand → Option ℕ) (rows : List Stand) (list p done : ℕ) (lists : Lists) (o : Option ℕ) → AreTickets rows done → AreListed spread rows lists → (h : IsFrontier spread key rows list p)
+pub forward-nearer : (spread : Spread) (key : Stand → Option ℕ) (rows : List Stand) (list p done : ℕ) (lists : Lists) (o : Option ℕ) → AreTickets rows done →
+    AreListed spread rows lists → (h : IsFrontier spread key rows list p)
     → MatchOption o (IsNobodyAbove lists.members list h.ticket) (IsNext lists.members list h.ticket) → ahead rows done o < ahead rows done (Some p)
 forward-nearer spread key rows list p done lists o tickets listed h n = ahead-of spread rows list p h.ticket done lists o tickets listed h.own n
 
@@ -172,16 +182,19 @@ pub record IsRearward (spread : Spread) (key : Stand → Option ℕ) (rows : Lis
 abbrev pub IsBackward : Spread → (Stand → Option ℕ) → List Stand → ℕ → Option ℕ → Type 0
 IsBackward spread key rows list next = MatchOption next (IsNobody key rows) (IsRearward spread key rows list)
 
-pub backward-starts : (spread : Spread) (key : Stand → Option ℕ) (rows : List Stand) (list : ℕ) (lists : Lists) (o : Option ℕ) → AreIn spread key list → AreListed spread rows lists
+pub backward-starts : (spread : Spread) (key : Stand → Option ℕ) (rows : List Stand) (list : ℕ) (lists : Lists) (o : Option ℕ) →
+    AreIn spread key list → AreListed spread rows lists
     → MatchOption o (IsEmpty lists.members list) (IsLastIn lists.members list) → IsBackward spread key rows list o
-backward-starts spread key rows list lists None all listed h = λ q. none-is (key (at rows q)) (λ t e. h.none q t (same-member spread rows lists q listed ∙ all (at rows q) t e))
+backward-starts spread key rows list lists None all listed h =
+    λ q. none-is (key (at rows q)) (λ t e. h.none q t (same-member spread rows lists q listed ∙ all (at rows q) t e))
 backward-starts spread key rows list lists (Some p) all listed h = record {
   ticket = h.ticket;
   own = sym (same-member spread rows lists p listed) ∙ h.own;
   rest = λ q t e. h.greatest q t (same-member spread rows lists q listed ∙ all (at rows q) t e);
 }
 
-pub backward-steps : (spread : Spread) (key : Stand → Option ℕ) (rows : List Stand) (list p : ℕ) (lists : Lists) (o : Option ℕ) → GivesTickets key → AreIn spread key list → AreApart rows → AreListed spread rows lists
+pub backward-steps : (spread : Spread) (key : Stand → Option ℕ) (rows : List Stand) (list p : ℕ) (lists : Lists) (o : Option ℕ) → GivesTickets key →
+    AreIn spread key list → AreApart rows → AreListed spread rows lists
     → (h : IsRearward spread key rows list p) → is_some (key (at rows p)) ≡ false
     → MatchOption o (IsNobodyBelow lists.members list h.ticket) (IsPrevious lists.members list h.ticket) → IsBackward spread key rows list o
 backward-steps spread key rows list p lists o gives all apart listed h not = go o
@@ -198,14 +211,16 @@ backward-steps spread key rows list p lists o gives all apart listed h not = go 
 
     go : (o : Option ℕ) → MatchOption o (IsNobodyBelow lists.members list h.ticket) (IsPrevious lists.members list h.ticket) → IsBackward spread key rows list o
     go None n = λ q. none-is (key (at rows q)) (λ t e.
-        let le : h.ticket ≤ t = n.fewest q t (same-member spread rows lists q listed ∙ all (at rows q) t e) in let lt : t < h.ticket = below q t e in omega (arith, le, lt))
+        let le : h.ticket ≤ t = n.fewest q t (same-member spread rows lists q listed ∙
+        all (at rows q) t e) in let lt : t < h.ticket = below q t e in omega (arith, le, lt))
     go (Some q) n = record {
       ticket = n.ticket;
       own = sym (same-member spread rows lists q listed) ∙ n.own;
       rest = λ k t e. n.greatest k t (same-member spread rows lists k listed ∙ all (at rows k) t e) (below k t e);
     }
 
-pub backward-found : (spread : Spread) (key : Stand → Option ℕ) (rows : List Stand) (list p : ℕ) → GivesTickets key → IsRearward spread key rows list p → is_some (key (at rows p)) ≡ true → IsLast key rows p
+pub backward-found : (spread : Spread) (key : Stand → Option ℕ) (rows : List Stand) (list p : ℕ) → GivesTickets key → IsRearward spread key rows list p →
+    is_some (key (at rows p)) ≡ true → IsLast key rows p
 backward-found spread key rows list p gives h found =
     let own : (t : ℕ) × (key (at rows p) ≡ Some t) = some-of (key (at rows p)) found in
     let same : Some own.0 ≡ Some h.ticket = sym (gives (at rows p) own.0 own.1) ∙ member-ticket spread (at rows p) list h.ticket h.own in
@@ -216,7 +231,8 @@ abbrev pub aback : List Stand → Option ℕ → ℕ
 aback rows None = 0
 aback rows (Some p) = suc (unwrap_or (ticket_of (at rows p)) 0)
 
-pub backward-nearer : (spread : Spread) (key : Stand → Option ℕ) (rows : List Stand) (list p : ℕ) (lists : Lists) (o : Option ℕ) → AreListed spread rows lists → (h : IsRearward spread key rows list p)
+pub backward-nearer : (spread : Spread) (key : Stand → Option ℕ) (rows : List Stand) (list p : ℕ) (lists : Lists) (o : Option ℕ) → AreListed spread rows lists →
+    (h : IsRearward spread key rows list p)
     → MatchOption o (IsNobodyBelow lists.members list h.ticket) (IsPrevious lists.members list h.ticket) → aback rows o < aback rows (Some p)
 backward-nearer spread key rows list p lists None listed h n = omega arith
 backward-nearer spread key rows list p lists (Some q) listed h n =

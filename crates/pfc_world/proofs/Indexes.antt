@@ -41,7 +41,8 @@ record IsChanged (old new : Index) (rows : List Stand) (p : ℕ) (s : Stand) : T
 same-count : (a b c d x y : ℕ) → a + x ≡ c + y → c ≡ d → b + x ≡ d + y → a ≡ b
 same-count a b c d x y e f g = omega (arith, e, f, g)
 
-changed-index : (rows new : List Stand) (p : ℕ) (s : Stand) (ix ix' : Index) → p < length rows → new ≡ set rows p s → IsIndexed rows ix → IsChanged ix ix' rows p s → IsIndexed new ix'
+changed-index : (rows new : List Stand) (p : ℕ) (s : Stand) (ix ix' : Index) → p < length rows → new ≡ set rows p s → IsIndexed rows ix →
+    IsChanged ix ix' rows p s → IsIndexed new ix'
 changed-index rows new p s ix ix' lt is h c = subst (λ v. IsIndexed v ix') (sym is) (record {
   some = rw length-set h.some;
   few = rw length-set h.few;
@@ -54,9 +55,12 @@ changed-index rows new p s ix ix' lt is h c = subst (λ v. IsIndexed v ix') (sym
   dues = c.dues ∙ ap (λ v. set v p (due_of s)) h.dues ∙ sym (map-set due_of rows p s);
   ranks = c.ranks ∙ ap (λ v. set v p (delay_of s)) h.ranks ∙ sym (map-set delay_of rows p s);
   barred = c.barred ∙ ap (λ v. set v p (barred_of s)) h.barred ∙ sym (map-set barred_of rows p s);
-  unfinished = same-count ix'.unfinished (count_of is_unfinished (set rows p s)) ix.unfinished (count_of is_unfinished rows) (number (is_unfinished (at rows p))) (number (is_unfinished s)) c.unfinished h.unfinished (count-set is_unfinished rows p s lt);
-  created = same-count ix'.created (count_of is_created (set rows p s)) ix.created (count_of is_created rows) (number (is_created (at rows p))) (number (is_created s)) c.created h.created (count-set is_created rows p s lt);
-  ending = same-count ix'.ending (count_of may_end (set rows p s)) ix.ending (count_of may_end rows) (number (may_end (at rows p))) (number (may_end s)) c.ending h.ending (count-set may_end rows p s lt);
+  unfinished = same-count ix'.unfinished (count_of is_unfinished (set rows p s)) ix.unfinished (count_of is_unfinished rows)
+      (number (is_unfinished (at rows p))) (number (is_unfinished s)) c.unfinished h.unfinished (count-set is_unfinished rows p s lt);
+  created = same-count ix'.created (count_of is_created (set rows p s)) ix.created (count_of is_created rows) (number (is_created (at rows p)))
+      (number (is_created s)) c.created h.created (count-set is_created rows p s lt);
+  ending = same-count ix'.ending (count_of may_end (set rows p s)) ix.ending (count_of may_end rows) (number (may_end (at rows p)))
+      (number (may_end s)) c.ending h.ending (count-set may_end rows p s lt);
 })
 
 -- what the index says of a process
@@ -128,7 +132,8 @@ barred-ticket Is_ready delay h = cc
 barred-ticket Is_done delay h = cc
 
 -- a process that acts may be put into a list, with the ticket of the present action
-pub admits : (rows : List Stand) (ix : Index) (p done t : ℕ) → p < length rows → at rows p ≡ Is_ready → AreTickets rows done → IsNew rows done → t ≡ done + 1 → IsIndexed rows ix
+pub admits : (rows : List Stand) (ix : Index) (p done t : ℕ) → p < length rows → at rows p ≡ Is_ready → AreTickets rows done →
+    IsNew rows done → t ≡ done + 1 → IsIndexed rows ix
     → Admits ix p t
 admits rows ix p done t lt ready tickets fresh is h = record {
   ready = let room : length rows ≤ length ix.ready = h.bits.room in omega (arith, room, lt);
@@ -146,8 +151,10 @@ admits rows ix p done t lt ready tickets fresh is h = record {
   last = λ list q u own. last q u (member-ticket ix.spread (at rows q) list u (sym (member-is rows ix q h) ∙ own));
   distinct = λ q delay own same.
       let lt' : delay.ticket < t = last q delay.ticket (barred-ticket (at rows q) delay (sym (barred-is rows ix q h) ∙ own)) in omega (arith, lt', same);
-  apart = λ q delay own same. let lt' : delay.ticket < t = last q delay.ticket (delay-ticket (at rows q) delay (sym (delay-is rows ix q h) ∙ own)) in omega (arith, lt', same);
-  ending = let le : count_of may_end rows ≤ length rows = count-most may_end rows in let e : ix.ending ≡ count_of may_end rows = h.ending in let few : length rows ≤ 1024 = h.few in omega (arith, le, e, few);
+  apart = λ q delay own same. let lt' : delay.ticket < t =
+      last q delay.ticket (delay-ticket (at rows q) delay (sym (delay-is rows ix q h) ∙ own)) in omega (arith, lt', same);
+  ending = let le : count_of may_end rows ≤ length rows = count-most may_end rows in let e : ix.ending ≡ count_of may_end rows =
+      h.ending in let few : length rows ≤ 1024 = h.few in omega (arith, le, e, few);
 }
   where
     last : (q u : ℕ) → ticket_of (at rows q) ≡ Some u → u < t
@@ -162,7 +169,8 @@ ends-same (Select due terminate) t arms = refl
 ends-same _ t arms = refl
 
 -- a process that acted waits
-pub begun-index : (rows new : List Stand) (p t : ℕ) (why : Why) (arms : List Arm) (ix ix' : Index) → p < length rows → at rows p ≡ Is_ready → new ≡ set rows p (Waits why t arms)
+pub begun-index : (rows new : List Stand) (p t : ℕ) (why : Why) (arms : List Arm) (ix ix' : Index) → p < length rows →
+    at rows p ≡ Is_ready → new ≡ set rows p (Waits why t arms)
     → IsIndexed rows ix → BeginsWait ix ix' p why t → IsIndexed new ix'
 begun-index rows new p t why arms ix ix' lt ready is h b = changed-index rows new p (Waits why t arms) ix ix' lt is h (record {
   bits = subst (λ v. IsReadySet (set rows p (Waits why t arms)) v) (sym b.ready) (ready-set rows ix.ready p (Waits why t arms) false lt refl h.bits);
@@ -210,7 +218,8 @@ waiting-unready Is_ready h = absurd h
 waiting-unready Is_done h = absurd h
 
 -- who waits is in a list
-pub is-listed : (rows : List Stand) (ix : Index) (p : ℕ) (ends : Bool) → p < length rows → IsWaiting (at rows p) → ends ≡ may_end (at rows p) → IsIndexed rows ix → IsListed ix p ends
+pub is-listed : (rows : List Stand) (ix : Index) (p : ℕ) (ends : Bool) → p < length rows → IsWaiting (at rows p) →
+    ends ≡ may_end (at rows p) → IsIndexed rows ix → IsListed ix p ends
 is-listed rows ix p ends lt waits is h = record {
   ready = let room : length rows ≤ length ix.ready = h.bits.room in omega (arith, room, lt);
   waits = let room : length ix.waits.members ≡ length rows = members-room rows ix h in omega (arith, room, lt);
@@ -229,7 +238,8 @@ is-listed rows ix p ends lt waits is h = record {
 }
 
 -- who waited is ready
-pub woken-index : (rows new : List Stand) (p : ℕ) (ends : Bool) (ix ix' : Index) → p < length rows → IsWaiting (at rows p) → ends ≡ may_end (at rows p) → new ≡ set rows p Is_ready
+pub woken-index : (rows new : List Stand) (p : ℕ) (ends : Bool) (ix ix' : Index) → p < length rows → IsWaiting (at rows p) →
+    ends ≡ may_end (at rows p) → new ≡ set rows p Is_ready
     → IsIndexed rows ix → EndsWait ix ix' p ends → ix'.ready ≡ set ix.ready p true → ix'.unfinished ≡ ix.unfinished → IsIndexed new ix'
 woken-index rows new p ends ix ix' lt waits may is h e ready unfinished = changed-index rows new p Is_ready ix ix' lt is h (record {
   bits = subst (λ v. IsReadySet (set rows p Is_ready) v) (sym ready) (ready-set rows ix.ready p Is_ready true lt refl h.bits);
@@ -241,11 +251,13 @@ woken-index rows new p ends ix ix' lt waits may is h e ready unfinished = change
   barred = e.barred;
   unfinished = ap (λ n. n + number (is_unfinished (at rows p))) unfinished ∙ ap (λ b. ix.unfinished + number b) (waiting-unfinished (at rows p) waits);
   created = ap (λ n. n + number (is_created (at rows p))) e.created ∙ ap (λ b. ix.created + number b) (waiting-begun (at rows p) waits);
-  ending = let same : number ends ≡ number (may_end (at rows p)) = ap number may in let left : ix'.ending + number ends ≡ ix.ending = e.ending in omega (arith, same, left);
+  ending = let same : number ends ≡ number (may_end (at rows p)) =
+      ap number may in let left : ix'.ending + number ends ≡ ix.ending = e.ending in omega (arith, same, left);
 })
 
 -- who waited is over
-pub ended-index : (rows new : List Stand) (p : ℕ) (ends : Bool) (ix ix' : Index) → p < length rows → IsWaiting (at rows p) → ends ≡ may_end (at rows p) → new ≡ set rows p Is_done
+pub ended-index : (rows new : List Stand) (p : ℕ) (ends : Bool) (ix ix' : Index) → p < length rows → IsWaiting (at rows p) →
+    ends ≡ may_end (at rows p) → new ≡ set rows p Is_done
     → IsIndexed rows ix → EndsWait ix ix' p ends → ix'.ready ≡ ix.ready → ix'.unfinished + 1 ≡ ix.unfinished → IsIndexed new ix'
 ended-index rows new p ends ix ix' lt waits may is h e ready unfinished = changed-index rows new p Is_done ix ix' lt is h (record {
   bits = subst (λ v. IsReadySet (set rows p Is_done) v) (sym ready) (ready-kept rows ix.ready p Is_done (waiting-unready (at rows p) waits) h.bits);
@@ -257,11 +269,13 @@ ended-index rows new p ends ix ix' lt waits may is h e ready unfinished = change
   barred = e.barred;
   unfinished = let one : number (is_unfinished (at rows p)) ≡ 1 = ap number (waiting-unfinished (at rows p) waits) in omega (arith, one, unfinished);
   created = ap (λ n. n + number (is_created (at rows p))) e.created ∙ ap (λ b. ix.created + number b) (waiting-begun (at rows p) waits);
-  ending = let same : number ends ≡ number (may_end (at rows p)) = ap number may in let left : ix'.ending + number ends ≡ ix.ending = e.ending in omega (arith, same, left);
+  ending = let same : number ends ≡ number (may_end (at rows p)) =
+      ap number may in let left : ix'.ending + number ends ≡ ix.ending = e.ending in omega (arith, same, left);
 })
 
 -- nothing is kept of who neither waits nor is due
-unlisted : (rows : List Stand) (ix : Index) (p : ℕ) → IsIndexed rows ix → member_of ix.spread (at rows p) ≡ None → set ix.waits.members p None ≡ ix.waits.members
+unlisted : (rows : List Stand) (ix : Index) (p : ℕ) → IsIndexed rows ix → member_of ix.spread (at rows p) ≡ None →
+    set ix.waits.members p None ≡ ix.waits.members
 unlisted rows ix p h none = kept ix.waits.members (member-is rows ix p h ∙ none)
   where
     kept : (ms : List (Option Member)) → member_at ms p ≡ None → set ms p None ≡ ms
@@ -417,8 +431,10 @@ idle-barred zero = refl
 idle-barred (suc n) = ap (λ v. None ∷ v) (idle-barred n)
 
 -- the index of a table that is made
-pub first-index : (n : ℕ) (ix : Index) → 0 < n → n ≤ 1024 → IsSpread ix.spread → IsReadySet (Is_ready ∷ replicate (n - 1) Is_idle) ix.ready → ix.waits.members ≡ replicate n None → ix.waits.lists ≡ list_count ix.spread
-    → ix.dues ≡ replicate n None → ix.ranks ≡ replicate n None → ix.barred ≡ replicate n None → ix.unfinished ≡ 1 → ix.created ≡ 0 → ix.ending ≡ 0 → IsIndexed (Is_ready ∷ replicate (n - 1) Is_idle) ix
+pub first-index : (n : ℕ) (ix : Index) → 0 < n → n ≤ 1024 → IsSpread ix.spread → IsReadySet (Is_ready ∷ replicate (n - 1) Is_idle) ix.ready →
+    ix.waits.members ≡ replicate n None → ix.waits.lists ≡ list_count ix.spread
+    → ix.dues ≡ replicate n None → ix.ranks ≡ replicate n None → ix.barred ≡ replicate n None → ix.unfinished ≡ 1 → ix.created ≡ 0 → ix.ending ≡ 0 →
+    IsIndexed (Is_ready ∷ replicate (n - 1) Is_idle) ix
 first-index n ix some few spread bits members lists dues ranks barred unfinished created ending =
     let e : n ≡ suc (n - 1) = omega (arith, some) in
     let long : length (replicate (n - 1) Is_idle) ≡ n - 1 = length-replicate (n - 1) Is_idle in
@@ -487,7 +503,8 @@ abbrev with_ready : Index → List Bool → Index
 with_ready ix ready = record ix { ready = ready; created = 0 }
 
 -- whoever was created is ready
-pub all-started-index : (rows new : List Stand) (ix : Index) (ready : List Bool) → new ≡ map started rows → IsReadySet new ready → IsIndexed rows ix → IsIndexed new (with_ready ix ready)
+pub all-started-index : (rows new : List Stand) (ix : Index) (ready : List Bool) → new ≡ map started rows → IsReadySet new ready →
+    IsIndexed rows ix → IsIndexed new (with_ready ix ready)
 all-started-index rows new ix ready is bits h = record {
   some = subst (λ v. 0 < length v) (sym is) (rw length-map h.some);
   few = subst (λ v. length v ≤ 1024) (sym is) (rw length-map h.few);

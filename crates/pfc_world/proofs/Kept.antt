@@ -47,7 +47,8 @@ none-released w = go (is_released w.rows)
     go false = none-refl w.rows
 
 pub none-finished : (w : Table) (p : ℕ) → BeginsNoWait w.rows (finished w p).rows
-none-finished w p = none-trans w.rows (set w.rows p Is_done) (finished w p).rows (none-set w.rows p Is_done (λ h. h)) (none-released (rested (placed w p Is_done)))
+none-finished w p = none-trans w.rows (set w.rows p Is_done) (finished w p).rows (none-set w.rows p Is_done (λ h. h))
+    (none-released (rested (placed w p Is_done)))
 
 pub none-ended : (w : Table) (p : ℕ) → BeginsNoWait w.rows (ended w p).rows
 none-ended w p = none-trans w.rows (set w.rows p Is_done) (ended w p).rows (none-set w.rows p Is_done (λ h. h)) (none-released (placed w p Is_done))
@@ -84,7 +85,8 @@ woken-twice moment s = go (is_due moment (due_of s)) refl
 
 all-woken-twice : (moment : ℕ) (rows : List Stand) → map (woken moment) (map (woken moment) rows) ≡ map (woken moment) rows
 all-woken-twice moment [] = refl
-all-woken-twice moment (s ∷ rest) = ap (λ v. v ∷ map (woken moment) (map (woken moment) rest)) (woken-twice moment s) ∙ ap (λ v. woken moment s ∷ v) (all-woken-twice moment rest)
+all-woken-twice moment (s ∷ rest) = ap (λ v. v ∷ map (woken moment) (map (woken moment) rest)) (woken-twice moment s) ∙
+    ap (λ v. woken moment s ∷ v) (all-woken-twice moment rest)
 
 abbrev with_rows : Table → List Stand → Table
 with_rows w rows = record w { rows = rows }

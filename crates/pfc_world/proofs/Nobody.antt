@@ -75,7 +75,8 @@ least-held key (s ∷ rest) t e h = go (key s) (least key rest) refl e (λ v f. 
         number d None = d
     go (Some u) (Some v) is e ih h = elim (cases_eq u t) [
       | inl same ↦ holder-here t u (holder key t rest) same h
-      | inr other ↦ holder-behind t (Some u) (holder key t rest) (ih t (ap (λ n. Some n) (let m : min u v ≡ t = ap (λ x. number u x) e in omega (arith, m, other)))) h
+      | inr other ↦ holder-behind t (Some u) (holder key t rest)
+          (ih t (ap (λ n. Some n) (let m : min u v ≡ t = ap (λ x. number u x) e in omega (arith, m, other)))) h
     ]
       where
         number : ℕ → Option ℕ → ℕ
@@ -96,7 +97,8 @@ greatest-held key (s ∷ rest) t e h = go (key s) (greatest key rest) refl e (λ
         number d None = d
     go (Some u) (Some v) is e ih h = elim (cases_eq u t) [
       | inl same ↦ holder-here t u (holder key t rest) same h
-      | inr other ↦ holder-behind t (Some u) (holder key t rest) (ih t (ap (λ n. Some n) (let m : max u v ≡ t = ap (λ x. number u x) e in omega (arith, m, other)))) h
+      | inr other ↦ holder-behind t (Some u) (holder key t rest)
+          (ih t (ap (λ n. Some n) (let m : max u v ≡ t = ap (λ x. number u x) e in omega (arith, m, other)))) h
     ]
       where
         number : ℕ → Option ℕ → ℕ
@@ -139,7 +141,8 @@ nobody-last key rows idle h = go (greatest key rows) refl h
     go (Some t) e g = absurd (greatest-held key rows t e g)
 
 -- A standing without a ticket, put anywhere, gives nobody one.
-pub set-none : (key : Stand → Option ℕ) (rows : List Stand) (p : ℕ) (s : Stand) (q t : ℕ) → key s ≡ None → key (at (set rows p s) q) ≡ Some t → key (at rows q) ≡ Some t
+pub set-none : (key : Stand → Option ℕ) (rows : List Stand) (p : ℕ) (s : Stand) (q t : ℕ) → key s ≡ None →
+    key (at (set rows p s) q) ≡ Some t → key (at rows q) ≡ Some t
 set-none key rows p s q t none h = elim (cases_eq q p) [
   | inl here ↦ elim (cases_lt p (length rows)) [
     | inl lt ↦ let e : None ≡ Some t = sym none ∙ sym (ap key (ap (λ n. at (set rows p s) n) here ∙ get_or-set_same rows p s Is_idle lt)) ∙ h in cc

@@ -66,7 +66,8 @@ record IsChanged (rows : List Stand) (old new : Nodes) (p : ℕ) (s : Stand) : T
   each : (k list t : ℕ) → k < old.room → node_at new p k ≡ in_list list t → (k < length (arms_of s)) × (ticket_of s ≡ Some t)
   every : (arm : Arm) (t : ℕ) → ticket_offering arm s ≡ Some t → IsIn new p (list_of old.places arm) t
 
-changed : (rows now : List Stand) (old new : Nodes) (p : ℕ) (s : Stand) → p < length rows → now ≡ set rows p s → AreOffered rows old → IsChanged rows old new p s → AreOffered now new
+changed : (rows now : List Stand) (old new : Nodes) (p : ℕ) (s : Stand) → p < length rows → now ≡ set rows p s → AreOffered rows old →
+    IsChanged rows old new p s → AreOffered now new
 changed rows now old new p s lt is h c = subst (λ v. AreOffered v new) (sym is) (record {
   long = c.others.long ∙ h.long ∙ ap (λ n. n * old.room) (sym (length-set rows p s)) ∙ ap (λ n. length (set rows p s) * n) (sym c.others.room);
   few = λ q. subst (λ n. length (arms_of (at (set rows p s) q)) ≤ n) (sym c.others.room) (few q (cases_eq q p));
@@ -84,9 +85,11 @@ changed rows now old new p s lt is h c = subst (λ v. AreOffered v new) (sym is)
     few q (inl same) = subst (λ v. length (arms_of v) ≤ old.room) (sym (here q same)) c.few
     few q (inr away) = subst (λ v. length (arms_of v) ≤ old.room) (sym (there q away)) (h.few q)
 
-    each : (q k list t : ℕ) → k < old.room → node_at new q k ≡ in_list list t → (q ≡ p) ⊎ (q ≢ p) → (k < length (arms_of (at (set rows p s) q))) × (ticket_of (at (set rows p s) q) ≡ Some t)
+    each : (q k list t : ℕ) → k < old.room → node_at new q k ≡ in_list list t → (q ≡ p) ⊎ (q ≢ p) → (k < length (arms_of (at (set rows p s) q))) ×
+        (ticket_of (at (set rows p s) q) ≡ Some t)
     each q k list t low own (inl same) =
-        subst (λ v. (k < length (arms_of v)) × (ticket_of v ≡ Some t)) (sym (here q same)) (c.each k list t low (subst (λ n. node_at new n k ≡ in_list list t) same own))
+        subst (λ v. (k < length (arms_of v)) × (ticket_of v ≡ Some t)) (sym (here q same))
+        (c.each k list t low (subst (λ n. node_at new n k ≡ in_list list t) same own))
     each q k list t low own (inr away) =
         subst (λ v. (k < length (arms_of v)) × (ticket_of v ≡ Some t)) (sym (there q away)) (h.each q k list t low (sym (c.others.others q k away low) ∙ own))
 
@@ -95,10 +98,16 @@ changed rows now old new p s lt is h c = subst (λ v. AreOffered v new) (sym is)
         subst (λ n. IsIn new n (list_of old.places arm) t) (sym same) (c.every arm t (sym (ap (ticket_offering arm) (here q same)) ∙ own))
     every arm q t own (inr away) =
         let was : IsIn old q (list_of old.places arm) t = h.every arm q t (sym (ap (ticket_offering arm) (there q away)) ∙ own) in
-        record { place = was.place; within = subst (λ n. was.place < n) (sym c.others.room) was.within; is = c.others.others q was.place away was.within ∙ was.is }
+        record {
+          place = was.place;
+          within = subst (λ n. was.place < n) (sym c.others.room) was.within;
+          is =
+              c.others.others q was.place away was.within ∙ was.is;
+        }
 
 -- a process that waited with no alternative waits with none
-pub kept-offered : (rows now : List Stand) (nodes : Nodes) (p : ℕ) (s : Stand) → p < length rows → OffersNone (at rows p) → now ≡ set rows p s → OffersNone s → AreOffered rows nodes → AreOffered now nodes
+pub kept-offered : (rows now : List Stand) (nodes : Nodes) (p : ℕ) (s : Stand) → p < length rows → OffersNone (at rows p) → now ≡ set rows p s → OffersNone s →
+    AreOffered rows nodes → AreOffered now nodes
 kept-offered rows now nodes p s lt was is none h = changed rows now nodes nodes p s lt is h (record {
   others = record { places = refl; room = refl; long = refl; others = λ q k away low. refl };
   few = subst (λ v. length v ≤ nodes.room) (sym none.none) zero-le;
@@ -110,7 +119,8 @@ no-node : (A : Type 0) (o : Option Member) (list t : ℕ) → o ≡ None → o �
 no-node A o list t none some = let no : None ≡ in_list list t = sym none ∙ some in cc
 
 -- a process waits with none of its alternatives any more
-pub withdrawn-offered : (rows now : List Stand) (old new : Nodes) (p : ℕ) (s : Stand) → p < length rows → now ≡ set rows p s → OffersNone s → AreOffered rows old
+pub withdrawn-offered : (rows now : List Stand) (old new : Nodes) (p : ℕ) (s : Stand) → p < length rows →
+    now ≡ set rows p s → OffersNone s → AreOffered rows old
     → ((k : ℕ) → k < old.room → node_at new p k ≡ None) → KeepsOthers old new p → AreOffered now new
 withdrawn-offered rows now old new p s lt is none h out others = changed rows now old new p s lt is h (record {
   others = others;
@@ -126,7 +136,8 @@ free-offered rows nodes p ticket ready h = record {
 }
 
 -- nobody waits since the present action
-pub earlier-offered : (rows : List Stand) (nodes : Nodes) (p done ticket : ℕ) → ticket ≡ done + 1 → AreTickets rows done → IsNew rows done → AreOffered rows nodes → AreEarlier nodes p ticket
+pub earlier-offered : (rows : List Stand) (nodes : Nodes) (p done ticket : ℕ) → ticket ≡ done + 1 → AreTickets rows done → IsNew rows done →
+    AreOffered rows nodes → AreEarlier nodes p ticket
 earlier-offered rows nodes p done ticket is tickets fresh h = record {
   below = λ q k list t away low own.
       let since : ticket_of (at rows q) ≡ Some t = (h.each q k list t low own).1 in
@@ -140,22 +151,26 @@ tested true ticket t h = (refl, let e : Some ticket ≡ Some t = h in cc)
 tested false ticket t h = cc
 
 -- a process that acted waits with these alternatives
-pub put-offered : (rows now : List Stand) (old new : Nodes) (p ticket : ℕ) (due : Option ℕ) (terminate : Bool) (arms : List Arm) → p < length rows → now ≡ set rows p (Waits (Select due terminate) ticket arms)
-    → length arms ≤ old.room → AreOffered rows old → ((arm : Arm) → has_arm arm arms ≡ true → IsIn new p (list_of old.places arm) ticket) → AreBefore new p (length arms) ticket → KeepsOthers old new p
+pub put-offered : (rows now : List Stand) (old new : Nodes) (p ticket : ℕ) (due : Option ℕ) (terminate : Bool) (arms : List Arm) → p < length rows →
+    now ≡ set rows p (Waits (Select due terminate) ticket arms)
+    → length arms ≤ old.room → AreOffered rows old → ((arm : Arm) → has_arm arm arms ≡ true → IsIn new p (list_of old.places arm) ticket) →
+    AreBefore new p (length arms) ticket → KeepsOthers old new p
     → AreOffered now new
-put-offered rows now old new p ticket due terminate arms lt is few h offered only others = changed rows now old new p (Waits (Select due terminate) ticket arms) lt is h (record {
-  others = others;
-  few = few;
-  each = λ k list t low own.
-      let has : (k < length arms) × (t ≡ ticket) = only.only k list t (subst (λ n. k < n) (sym others.room) low) own in
-      (has.0, ap (λ n. Some n) (sym has.1));
-  every = λ arm t own.
-      let has : (has_arm arm arms ≡ true) × (ticket ≡ t) = tested (has_arm arm arms) ticket t own in
-      subst (λ n. IsIn new p (list_of old.places arm) n) has.1 (offered arm has.0);
-})
+put-offered rows now old new p ticket due terminate arms lt is few h offered only others =
+    changed rows now old new p (Waits (Select due terminate) ticket arms) lt is h (record {
+      others = others;
+      few = few;
+      each = λ k list t low own.
+          let has : (k < length arms) × (t ≡ ticket) = only.only k list t (subst (λ n. k < n) (sym others.room) low) own in
+          (has.0, ap (λ n. Some n) (sym has.1));
+      every = λ arm t own.
+          let has : (has_arm arm arms ≡ true) × (ticket ≡ t) = tested (has_arm arm arms) ticket t own in
+          subst (λ n. IsIn new p (list_of old.places arm) n) has.1 (offered arm has.0);
+    })
 
 -- of a process that waits, no place is in a list but those of its alternatives
-pub within-offered : (rows : List Stand) (nodes : Nodes) (p count : ℕ) → count ≡ length (arms_of (at rows p)) → AreOffered rows nodes → (k list t : ℕ) → k < nodes.room → node_at nodes p k ≡ in_list list t → k < count
+pub within-offered : (rows : List Stand) (nodes : Nodes) (p count : ℕ) → count ≡ length (arms_of (at rows p)) → AreOffered rows nodes → (k list t : ℕ) →
+    k < nodes.room → node_at nodes p k ≡ in_list list t → k < count
 within-offered rows nodes p count is h k list t low own = subst (λ n. k < n) (sym is) (h.each p k list t low own).0
 
 started-arms : (s : Stand) → arms_of (started s) ≡ arms_of s
@@ -206,11 +221,15 @@ idle-at n p = elim (cases_lt p n) [
 ]
 
 -- nobody waits as yet
-pub first-offered : (n room : ℕ) (nodes : Nodes) → 0 < n → nodes.room ≡ room → nodes.members ≡ replicate (n * room) None → AreOffered (Is_ready ∷ replicate (n - 1) Is_idle) nodes
+pub first-offered : (n room : ℕ) (nodes : Nodes) → 0 < n → nodes.room ≡ room → nodes.members ≡ replicate (n * room) None →
+    AreOffered (Is_ready ∷ replicate (n - 1) Is_idle) nodes
 first-offered n room nodes some room_is members_are = subst (λ v. AreOffered (Is_ready ∷ replicate (n - 1) Is_idle) v) (sym is) (record {
-  long = length-replicate (n * room) None ∙ ap (λ k. k * room) (let e : n ≡ suc (n - 1) = omega (arith, some) in e ∙ ap suc (sym (length-replicate (n - 1) Is_idle)));
+  long = length-replicate (n * room) None ∙ ap (λ k. k * room) (let e : n ≡ suc (n - 1) = omega (arith, some) in e ∙
+      ap suc (sym (length-replicate (n - 1) Is_idle)));
   few = λ p. few p;
-  each = λ p k list t low own. no-node ((k < length (arms_of (at (Is_ready ∷ replicate (n - 1) Is_idle) p))) × (ticket_of (at (Is_ready ∷ replicate (n - 1) Is_idle) p) ≡ Some t)) (member_at (replicate (n * room) None) (p * room + k)) list t (none-at (n * room) (p * room + k)) own;
+  each = λ p k list t low own. no-node ((k < length (arms_of (at (Is_ready ∷ replicate (n - 1) Is_idle) p))) ×
+      (ticket_of (at (Is_ready ∷ replicate (n - 1) Is_idle) p) ≡ Some t)) (member_at (replicate (n * room) None) (p * room + k)) list t
+      (none-at (n * room) (p * room + k)) own;
   every = λ arm p t own. every arm p t own;
 })
   where
@@ -231,8 +250,10 @@ first-offered n room nodes some room_is members_are = subst (λ v. AreOffered (I
     every arm (suc p) t own = clash _ (ticket_offering arm (at (replicate (n - 1) Is_idle) p)) t (ap (ticket_offering arm) (idle-at (n - 1) p)) own
 
 -- the same, where the process and the ticket were named otherwise
-pub select-offered : (rows now : List Stand) (old new : Nodes) (p p' ticket ticket' : ℕ) (due : Option ℕ) (terminate : Bool) (arms : List Arm) → p' ≡ p → ticket' ≡ ticket → p < length rows
-    → now ≡ set rows p (Waits (Select due terminate) ticket arms) → length arms ≤ old.room → AreOffered rows old → ((arm : Arm) → has_arm arm arms ≡ true → IsIn new p' (list_of old.places arm) ticket')
+pub select-offered : (rows now : List Stand) (old new : Nodes) (p p' ticket ticket' : ℕ) (due : Option ℕ) (terminate : Bool) (arms : List Arm) →
+    p' ≡ p → ticket' ≡ ticket → p < length rows
+    → now ≡ set rows p (Waits (Select due terminate) ticket arms) → length arms ≤ old.room → AreOffered rows old → ((arm : Arm) → has_arm arm arms ≡ true →
+    IsIn new p' (list_of old.places arm) ticket')
     → AreBefore new p' (length arms) ticket' → KeepsOthers old new p' → AreOffered now new
 select-offered rows now old new p p' ticket ticket' due terminate arms same since lt is few h offered only others =
     put-offered rows now old new p ticket due terminate arms lt is few h

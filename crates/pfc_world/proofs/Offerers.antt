@@ -31,7 +31,13 @@ pub record IsOf (rows : List Stand) (nodes : Nodes) (x t : ℕ) : Type 0 where
   pub process : x / nodes.room < length rows
 
 pub is-of : (rows : List Stand) (nodes : Nodes) (x list t : ℕ) → AreOffered rows nodes → member_at nodes.members x ≡ in_list list t → IsOf rows nodes x t
-is-of rows nodes x list t h own = record { within = low; room = room; since = since; process = waits-within rows (x / nodes.room) (ticket-waits (at rows (x / nodes.room)) t since) }
+is-of rows nodes x list t h own = record {
+  within = low;
+  room = room;
+  since = since;
+  process =
+      waits-within rows (x / nodes.room) (ticket-waits (at rows (x / nodes.room)) t since);
+}
   where
     low : x < length nodes.members
     low = within nodes.members x list t own
@@ -59,7 +65,8 @@ none-is (Some t) f = absurd (f t refl)
 pub walk-starts : (arm : Arm) (rows : List Stand) (nodes : Nodes) (o : Option ℕ) → AreOffered rows nodes
     → MatchOption o (IsEmpty nodes.members (list_of nodes.places arm)) (IsFirstIn nodes.members (list_of nodes.places arm)) → IsWalk arm rows nodes o
 walk-starts arm rows nodes None h e =
-    λ q. none-is (ticket_offering arm (at rows q)) (λ t own. let i : IsIn nodes q (list_of nodes.places arm) t = h.every arm q t own in e.none (q * nodes.room + i.place) t i.is)
+    λ q. none-is (ticket_offering arm (at rows q)) (λ t own. let i : IsIn nodes q (list_of nodes.places arm) t =
+    h.every arm q t own in e.none (q * nodes.room + i.place) t i.is)
 walk-starts arm rows nodes (Some x) h f = record {
   ticket = f.ticket;
   own = f.own;
@@ -73,7 +80,8 @@ not-key A (Some u) t h e = cc
 -- the next place of the list, where the process of this one does not wait with the alternative
 pub walk-steps : (arm : Arm) (rows : List Stand) (nodes : Nodes) (x : ℕ) (o : Option ℕ) → AreApart rows → AreOffered rows nodes → (h : IsAhead arm rows nodes x)
     → is_some (ticket_offering arm (at rows (x / nodes.room))) ≡ false
-    → MatchOption o (IsNobodyAbove nodes.members (list_of nodes.places arm) h.ticket) (IsNext nodes.members (list_of nodes.places arm) h.ticket) → IsWalk arm rows nodes o
+    → MatchOption o (IsNobodyAbove nodes.members (list_of nodes.places arm) h.ticket) (IsNext nodes.members (list_of nodes.places arm) h.ticket) →
+    IsWalk arm rows nodes o
 walk-steps arm rows nodes x o apart offered h not = go o
   where
     above : (q t : ℕ) → ticket_offering arm (at rows q) ≡ Some t → h.ticket < t
@@ -82,12 +90,14 @@ walk-steps arm rows nodes x o apart offered h not = go o
         elim (cases_eq t h.ticket) [
           | inl same ↦
               let at_it : q ≡ x / nodes.room =
-              apart q (x / nodes.room) t (offerings-give arm (at rows q) t e) ((is-of rows nodes x (list_of nodes.places arm) h.ticket offered h.own).since ∙ ap (λ n. Some n) (sym same)) in
+              apart q (x / nodes.room) t (offerings-give arm (at rows q) t e) ((is-of rows nodes x (list_of nodes.places arm) h.ticket offered h.own).since ∙
+              ap (λ n. Some n) (sym same)) in
               not-key (h.ticket < t) (ticket_offering arm (at rows (x / nodes.room))) t not (sym (ap (λ n. ticket_offering arm (at rows n)) at_it) ∙ e)
           | inr other ↦ omega (arith, le, other)
         ]
 
-    go : (o : Option ℕ) → MatchOption o (IsNobodyAbove nodes.members (list_of nodes.places arm) h.ticket) (IsNext nodes.members (list_of nodes.places arm) h.ticket) → IsWalk arm rows nodes o
+    go : (o : Option ℕ) → MatchOption o (IsNobodyAbove nodes.members (list_of nodes.places arm) h.ticket)
+        (IsNext nodes.members (list_of nodes.places arm) h.ticket) → IsWalk arm rows nodes o
     go None n = λ q. none-is (ticket_offering arm (at rows q)) (λ t e.
         let i : IsIn nodes q (list_of nodes.places arm) t = offered.every arm q t e in
         let le : t ≤ h.ticket = n.most (q * nodes.room + i.place) t i.is in let lt : h.ticket < t = above q t e in omega (arith, le, lt))
@@ -107,7 +117,8 @@ pub walk-found : (arm : Arm) (rows : List Stand) (nodes : Nodes) (x p : ℕ) →
 walk-found arm rows nodes x p offered is h found =
     let own : (t : ℕ) × (ticket_offering arm (at rows p) ≡ Some t) = some-of (ticket_offering arm (at rows p)) found in
     let same : Some own.0 ≡ Some h.ticket =
-    sym (offerings-give arm (at rows p) own.0 own.1) ∙ ap (λ n. ticket_of (at rows n)) is ∙ (is-of rows nodes x (list_of nodes.places arm) h.ticket offered h.own).since in
+    sym (offerings-give arm (at rows p) own.0 own.1) ∙ ap (λ n. ticket_of (at rows n)) is ∙
+    (is-of rows nodes x (list_of nodes.places arm) h.ticket offered h.own).since in
     record { ticket = h.ticket; own = own.1 ∙ same; least = h.rest }
 
 abbrev ticket_in : Option Member → ℕ
@@ -119,8 +130,10 @@ abbrev pub distance : Nodes → ℕ → Option ℕ → ℕ
 distance nodes done None = 0
 distance nodes done (Some x) = suc (done + 1 - ticket_in (member_at nodes.members x))
 
-pub walk-nearer : (arm : Arm) (rows : List Stand) (nodes : Nodes) (x done : ℕ) (o : Option ℕ) → AreTickets rows done → AreOffered rows nodes → (h : IsAhead arm rows nodes x)
-    → MatchOption o (IsNobodyAbove nodes.members (list_of nodes.places arm) h.ticket) (IsNext nodes.members (list_of nodes.places arm) h.ticket) → distance nodes done o < distance nodes done (Some x)
+pub walk-nearer : (arm : Arm) (rows : List Stand) (nodes : Nodes) (x done : ℕ) (o : Option ℕ) → AreTickets rows done →
+    AreOffered rows nodes → (h : IsAhead arm rows nodes x)
+    → MatchOption o (IsNobodyAbove nodes.members (list_of nodes.places arm) h.ticket) (IsNext nodes.members (list_of nodes.places arm) h.ticket) →
+    distance nodes done o < distance nodes done (Some x)
 walk-nearer arm rows nodes x done None tickets offered h n = omega arith
 walk-nearer arm rows nodes x done (Some y) tickets offered h n =
     let le : n.ticket ≤ done + 1 = tickets.upto (y / nodes.room) n.ticket (is-of rows nodes y (list_of nodes.places arm) n.ticket offered n.own).since in

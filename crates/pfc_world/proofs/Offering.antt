@@ -51,7 +51,8 @@ stand-place arm Is_done t h = no-ticket ((place : ℕ) × (place_of_arm arm [] �
 
 -- the first to offer an alternative is answered with a place of it
 pub offered : (arm : Arm) (rows : List Stand) (p : ℕ) → IsFirst (ticket_offering arm) rows p
-    → MatchOption (offer_at p (place_of_arm arm (arms_of (at rows p)))) (IsNobody (ticket_offering arm) rows) (λ offer. IsFirst (ticket_offering arm) rows offer.process)
+    → MatchOption (offer_at p (place_of_arm arm (arms_of (at rows p)))) (IsNobody (ticket_offering arm) rows)
+    (λ offer. IsFirst (ticket_offering arm) rows offer.process)
 offered arm rows p h =
     let place : (place : ℕ) × (place_of_arm arm (arms_of (at rows p)) ≡ Some place) = stand-place arm (at rows p) h.ticket h.own in
     subst (λ o. MatchOption (offer_at p o) (IsNobody (ticket_offering arm) rows) (λ offer. IsFirst (ticket_offering arm) rows offer.process)) (sym place.1) h

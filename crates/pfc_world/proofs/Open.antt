@@ -49,7 +49,8 @@ either A None b t f g h = g h
 
 pub open-gives : (arm : Arm) → GivesTickets (ticket_open_to arm)
 open-gives arm s t h =
-    either (ticket_of s ≡ Some t) (ticket_at (plain_wait arm) s) (ticket_offering arm s) t (λ e. at-gives (plain_wait arm) s t e) (λ e. offering-gives arm s t e) h
+    either (ticket_of s ≡ Some t) (ticket_at (plain_wait arm) s) (ticket_offering arm s) t
+    (λ e. at-gives (plain_wait arm) s t e) (λ e. offering-gives arm s t e) h
 
 -- who waits in a plain statement is met at no alternative
 plain-wait : (arm : Arm) (why : Why) (ticket : ℕ) (arms : List Arm) (t : ℕ) → ticket_at (plain_wait arm) (Waits why ticket arms) ≡ Some t
@@ -146,12 +147,14 @@ offer-alone : (arm : Arm) (rows : List Stand) (offer : Offer) → AreApart rows 
 offer-alone arm rows offer apart none e h =
     answer-offer arm rows offer apart e h (first-offering arm rows offer.process h (λ q t g. no-ticket (h.ticket ≤ t) t (sym (none q) ∙ g)))
 
-of-both : (arm : Arm) (rows : List Stand) (p : ℕ) (offer : Offer) → AreApart rows → IsFirst (ticket_at (plain_wait arm)) rows p → Some offer ≡ first_offer arm rows
+of-both : (arm : Arm) (rows : List Stand) (p : ℕ) (offer : Offer) → AreApart rows →
+    IsFirst (ticket_at (plain_wait arm)) rows p → Some offer ≡ first_offer arm rows
     → IsFirst (ticket_offering arm) rows offer.process → first_open_to arm rows ≡ Some (earlier_of rows p offer)
 of-both arm rows p offer apart h o g = go (nat_lt h.ticket g.ticket) refl ∙ ap (λ b. Some (cond b (met_in_a_statement p) (met_in_a_select offer))) (sym tested)
   where
     tested : is_earlier (ticket_of (at rows p)) (ticket_of (at rows offer.process)) ≡ nat_lt h.ticket g.ticket
-    tested = earlier (ticket_of (at rows p)) (ticket_of (at rows offer.process)) h.ticket g.ticket (at-gives (plain_wait arm) (at rows p) h.ticket h.own) (offering-gives arm (at rows offer.process) g.ticket g.own)
+    tested = earlier (ticket_of (at rows p)) (ticket_of (at rows offer.process)) h.ticket g.ticket (at-gives (plain_wait arm) (at rows p) h.ticket h.own)
+        (offering-gives arm (at rows offer.process) g.ticket g.own)
 
     go : (b : Bool) → nat_lt h.ticket g.ticket ≡ b → first_open_to arm rows ≡ Some (cond b (met_in_a_statement p) (met_in_a_select offer))
     go true test =

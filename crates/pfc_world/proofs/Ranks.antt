@@ -117,7 +117,8 @@ same-tests n c k r e f = both (n == c) (int_eq k r) (eq-eqb n c e) ((Decides-int
 wait-delayed : (why : Why) (ticket : ℕ) (arms : List Arm) (d : Delay) → delay_of (Waits why ticket arms) ≡ Some d
     → (rank_on d.object (Waits why ticket arms) ≡ Some d.rank) × (ticket_at (Condition d.object d.rank) (Waits why ticket arms) ≡ Some d.ticket)
 wait-delayed (Condition n k) ticket arms d h =
-    subst (λ v. (rank_on v.object (Waits (Condition n k) ticket arms) ≡ Some v.rank) × (ticket_at (Condition v.object v.rank) (Waits (Condition n k) ticket arms) ≡ Some v.ticket)) (same h)
+    subst (λ v. (rank_on v.object (Waits (Condition n k) ticket arms) ≡ Some v.rank) ×
+    (ticket_at (Condition v.object v.rank) (Waits (Condition n k) ticket arms) ≡ Some v.ticket)) (same h)
     (ap (λ b. cond b (Some k) None) (eq-eqb n n refl), ap (λ b. cond b (Some ticket) None) (same-tests n n k k refl refl))
   where
     same : Some (delay_with n k ticket) ≡ Some d → delay_with n k ticket ≡ d
@@ -189,11 +190,13 @@ rank-first : (c : ℕ) (rows : List Stand) (delays : List (Option Delay)) (p : �
     → IsFirst (ticket_at (Condition c f.delay.rank)) rows p
 rank-first c rows delays p is f = record {
   ticket = f.delay.ticket;
-  own = subst (λ n. ticket_at (Condition n f.delay.rank) (at rows p) ≡ Some f.delay.ticket) f.there (delayed (at rows p) f.delay (sym (delay-kept rows delays p is) ∙ f.own)).1;
+  own = subst (λ n. ticket_at (Condition n f.delay.rank) (at rows p) ≡ Some f.delay.ticket) f.there
+      (delayed (at rows p) f.delay (sym (delay-kept rows delays p is) ∙ f.own)).1;
   least = λ q t own. f.earliest q (delay_with c f.delay.rank t) (delay-kept rows delays q is ∙ ticketed c f.delay.rank (at rows q) t own) refl refl;
 }
 
-least-held : (c : ℕ) (rows : List Stand) (delays : List (Option Delay)) (p : ℕ) → delays ≡ map delay_of rows → (f : IsFirstDelayed delays c p) → least_rank c rows ≡ Some f.delay.rank
+least-held : (c : ℕ) (rows : List Stand) (delays : List (Option Delay)) (p : ℕ) → delays ≡ map delay_of rows →
+    (f : IsFirstDelayed delays c p) → least_rank c rows ≡ Some f.delay.rank
 least-held c rows delays p is f =
     unique c rows (least_rank c rows) (Some f.delay.rank) (least-is c rows) (
       rank-least c rows delays p is f,
@@ -201,7 +204,8 @@ least-held c rows delays p is f =
     )
 
 -- nobody has a rank there
-none-ranked : (c : ℕ) (rows : List Stand) (delays : List (Option Delay)) → delays ≡ map delay_of rows → IsNobodyDelayed delays c → (q : ℕ) → rank_on c (at rows q) ≡ None
+none-ranked : (c : ℕ) (rows : List Stand) (delays : List (Option Delay)) → delays ≡ map delay_of rows →
+    IsNobodyDelayed delays c → (q : ℕ) → rank_on c (at rows q) ≡ None
 none-ranked c rows delays is nobody q = go (rank_on c (at rows q)) refl
   where
     go : (o : Option ℤ) → rank_on c (at rows q) ≡ o → o ≡ None
@@ -210,7 +214,8 @@ none-ranked c rows delays is nobody q = go (rank_on c (at rows q)) refl
         let d : (t : ℕ) × (delay_of (at rows q) ≡ Some (delay_with c r t)) = ranked c (at rows q) r e in
         absurd (nobody q (delay_with c r d.0) (delay-kept rows delays q is ∙ d.1) refl)
 
-pub ranked-found : (c : ℕ) (rows : List Stand) (delays : List (Option Delay)) (o : Option ℕ) → delays ≡ map delay_of rows → MatchOption o (IsNobodyDelayed delays c) (IsFirstDelayed delays c)
+pub ranked-found : (c : ℕ) (rows : List Stand) (delays : List (Option Delay)) (o : Option ℕ) → delays ≡ map delay_of rows →
+    MatchOption o (IsNobodyDelayed delays c) (IsFirstDelayed delays c)
     → MatchOption o (IsNobody (ticket_on c) rows) (IsFirstRanked c rows)
 ranked-found c rows delays None is nobody = λ q. unranked c (at rows q) (none-ranked c rows delays is nobody q)
 ranked-found c rows delays (Some p) is f = record { rank = f.delay.rank; least = rank-least c rows delays p is f; first = rank-first c rows delays p is f }
@@ -223,7 +228,9 @@ ranked-first c rows delays (Some p) apart is f =
     sym (ap (λ r. first_with_rank c r rows) (least-held c rows delays p is f)
     ∙ first-is (ticket_at (Condition c f.delay.rank)) rows p (at-gives (Condition c f.delay.rank)) apart (rank-first c rows delays p is f))
 
-pub ranked-waits : (c : ℕ) (rows : List Stand) (delays : List (Option Delay)) (o : Option ℕ) → delays ≡ map delay_of rows → MatchOption o (IsNobodyDelayed delays c) (IsFirstDelayed delays c)
+pub ranked-waits : (c : ℕ) (rows : List Stand) (delays : List (Option Delay)) (o : Option ℕ) → delays ≡ map delay_of rows →
+    MatchOption o (IsNobodyDelayed delays c) (IsFirstDelayed delays c)
     → IfSome o (λ p. IsWaiting (at rows p))
 ranked-waits c rows delays None is nobody = tt
-ranked-waits c rows delays (Some p) is f = ticket-waits (at rows p) f.delay.ticket (delay-ticket (at rows p) f.delay (sym (delay-kept rows delays p is) ∙ f.own))
+ranked-waits c rows delays (Some p) is f =
+    ticket-waits (at rows p) f.delay.ticket (delay-ticket (at rows p) f.delay (sym (delay-kept rows delays p is) ∙ f.own))

@@ -30,7 +30,8 @@ ready-kept rows ready p s is h = record {
   room = rw length-set h.room;
   each = λ k. elim (cases_eq k p) [
     | inl here ↦ elim (cases_lt p (length rows)) [
-      | inl lt ↦ h.each k ∙ ap (λ n. is_ready (at rows n)) here ∙ sym is ∙ ap is_ready (sym (ap (λ n. at (set rows p s) n) here ∙ get_or-set_same rows p s Is_idle lt))
+      | inl lt ↦ h.each k ∙ ap (λ n. is_ready (at rows n)) here ∙ sym is ∙
+          ap is_ready (sym (ap (λ n. at (set rows p s) n) here ∙ get_or-set_same rows p s Is_idle lt))
       | inr past ↦ h.each k ∙ ap (λ v. is_ready (at v k)) (sym (set_past rows p s past))
     ]
     | inr away ↦ h.each k ∙ ap is_ready (sym (get_or-set_other rows p k s Is_idle away))
@@ -39,7 +40,8 @@ ready-kept rows ready p s is h = record {
 
 same-from : (n : ℕ) (rows : List Stand) (ready : List Bool) → ((k : ℕ) → get_or ready k false ≡ is_ready (at rows k)) → numbers_from n ready ≡ ready_from n rows
 same-from n [] [] h = refl
-same-from n [] (b ∷ ready) h = ap (λ v. cond v (n ∷ numbers_from (n + 1) ready) (numbers_from (n + 1) ready)) (h 0) ∙ same-from (n + 1) [] ready (λ k. h (suc k))
+same-from n [] (b ∷ ready) h = ap (λ v. cond v (n ∷ numbers_from (n + 1) ready) (numbers_from (n + 1) ready)) (h 0) ∙
+    same-from (n + 1) [] ready (λ k. h (suc k))
 same-from n (s ∷ rows) [] h = same-from (n + 1) rows [] (λ k. h (suc k)) ∙ ap (λ v. cond v (n ∷ ready_from (n + 1) rows) (ready_from (n + 1) rows)) (h 0)
 same-from n (s ∷ rows) (b ∷ ready) h =
     ap (λ v. cond v (n ∷ numbers_from (n + 1) ready) (numbers_from (n + 1) ready)) (h 0)
@@ -67,7 +69,8 @@ from-bound b n [] le = refl
 from-bound b n (x ∷ bs) le = go x (from-bound b (n + 1) bs (omega (arith, le)))
   where
     go : (x : Bool) → at_or_after b (numbers_from (n + 1) bs) ≡ slice_get (numbers_from (n + 1) bs) 0
-        → at_or_after b (cond x (n ∷ numbers_from (n + 1) bs) (numbers_from (n + 1) bs)) ≡ slice_get (cond x (n ∷ numbers_from (n + 1) bs) (numbers_from (n + 1) bs)) 0
+        → at_or_after b (cond x (n ∷ numbers_from (n + 1) bs) (numbers_from (n + 1) bs)) ≡ slice_get
+        (cond x (n ∷ numbers_from (n + 1) bs) (numbers_from (n + 1) bs)) 0
     go true ih = let passed : nat_le b n ≡ true = grind (arith, nat_tests) in ap (λ v. cond v (Some n) (at_or_after b (numbers_from (n + 1) bs))) passed
     go false ih = ih
 
@@ -82,8 +85,10 @@ from-place (suc m) n (x ∷ bs) =
   where
     go : (x : Bool) → at_or_after (n + suc m) (numbers_from (n + 1) bs) ≡ slice_get (numbers_from (n + 1) bs) (length (numbers_from (n + 1) (take m bs)))
         → at_or_after (n + suc m) (cond x (n ∷ numbers_from (n + 1) bs) (numbers_from (n + 1) bs))
-        ≡ slice_get (cond x (n ∷ numbers_from (n + 1) bs) (numbers_from (n + 1) bs)) (length (cond x (n ∷ numbers_from (n + 1) (take m bs)) (numbers_from (n + 1) (take m bs))))
-    go true ih = let failed : nat_le (n + suc m) n ≡ false = grind (arith, nat_tests) in ap (λ v. cond v (Some n) (at_or_after (n + suc m) (numbers_from (n + 1) bs))) failed ∙ ih
+        ≡ slice_get (cond x (n ∷ numbers_from (n + 1) bs) (numbers_from (n + 1) bs))
+        (length (cond x (n ∷ numbers_from (n + 1) (take m bs)) (numbers_from (n + 1) (take m bs))))
+    go true ih = let failed : nat_le (n + suc m) n ≡ false =
+        grind (arith, nat_tests) in ap (λ v. cond v (Some n) (at_or_after (n + suc m) (numbers_from (n + 1) bs))) failed ∙ ih
     go false ih = ih
 
 get-within : (ns : List ℕ) (i : ℕ) → i < length ns → slice_get ns i ≡ Some (get_or ns i 0)

@@ -42,7 +42,8 @@ due-waits moment Is_done h = cc
 woken-here : (moment : ℕ) (s : Stand) → is_due moment (due_of s) ≡ true → woken moment s ≡ Is_ready
 woken-here moment s h = ap (λ b. cond b Is_ready s) h
 
-one-woken : (moment : ℕ) (rows : List Stand) (p : ℕ) → is_due moment (due_of (at rows p)) ≡ true → map (woken moment) (set rows p Is_ready) ≡ map (woken moment) rows
+one-woken : (moment : ℕ) (rows : List Stand) (p : ℕ) → is_due moment (due_of (at rows p)) ≡ true →
+    map (woken moment) (set rows p Is_ready) ≡ map (woken moment) rows
 one-woken moment rows p h =
     map-set (woken moment) rows p Is_ready
     ∙ ap (λ s. set (map (woken moment) rows) p s) (sym (at-changed (woken moment) rows p (woken-kind moment) ∙ woken-here moment (at rows p) h))
@@ -62,7 +63,8 @@ wakes-more old now new p h due is =
 pub wakes-fewer : (now new : Table) (p : ℕ) → IsDue now p → new ≡ placed now p Is_ready → count_of is_pending new.rows < count_of is_pending now.rows
 wakes-fewer now new p due is =
     let lt : p < length now.rows = waits-within now.rows p (due-waits now.moment (at now.rows p) due) in
-    let sum : count_of is_pending (set now.rows p Is_ready) + number (is_pending (at now.rows p)) ≡ count_of is_pending now.rows + 0 = count-set is_pending now.rows p Is_ready lt in
+    let sum : count_of is_pending (set now.rows p Is_ready) + number (is_pending (at now.rows p)) ≡ count_of is_pending now.rows + 0 =
+    count-set is_pending now.rows p Is_ready lt in
     let one : number (is_pending (at now.rows p)) ≡ 1 = ap number (due-some now.moment (due_of (at now.rows p)) due) in
     let rows : count_of is_pending new.rows ≡ count_of is_pending (set now.rows p Is_ready) = ap (λ v. count_of is_pending v.rows) is in
     omega (arith, sum, one, rows)

@@ -12,7 +12,8 @@ use Rattle.pfc_world.specs.Transitions.{placed, blocked}
 -- the places of the matched ones among alternatives whose first has this place
 abbrev pub matched_from : ℕ → List Stand → ℕ → List Arm → List ℕ
 matched_from place rows p [] = []
-matched_from place rows p (arm ∷ rest) = if is_some (partner rows p arm) then place ∷ matched_from (place + 1) rows p rest else matched_from (place + 1) rows p rest
+matched_from place rows p (arm ∷ rest) = if is_some (partner rows p arm) then
+    place ∷ matched_from (place + 1) rows p rest else matched_from (place + 1) rows p rest
 
 -- The places, from 0, of the alternatives of process p that are matched, in the order of the text: those
 -- for which a partner waits. Two of them may be open to one channel.

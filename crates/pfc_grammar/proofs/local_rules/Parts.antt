@@ -81,12 +81,14 @@ module _ (p : Home → Reader (List PartShape)) (hp : (h : Home) → Local (p h)
 
 local_part_with : (t : Reader TypeShape) → Local t → (b : Reader PartShape) → Local b → Local (part_with t b)
 unfolding part_with
-local_part_with t ht b hb = let i : Local (type_items t) = local_type_items t ht in let v : Local (var_items t) = local_var_items t ht in search (localities, local_const_items) depth 14
+local_part_with t ht b hb = let i : Local (type_items t) = local_type_items t ht in let v : Local (var_items t) =
+    local_var_items t ht in search (localities, local_const_items) depth 14
 
 -- Whatever the number of levels.
 -- a part that is read takes a symbol
 part_takes : (n : ℕ) (h : Home) (ss : List Symbol) (x : PartShape) (rest : List Symbol) → part_reader n h ss ≡ Ok (x, rest) → suc (length rest) ≤ length ss
-part_takes n h ss x rest e = at (subst (λ z. When z (Took part_tokens (IsLawfulPart h) free here ss) (Halts part_tokens (IsLawfulPart h) here ss)) e ((sound_part_at n h).reads ss (apart_none ss)))
+part_takes n h ss x rest e = at (subst (λ z. When z (Took part_tokens (IsLawfulPart h) free here ss) (Halts part_tokens (IsLawfulPart h) here ss)) e
+    ((sound_part_at n h).reads ss (apart_none ss)))
   where
     at : Took part_tokens (IsLawfulPart h) free here ss x rest → suc (length rest) ≤ length ss
     at w = let one : 1 ≤ length w.read = subst (λ z. 1 ≤ length z) w.writes (part_some h x w.lawful) in
@@ -95,13 +97,16 @@ part_takes n h ss x rest e = at (subst (λ z. When z (Took part_tokens (IsLawful
 
 pub local_parts_at : (n : ℕ) (h : Home) → Local (parts_at n h)
 unfolding parts_at
-local_parts_at zero h = local_while (begins_part h) (part_reader zero h) (local_part_with (type_at zero) (local_type_at zero) (block_at zero h) (local_choose (begins_block h) local_stop_deep local_stop)) (part_takes zero h)
-local_parts_at (suc n) h = local_while (begins_part h) (part_reader (suc n) h) (local_part_with (type_at (suc n)) (local_type_at (suc n)) (block_at (suc n) h) (local_block_with (parts_at n) (local_parts_at n) (expr_at n) (local_expr_at n) (stmt_at n) (local_stmt_at n) h)) (part_takes (suc n) h)
+local_parts_at zero h = local_while (begins_part h) (part_reader zero h) (local_part_with (type_at zero) (local_type_at zero) (block_at zero h)
+    (local_choose (begins_block h) local_stop_deep local_stop)) (part_takes zero h)
+local_parts_at (suc n) h = local_while (begins_part h) (part_reader (suc n) h) (local_part_with (type_at (suc n)) (local_type_at (suc n)) (block_at (suc n) h)
+    (local_block_with (parts_at n) (local_parts_at n) (expr_at n) (local_expr_at n) (stmt_at n) (local_stmt_at n) h)) (part_takes (suc n) h)
 
 pub local_program_at : (n : ℕ) → Local (program_at n)
 unfolding program_at
 local_program_at zero = local_choose (is_word PROGRAM) local_stop_deep local_stop
-local_program_at (suc n) = local_bind (local_take (as_word PROGRAM)) (λ t. local_program_behind (parts_at n) (local_parts_at n) (expr_at n) (local_expr_at n) (stmt_at n) (local_stmt_at n))
+local_program_at (suc n) = local_bind (local_take (as_word PROGRAM)) (λ t. local_program_behind (parts_at n) (local_parts_at n) (expr_at n)
+    (local_expr_at n) (stmt_at n) (local_stmt_at n))
 
 pub local_whole_at : (n : ℕ) → Local (whole_at n)
 unfolding whole_at

@@ -56,11 +56,13 @@ module _ (e : Reader ExprShape) (he : Local e) where
 
   local_action : (x : Text) → Local (action_behind e x)
   unfolding action_behind
-  local_action x = let a : Local (actuals_with e) = local_actuals e he in let b : (y : Text) → Local (desig_behind e y) = local_desig_behind e he in let d : Local (desig_with e) = local_desig e he in search localities depth 14
+  local_action x = let a : Local (actuals_with e) = local_actuals e he in let b : (y : Text) → Local (desig_behind e y) =
+      local_desig_behind e he in let d : Local (desig_with e) = local_desig e he in search localities depth 14
 
   local_comm_behind : (x : Text) → Local (comm_behind e x)
   unfolding comm_behind
-  local_comm_behind x = let b : (y : Text) → Local (desig_behind e y) = local_desig_behind e he in let d : Local (desig_with e) = local_desig e he in search localities depth 12
+  local_comm_behind x = let b : (y : Text) → Local (desig_behind e y) = local_desig_behind e he in let d : Local (desig_with e) =
+      local_desig e he in search localities depth 12
 
   local_message : Local (message e)
   unfolding message
@@ -98,7 +100,8 @@ module _ (e : Reader ExprShape) (he : Local e) where
 
     local_case : Local (case_behind e s)
     unfolding case_behind
-    local_case = local_bind (local_test OF) (λ c. local_bind (local_list_end (as_sign SEMICOLON) (is_word END) local_arm) (λ a. local_bind (local_take (as_word END)) (λ u. local_pure _)))
+    local_case = local_bind (local_test OF) (λ c. local_bind (local_list_end (as_sign SEMICOLON) (is_word END) local_arm)
+        (λ a. local_bind (local_take (as_word END)) (λ u. local_pure _)))
 
     local_while_do : Local (while_behind e s)
     unfolding while_behind

@@ -68,7 +68,8 @@ module _ {e : Reader ExprTree} {q : KindReader ExprShape} (h : Bares forget_expr
 
   pub bare_actuals : Bares forget_actuals (actuals_with e) (kinds.actuals_with q)
   unfolding actuals_with kinds.actuals_with
-  bare_actuals = bare_branch _ _ (λ t. bare_bind _ (bare_list _ bare_actual) (λ args. bare_bind _ (bare_take _) (λ u. bare_pure _ (bare_arguments args)))) (bare_pure _ refl)
+  bare_actuals = bare_branch _ _ (λ t. bare_bind _ (bare_list _ bare_actual) (λ args. bare_bind _ (bare_take _) (λ u. bare_pure _ (bare_arguments args))))
+      (bare_pure _ refl)
 
   bare_paren : (p : Place) → Bares forget_factor (paren_behind e p) (kinds.paren_behind q)
   unfolding paren_behind kinds.paren_behind
@@ -80,7 +81,8 @@ module _ {e : Reader ExprTree} {q : KindReader ExprShape} (h : Bares forget_expr
 
   pub bare_plain_factor : Bares forget_factor (plain_factor e) (kinds.plain_factor q)
   unfolding plain_factor kinds.plain_factor
-  bare_plain_factor = bare_branch _ _ (λ n. bare_pure _ refl) (bare_branch _ _ (λ x. bare_pure _ refl) (bare_branch _ _ (λ t. bare_paren t.1) (bare_branch _ _ bare_applied bare_stop)))
+  bare_plain_factor = bare_branch _ _ (λ n. bare_pure _ refl) (bare_branch _ _ (λ x. bare_pure _ refl)
+      (bare_branch _ _ (λ t. bare_paren t.1) (bare_branch _ _ bare_applied bare_stop)))
 
 module _ {f : Reader FactorTree} {q : KindReader FactorShape} (h : Bares forget_factor f q) where
   bare_multiplier : (op : MulOp × Place) → Bares forget_multiplier (multiplier_behind f op) (kinds.multiplier_behind q op.0)
@@ -95,9 +97,12 @@ module _ {f : Reader FactorTree} {q : KindReader FactorShape} (h : Bares forget_
   unfolding summand_behind kinds.summand_behind
   bare_summand op = bare_bind _ bare_term (λ x. bare_pure _ refl)
 
-  bare_simple_behind : (sign : Option (plus_or_minus.Sign × Place)) → Bares forget_simple (simple_behind f sign) (kinds.simple_behind q (option_map (λ x. x.0) sign))
+  bare_simple_behind : (sign : Option (plus_or_minus.Sign × Place)) →
+      Bares forget_simple (simple_behind f sign) (kinds.simple_behind q (option_map (λ x. x.0) sign))
   unfolding simple_behind kinds.simple_behind
-  bare_simple_behind sign = bare_bind _ bare_term (λ t. bare_bind _ (bare_many _ _ bare_summand) (λ us. bare_pure _ (ap (λ z. sum (option_map (λ x. x.0) sign) (forget_term t) z) (bare_summands us))))
+  bare_simple_behind sign =
+      bare_bind _ bare_term (λ t. bare_bind _ (bare_many _ _ bare_summand)
+      (λ us. bare_pure _ (ap (λ z. sum (option_map (λ x. x.0) sign) (forget_term t) z) (bare_summands us))))
 
   bare_simple : Bares forget_simple (simple_with f) (kinds.simple_with q)
   unfolding simple_with kinds.simple_with
@@ -105,9 +110,11 @@ module _ {f : Reader FactorTree} {q : KindReader FactorShape} (h : Bares forget_
 
   pub bare_expr_with : Bares forget_expr (expr_with f) (kinds.expr_with q)
   unfolding expr_with expr_from kinds.expr_with
-  bare_expr_with = bare_peek (λ p. bare_bind _ bare_simple (λ left. bare_branch _ _ (λ r. bare_bind _ bare_simple (λ right. bare_pure _ refl)) (bare_pure _ refl)))
+  bare_expr_with = bare_peek
+      (λ p. bare_bind _ bare_simple (λ left. bare_branch _ _ (λ r. bare_bind _ bare_simple (λ right. bare_pure _ refl)) (bare_pure _ refl)))
 
-  pub bare_factor_with : {e : Reader ExprTree} {q' : KindReader ExprShape} → Bares forget_expr e q' → Bares forget_factor (factor_with f e) (kinds.factor_with q q')
+  pub bare_factor_with : {e : Reader ExprTree} {q' : KindReader ExprShape} → Bares forget_expr e q' →
+      Bares forget_factor (factor_with f e) (kinds.factor_with q q')
   unfolding factor_with kinds.factor_with
   bare_factor_with k = bare_branch _ _ (λ t. bare_bind _ h (λ x. bare_pure _ refl)) (bare_plain_factor k)
 

@@ -11,12 +11,14 @@ map-snoc : {A B : Type 0} (f : A → B) (xs : List A) (x : A) → map f (xs ++ x
 map-snoc f [] x = refl
 map-snoc f (y ∷ xs) x = ap (λ z. f y ∷ z) (map-snoc f xs x)
 
-module _ {O A B : Type 0} {f : A → B} (c : Symbol → Option O) {g : O × Place → Reader A} (g' : O → kinds.Reader B) (h : (o : O × Place) → Bares f (g o) (g' o.0)) where
+module _ {O A B : Type 0} {f : A → B} (c : Symbol → Option O) {g : O × Place → Reader A} (g' : O →
+    kinds.Reader B) (h : (o : O × Place) → Bares f (g o) (g' o.0)) where
   turns : (k : ℕ) (xs : List A) → Bares (map f) (many_turns k xs c g) (kinds.many_turns k (map f xs) c g')
   unfolding many_turns kinds.many_turns
   turns zero xs = bare_pure xs refl
   turns (suc k) xs = bare_branch c (λ o. kinds.bind (g' o) (λ x. kinds.many_turns k (map f xs ++ x ∷ []) c g'))
-      (λ o. bare_bind (λ x. kinds.many_turns k (map f xs ++ x ∷ []) c g') (h o) (λ x. subst (λ z. Bares (map f) (many_turns k (xs ++ x ∷ []) c g) (kinds.many_turns k z c g')) (map-snoc f xs x) (turns k (xs ++ x ∷ []))))
+      (λ o. bare_bind (λ x. kinds.many_turns k (map f xs ++ x ∷ []) c g') (h o)
+      (λ x. subst (λ z. Bares (map f) (many_turns k (xs ++ x ∷ []) c g) (kinds.many_turns k z c g')) (map-snoc f xs x) (turns k (xs ++ x ∷ []))))
       (bare_pure xs refl)
 
   pub bare_onto : (xs : List A) → Bares (map f) (many_onto xs c g) (kinds.many_onto (map f xs) c g')
@@ -31,7 +33,8 @@ module _ {O A B : Type 0} {f : A → B} (c : Symbol → Option O) {g : O × Plac
   unfolding some_of kinds.some_of
   bare_some = bare_branch c _ (λ o. bare_bind _ (h o) (λ x. bare_onto (x ∷ []))) bare_stop
 
-pub bare_list : {O A B : Type 0} {f : A → B} (c : Symbol → Option O) {r : Reader A} {q : kinds.Reader B} → Bares f r q → Bares (map f) (list_of c r) (kinds.list_of c q)
+pub bare_list : {O A B : Type 0} {f : A → B} (c : Symbol → Option O) {r : Reader A} {q : kinds.Reader B} → Bares f r q →
+    Bares (map f) (list_of c r) (kinds.list_of c q)
 unfolding list_of kinds.list_of
 bare_list c {q = q} h = bare_bind _ h (λ x. bare_onto c (λ o. q) (λ o. h) (x ∷ []))
 
@@ -44,7 +47,8 @@ module _ {O A B : Type 0} {f : A → B} (c : Symbol → Option O) (p : Symbol �
   unfolding end_turns kinds.end_turns
   turns_end zero xs = bare_pure _ refl
   turns_end (suc k) xs = bare_branch c _
-      (λ o. bare_choose p (bare_pure _ refl) (bare_bind (λ x. kinds.end_turns k (map f xs ++ x ∷ []) c p q) h (λ x. subst (λ z. Bares (on_items f) (end_turns k (xs ++ x ∷ []) c p r) (kinds.end_turns k z c p q)) (map-snoc f xs x) (turns_end k (xs ++ x ∷ [])))))
+      (λ o. bare_choose p (bare_pure _ refl) (bare_bind (λ x. kinds.end_turns k (map f xs ++ x ∷ []) c p q) h
+      (λ x. subst (λ z. Bares (on_items f) (end_turns k (xs ++ x ∷ []) c p r) (kinds.end_turns k z c p q)) (map-snoc f xs x) (turns_end k (xs ++ x ∷ [])))))
       (bare_pure _ refl)
 
   bare_end_onto : (xs : List A) → Bares (on_items f) (end_onto xs c p r) (kinds.end_onto (map f xs) c p q)
@@ -60,7 +64,8 @@ module _ {A B : Type 0} {f : A → B} (p : Symbol → Bool) {r : Reader A} {q : 
   unfolding while_turns kinds.while_turns
   turns_while zero xs = bare_pure xs refl
   turns_while (suc k) xs = bare_choose p
-      (bare_bind (λ x. kinds.while_turns k (map f xs ++ x ∷ []) p q) h (λ x. subst (λ z. Bares (map f) (while_turns k (xs ++ x ∷ []) p r) (kinds.while_turns k z p q)) (map-snoc f xs x) (turns_while k (xs ++ x ∷ []))))
+      (bare_bind (λ x. kinds.while_turns k (map f xs ++ x ∷ []) p q) h
+      (λ x. subst (λ z. Bares (map f) (while_turns k (xs ++ x ∷ []) p r) (kinds.while_turns k z p q)) (map-snoc f xs x) (turns_while k (xs ++ x ∷ []))))
       (bare_pure xs refl)
 
   pub bare_while : Bares (map f) (many_while p r) (kinds.many_while p q)

@@ -48,7 +48,9 @@ bare_procedure_head = bare_bind _ (bare_take _) (λ x. bare_bind _ bare_formals 
 
 bare_function_head : Bares forget_head function_head kinds.function_head
 unfolding function_head kinds.function_head
-bare_function_head = bare_bind _ (bare_take _) (λ x. bare_bind _ bare_formals (λ gs. bare_bind _ (bare_take _) (λ t. bare_bind _ (bare_take _) (λ result. bare_bind _ (bare_take _) (λ u. bare_pure _ refl)))))
+bare_function_head = bare_bind _ (bare_take _)
+    (λ x. bare_bind _ bare_formals
+    (λ gs. bare_bind _ (bare_take _) (λ t. bare_bind _ (bare_take _) (λ result. bare_bind _ (bare_take _) (λ u. bare_pure _ refl)))))
 
 bare_export : Bares bare export_behind kinds.export_behind
 unfolding export_behind kinds.export_behind
@@ -68,33 +70,49 @@ bare_params = bare_branch _ _ (λ t. bare_bind _ bare_names (λ xs. bare_bind _ 
 
 bare_guarded_head : {e : Reader ExprTree} {q : KindReader ExprShape} → Bares forget_expr e q → Bares forget_head (guarded_head e) (kinds.guarded_head q)
 unfolding guarded_head kinds.guarded_head
-bare_guarded_head h = bare_bind _ (bare_take _) (λ t. bare_bind _ (bare_take _) (λ x. bare_bind _ bare_formals (λ gs. bare_bind _ (bare_take _) (λ u. bare_bind _ h (λ test. bare_bind _ (bare_take _) (λ v. bare_pure _ refl))))))
+bare_guarded_head h =
+    bare_bind _ (bare_take _)
+    (λ t. bare_bind _ (bare_take _)
+    (λ x. bare_bind _ bare_formals (λ gs. bare_bind _ (bare_take _) (λ u. bare_bind _ h (λ test. bare_bind _ (bare_take _) (λ v. bare_pure _ refl))))))
 
 bare_ending : {s : Reader StmtTree} {o : KindReader StmtShape} → Bares forget_stmt s o → Bares forget_ending (ending s) (kinds.ending o)
 unfolding ending kinds.ending
 bare_ending k = bare_branch _ _ (λ t. bare_pure _ refl) (bare_bind _ (bare_body k) (λ b. bare_pure _ refl))
 
-module _ {p : Home → Reader (List PartTree)} (p' : Home → KindReader (List PartShape)) (hp : (h : Home) → Bares (map forget_part) (p h) (p' h)) {s : Reader StmtTree} {o : KindReader StmtShape} (k : Bares forget_stmt s o) where
-  bare_sub : {head : Reader SubHead} {head' : KindReader kinds.SubHead} → Bares forget_head head head' → Bares forget_sub (sub_behind p s head) (kinds.sub_behind p' o head')
+module _ {p : Home → Reader (List PartTree)} (p' : Home → KindReader (List PartShape)) (hp : (h : Home) → Bares (map forget_part) (p h) (p' h))
+    {s : Reader StmtTree} {o : KindReader StmtShape} (k : Bares forget_stmt s o) where
+  bare_sub : {head : Reader SubHead} {head' : KindReader kinds.SubHead} → Bares forget_head head head' →
+      Bares forget_sub (sub_behind p s head) (kinds.sub_behind p' o head')
   unfolding sub_behind kinds.sub_behind
-  bare_sub h = bare_bind _ h (λ a. bare_bind _ (hp _) (λ qs. bare_bind _ (bare_body k) (λ b. bare_bind _ (bare_take _) (λ t. bare_pure _ (ap (λ z. sub a.0.0 (map forget_group a.1) (forget_kind a.2) z (forget_body b)) (bare_parts_of qs))))))
+  bare_sub h = bare_bind _ h
+      (λ a. bare_bind _ (hp _)
+      (λ qs. bare_bind _ (bare_body k)
+      (λ b. bare_bind _ (bare_take _) (λ t. bare_pure _ (ap (λ z. sub a.0.0 (map forget_group a.1) (forget_kind a.2) z (forget_body b)) (bare_parts_of qs))))))
 
   bare_module : (own : Home) → Bares forget_module (module_behind p s own) (kinds.module_behind p' o own)
   unfolding module_behind kinds.module_behind
-  bare_module own = bare_bind _ (bare_take _) (λ x. bare_bind _ (bare_take _) (λ t. bare_bind _ (bare_many _ _ (λ u. bare_export)) (λ es. bare_bind _ (hp own) (λ qs. bare_bind _ (bare_ending k) (λ b. bare_bind _ (bare_take _) (λ u.
+  bare_module own = bare_bind _ (bare_take _) (λ x. bare_bind _ (bare_take _) (λ t. bare_bind _ (bare_many _ _ (λ u. bare_export))
+      (λ es. bare_bind _ (hp own) (λ qs. bare_bind _ (bare_ending k) (λ b. bare_bind _ (bare_take _) (λ u.
       bare_pure _ (ap (λ z. the_module x.0 (map bare es) z (option_map forget_body b.0)) (bare_parts_of qs))))))))
 
   bare_process : Bares forget_process (process_behind p s) (kinds.process_behind p' o)
   unfolding process_behind kinds.process_behind
-  bare_process = bare_bind _ bare_type_word (λ kind. bare_bind _ (bare_take _) (λ x. bare_bind _ bare_formals (λ gs. bare_bind _ (bare_take _) (λ t. bare_bind _ (bare_many _ _ (λ u. bare_entry)) (λ ns. bare_bind _ (hp _) (λ qs. bare_bind _ (bare_body k) (λ b. bare_bind _ (bare_take _) (λ u.
+  bare_process = bare_bind _ bare_type_word
+      (λ kind. bare_bind _ (bare_take _)
+      (λ x. bare_bind _ bare_formals (λ gs. bare_bind _ (bare_take _) (λ t. bare_bind _ (bare_many _ _ (λ u. bare_entry))
+      (λ ns. bare_bind _ (hp _) (λ qs. bare_bind _ (bare_body k) (λ b. bare_bind _ (bare_take _) (λ u.
       bare_pure _ (ap (λ z. process kind x.0 (map forget_group gs) (map forget_entry ns) z (forget_body b)) (bare_parts_of qs))))))))))
 
   bare_program_behind : (place : Place) → Bares forget_program (program_behind p s place) (kinds.program_behind p' o)
   unfolding program_behind kinds.program_behind
-  bare_program_behind place = bare_bind _ (bare_take _) (λ x. bare_bind _ bare_params (λ xs. bare_bind _ (bare_take _) (λ t. bare_bind _ (hp _) (λ qs. bare_bind _ (bare_body k) (λ b. bare_bind _ (bare_take _) (λ u.
+  bare_program_behind place =
+      bare_bind _ (bare_take _)
+      (λ x. bare_bind _ bare_params
+      (λ xs. bare_bind _ (bare_take _) (λ t. bare_bind _ (hp _) (λ qs. bare_bind _ (bare_body k) (λ b. bare_bind _ (bare_take _) (λ u.
       bare_pure _ (ap (λ z. record { name = x.0; params = bare xs; parts = z; body = forget_body b }) (bare_parts_of qs))))))))
 
-  bare_block_with : {e : Reader ExprTree} {q : KindReader ExprShape} → Bares forget_expr e q → (h : Home) → Bares forget_part (block_with p e s h) (kinds.block_with p' q o h)
+  bare_block_with : {e : Reader ExprTree} {q : KindReader ExprShape} → Bares forget_expr e q → (h : Home) →
+      Bares forget_part (block_with p e s h) (kinds.block_with p' q o h)
   unfolding block_with kinds.block_with
   bare_block_with he h = bare_branch _ _ (λ t. bare_bind _ (bare_sub bare_procedure_head) (λ x. bare_pure _ refl)) (
       bare_branch _ _ (λ t. bare_bind _ (bare_sub bare_function_head) (λ x. bare_pure _ refl)) (
@@ -103,7 +121,8 @@ module _ {p : Home → Reader (List PartTree)} (p' : Home → KindReader (List P
       bare_branch _ _ (λ t. bare_bind _ (bare_module _) (λ m. bare_pure _ refl)) (
       bare_branch _ _ (λ t. bare_bind _ bare_process (λ q. bare_pure _ refl)) bare_stop)))))
 
-bare_part_with : {t : Reader TypeTree} {q : KindReader TypeShape} {b : Reader PartTree} {b' : KindReader PartShape} → Bares forget_type t q → Bares forget_part b b' → Bares forget_part (part_with t b) (kinds.part_with q b')
+bare_part_with : {t : Reader TypeTree} {q : KindReader TypeShape} {b : Reader PartTree} {b' : KindReader PartShape} → Bares forget_type t q →
+    Bares forget_part b b' → Bares forget_part (part_with t b) (kinds.part_with q b')
 unfolding part_with kinds.part_with
 bare_part_with ht hb = bare_branch _ _ (λ u. bare_bind _ bare_const_items (λ items. bare_pure _ refl)) (
     bare_branch _ _ (λ u. bare_bind _ (bare_type_items ht) (λ items. bare_pure _ refl)) (
@@ -113,7 +132,8 @@ bare_part_with ht hb = bare_branch _ _ (λ u. bare_bind _ bare_const_items (λ i
 bare_parts_at : (n : ℕ) (h : Home) → Bares (map forget_part) (parts_at n h) (kinds.parts_at n h)
 unfolding parts_at kinds.parts_at
 bare_parts_at zero h = bare_while _ (bare_part_with (bare_type_at zero) (bare_choose _ bare_stop_deep bare_stop))
-bare_parts_at (suc n) h = bare_while _ (bare_part_with (bare_type_at (suc n)) (bare_block_with (kinds.parts_at n) (bare_parts_at n) (bare_stmt_at n) (bare_expr_at n) h))
+bare_parts_at (suc n) h =
+    bare_while _ (bare_part_with (bare_type_at (suc n)) (bare_block_with (kinds.parts_at n) (bare_parts_at n) (bare_stmt_at n) (bare_expr_at n) h))
 
 bare_program_at : (n : ℕ) → Bares forget_program (program_at n) (kinds.program_at n)
 unfolding program_at kinds.program_at

@@ -33,7 +33,8 @@ pub bare_stop_deep : {A B : Type 0} {f : A → B} → Bares f stop_deep kinds.st
 unfolding stop_deep kinds.stop_deep
 bare_stop_deep = record { gives = λ ts. ap (λ n. Err (deep n)) (counted ts) }
 
-pub bare_bind : {A A' B B' : Type 0} {f : A → A'} {g : B → B'} {r : Reader A} {q : kinds.Reader A'} {k : A → Reader B} (k' : A' → kinds.Reader B') → Bares f r q → ((x : A) → Bares g (k x) (k' (f x))) → Bares g (bind r k) (kinds.bind q k')
+pub bare_bind : {A A' B B' : Type 0} {f : A → A'} {g : B → B'} {r : Reader A} {q : kinds.Reader A'} {k : A → Reader B} (k' : A' → kinds.Reader B') →
+    Bares f r q → ((x : A) → Bares g (k x) (k' (f x))) → Bares g (bind r k) (kinds.bind q k')
 unfolding bind kinds.bind
 bare_bind {A = A} {f = f} {g = g} {r = r} {k = k} k' h t = record { gives = λ ts. go (r ts) ∙ ap (λ z. kinds.then_read z k') (h.gives ts) }
   where
@@ -41,7 +42,8 @@ bare_bind {A = A} {f = f} {g = g} {r = r} {k = k} k' h t = record { gives = λ t
     go (Ok p) = (t p.0).gives p.1
     go (Err e) = refl
 
-pub bare_branch : {O A B : Type 0} {f : A → B} (c : Symbol → Option O) {g : O × Place → Reader A} (g' : O → kinds.Reader B) {r : Reader A} {q : kinds.Reader B} → ((o : O × Place) → Bares f (g o) (g' o.0)) → Bares f r q → Bares f (branch c g r) (kinds.branch c g' q)
+pub bare_branch : {O A B : Type 0} {f : A → B} (c : Symbol → Option O) {g : O × Place → Reader A} (g' : O → kinds.Reader B) {r : Reader A}
+    {q : kinds.Reader B} → ((o : O × Place) → Bares f (g o) (g' o.0)) → Bares f r q → Bares f (branch c g r) (kinds.branch c g' q)
 unfolding branch kinds.branch
 bare_branch {O = O} {f = f} c {g = g} g' {r = r} {q = q} h k = record { gives = go }
   where
@@ -53,7 +55,8 @@ bare_branch {O = O} {f = f} c {g = g} g' {r = r} {q = q} h k = record { gives = 
     go [] = k.gives []
     go (t ∷ ts) = at t ts (c t.kind)
 
-pub bare_choose : {A B : Type 0} {f : A → B} (c : Symbol → Bool) {g r : Reader A} {g' q : kinds.Reader B} → Bares f g g' → Bares f r q → Bares f (choose c g r) (kinds.choose c g' q)
+pub bare_choose : {A B : Type 0} {f : A → B} (c : Symbol → Bool) {g r : Reader A} {g' q : kinds.Reader B} → Bares f g g' → Bares f r q →
+    Bares f (choose c g r) (kinds.choose c g' q)
 unfolding choose kinds.choose
 bare_choose {f = f} c {g = g} {r = r} {g' = g'} {q = q} h k = record { gives = go }
   where

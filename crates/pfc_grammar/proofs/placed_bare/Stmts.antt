@@ -60,7 +60,10 @@ forget_alt_head h = (option_map forget_spread h.0, option_map forget_expr h.1)
 
 bare_spread : Bares forget_spread spread_behind kinds.spread_behind
 unfolding spread_behind kinds.spread_behind
-bare_spread = bare_bind _ (bare_take _) (λ x. bare_bind _ (bare_take _) (λ t. bare_bind _ bare_constant (λ low. bare_bind _ (bare_take _) (λ u. bare_bind _ bare_constant (λ high. bare_bind _ (bare_take _) (λ v. bare_pure _ refl))))))
+bare_spread = bare_bind _ (bare_take _)
+    (λ x. bare_bind _ (bare_take _)
+    (λ t. bare_bind _ bare_constant
+    (λ low. bare_bind _ (bare_take _) (λ u. bare_bind _ bare_constant (λ high. bare_bind _ (bare_take _) (λ v. bare_pure _ refl))))))
 
 bare_replication : Bares (option_map forget_spread) replication kinds.replication
 unfolding replication kinds.replication
@@ -73,7 +76,9 @@ module _ {e : Reader ExprTree} {q : KindReader ExprShape} (h : Bares forget_expr
 
   bare_for_head : Bares forget_for_head (for_head e) (kinds.for_head q)
   unfolding for_head kinds.for_head
-  bare_for_head = bare_bind _ (bare_take _) (λ x. bare_bind _ (bare_take _) (λ t. bare_bind _ h (λ from. bare_bind _ (bare_take _) (λ down. bare_bind _ h (λ to. bare_bind _ (bare_take _) (λ u. bare_pure _ refl))))))
+  bare_for_head = bare_bind _ (bare_take _)
+      (λ x. bare_bind _ (bare_take _)
+      (λ t. bare_bind _ h (λ from. bare_bind _ (bare_take _) (λ down. bare_bind _ h (λ to. bare_bind _ (bare_take _) (λ u. bare_pure _ refl))))))
 
   bare_guard : Bares (option_map forget_expr) (guard e) (kinds.guard q)
   unfolding guard kinds.guard
@@ -137,14 +142,17 @@ module _ {s : Reader StmtTree} {o : KindReader StmtShape} (k : Bares forget_stmt
   unfolding accept_behind kinds.accept_behind
   bare_accept = bare_bind _ bare_accept_head (λ a. bare_branch _ _ (λ t. bare_bind _ k (λ x. bare_pure _ refl)) (bare_pure _ refl))
 
-module _ {e : Reader ExprTree} {q : KindReader ExprShape} (h : Bares forget_expr e q) {s : Reader StmtTree} {o : KindReader StmtShape} (k : Bares forget_stmt s o) where
+module _ {e : Reader ExprTree} {q : KindReader ExprShape} (h : Bares forget_expr e q) {s : Reader StmtTree}
+    {o : KindReader StmtShape} (k : Bares forget_stmt s o) where
   bare_if : (p : Place) → Bares forget_stmt (if_behind e s p) (kinds.if_behind q o)
   unfolding if_behind kinds.if_behind
-  bare_if p = bare_bind _ (bare_test h _) (λ test. bare_bind _ k (λ first. bare_branch _ _ (λ t. bare_bind _ k (λ second. bare_pure _ refl)) (bare_pure _ refl)))
+  bare_if p = bare_bind _ (bare_test h _)
+      (λ test. bare_bind _ k (λ first. bare_branch _ _ (λ t. bare_bind _ k (λ second. bare_pure _ refl)) (bare_pure _ refl)))
 
   bare_case : (p : Place) → Bares forget_stmt (case_behind e s p) (kinds.case_behind q o)
   unfolding case_behind kinds.case_behind
-  bare_case p = bare_bind _ (bare_test h _) (λ value. bare_bind _ (bare_list_end _ _ (bare_arm k)) (λ arms. bare_bind _ (bare_take _) (λ t. bare_pure _ (ap (λ z. case_of (forget_expr value) z arms.1) (bare_arms_of arms.0)))))
+  bare_case p = bare_bind _ (bare_test h _) (λ value. bare_bind _ (bare_list_end _ _ (bare_arm k))
+      (λ arms. bare_bind _ (bare_take _) (λ t. bare_pure _ (ap (λ z. case_of (forget_expr value) z arms.1) (bare_arms_of arms.0)))))
 
   bare_while_do : (p : Place) → Bares forget_stmt (while_behind e s p) (kinds.while_behind q o)
   unfolding while_behind kinds.while_behind
@@ -153,7 +161,8 @@ module _ {e : Reader ExprTree} {q : KindReader ExprShape} (h : Bares forget_expr
   bare_repeat : (p : Place) → Bares forget_stmt (repeat_behind e s p) (kinds.repeat_behind q o)
   unfolding repeat_behind kinds.repeat_behind
   bare_repeat p = bare_bind _ (bare_stmts k) (λ ss.
-      bare_branch _ _ (λ t. bare_bind _ h (λ test. bare_pure _ (ap (λ z. repeat_until z (forget_expr test)) (bare_stmts_of ss)))) (bare_bind _ (bare_take _) (λ t. bare_pure _ (ap (λ z. repeat_forever z) (bare_stmts_of ss)))))
+      bare_branch _ _ (λ t. bare_bind _ h (λ test. bare_pure _ (ap (λ z. repeat_until z (forget_expr test)) (bare_stmts_of ss))))
+      (bare_bind _ (bare_take _) (λ t. bare_pure _ (ap (λ z. repeat_forever z) (bare_stmts_of ss)))))
 
   bare_for : (p : Place) → Bares forget_stmt (for_behind e s p) (kinds.for_behind q o)
   unfolding for_behind kinds.for_behind
@@ -171,7 +180,9 @@ module _ {e : Reader ExprTree} {q : KindReader ExprShape} (h : Bares forget_expr
   bare_select : (pri : Bool) (first p : Place) → Bares forget_stmt (select_behind e s pri first p) (kinds.select_behind q o pri)
   unfolding select_behind kinds.select_behind
   bare_select pri first p = bare_bind _ (bare_list _ bare_alt) (λ alts.
-      bare_branch _ _ (λ t. bare_bind _ (bare_stmts k) (λ ss. bare_bind _ (bare_take _) (λ u. bare_pure _ (ap (λ z. select_else pri z (forget_stmts (stmts_of ss))) (bare_alts_of alts) ∙ ap (λ z. select_else pri (kinds.alts_of (map forget_alt alts)) z) (bare_stmts_of ss)))))
+      bare_branch _ _ (λ t. bare_bind _ (bare_stmts k)
+      (λ ss. bare_bind _ (bare_take _) (λ u. bare_pure _ (ap (λ z. select_else pri z (forget_stmts (stmts_of ss))) (bare_alts_of alts) ∙
+      ap (λ z. select_else pri (kinds.alts_of (map forget_alt alts)) z) (bare_stmts_of ss)))))
       (bare_bind _ (bare_take _) (λ t. bare_pure _ (ap (λ z. select pri z) (bare_alts_of alts)))))
 
   bare_second : Bares forget_stmt (stmt_second e s) (kinds.stmt_second q o)

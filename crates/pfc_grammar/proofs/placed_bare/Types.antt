@@ -29,7 +29,8 @@ pub bare_names : Bares bare names kinds.names
 unfolding names kinds.names
 bare_names = bare_bind _ (bare_take _) (λ x. bare_names_behind x)
 
-bare_constant_behind : (sign : Option (plus_or_minus.Sign × Place)) → Bares forget_constant (constant_behind sign) (kinds.constant_behind (option_map (λ x. x.0) sign))
+bare_constant_behind : (sign : Option (plus_or_minus.Sign × Place)) →
+    Bares forget_constant (constant_behind sign) (kinds.constant_behind (option_map (λ x. x.0) sign))
 unfolding constant_behind kinds.constant_behind
 bare_constant_behind sign = bare_branch _ _ (λ n. bare_pure _ refl) (bare_branch _ _ (λ x. bare_pure _ refl) bare_stop)
 
@@ -56,7 +57,8 @@ module _ {t : Reader TypeTree} {q : KindReader TypeShape} (h : Bares forget_type
 
   bare_array : (p : Place) → Bares forget_type (array_behind t p) (kinds.array_behind q)
   unfolding array_behind kinds.array_behind
-  bare_array p = bare_bind _ (bare_take _) (λ u. bare_bind _ (bare_list _ bare_range) (λ rs. bare_bind _ (bare_take _) (λ v. bare_bind _ (bare_take _) (λ w. bare_bind _ h (λ form. bare_pure _ refl)))))
+  bare_array p = bare_bind _ (bare_take _) (λ u. bare_bind _ (bare_list _ bare_range)
+      (λ rs. bare_bind _ (bare_take _) (λ v. bare_bind _ (bare_take _) (λ w. bare_bind _ h (λ form. bare_pure _ refl)))))
 
   bare_record : (p : Place) → Bares forget_type (record_behind t p) (kinds.record_behind q)
   unfolding record_behind kinds.record_behind
@@ -64,7 +66,8 @@ module _ {t : Reader TypeTree} {q : KindReader TypeShape} (h : Bares forget_type
 
   pub bare_type_with : Bares forget_type (type_with t) (kinds.type_with q)
   unfolding type_with kinds.type_with
-  bare_type_with = bare_branch _ _ (λ x. bare_pure _ refl) (bare_branch _ _ (λ u. bare_channel u.1) (bare_branch _ _ (λ u. bare_array u.1) (bare_branch _ _ (λ u. bare_record u.1) bare_stop)))
+  bare_type_with = bare_branch _ _ (λ x. bare_pure _ refl) (bare_branch _ _ (λ u. bare_channel u.1)
+      (bare_branch _ _ (λ u. bare_array u.1) (bare_branch _ _ (λ u. bare_record u.1) bare_stop)))
 
   bare_type_item : (x : Text × Place) → Bares forget_type_item (type_item_behind t x) (kinds.type_item_behind q x.0)
   unfolding type_item_behind kinds.type_item_behind

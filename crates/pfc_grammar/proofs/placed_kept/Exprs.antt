@@ -23,7 +23,8 @@ use Rattle.pfc_grammar.proofs.placed_kept.Loops.{behind_next, between_next, clos
 module _ {e : Reader ExprTree} (h : Whole expr_trace e) where
   keeps_index : (p : Place) → Keeps (λ steps. here p ∷ next ∷ steps) (Traced selector_trace) (selector_behind e true p)
   unfolding selector_behind
-  keeps_index p = keeps_then (keeps_list expr_trace (λ es. comma_exprs_trace (exprs_of es)) (record { none = refl; more = λ x xs. refl }) _ h (λ es. exprs_trace (exprs_of es)) (λ x xs. refl)) (λ es. pass_then _ (λ t. keeps_pure _ refl))
+  keeps_index p = keeps_then (keeps_list expr_trace (λ es. comma_exprs_trace (exprs_of es)) (record { none = refl; more = λ x xs. refl }) _ h
+      (λ es. exprs_trace (exprs_of es)) (λ x xs. refl)) (λ es. pass_then _ (λ t. keeps_pure _ refl))
 
   keeps_field : (p : Place) → Keeps (λ steps. next ∷ steps) (Traced selector_trace) (selector_behind e false p)
   unfolding selector_behind
@@ -37,13 +38,23 @@ module _ {e : Reader ExprTree} (h : Whole expr_trace e) where
       at false t ts = (keeps_field t.place).reaches (t ∷ ts) ts (λ steps rest k. k)
 
   -- behind the name, which is kept as the place of the designator
-  pub leads_desig_behind : (F : List Step → List Step) (x : Text × Place) → Keeps (λ steps. F (here x.1 ∷ next ∷ steps)) (Leading (λ d steps. F (desig_trace d ++ steps))) (desig_behind e x)
+  pub leads_desig_behind : (F : List Step → List Step) (x : Text × Place) →
+      Keeps (λ steps. F (here x.1 ∷ next ∷ steps)) (Leading (λ d steps. F (desig_trace d ++ steps))) (desig_behind e x)
   unfolding desig_behind
-  leads_desig_behind F x = keeps_then (keeps_many selector_trace (λ ss. selectors_trace (selectors_of ss)) (record { none = refl; more = λ s ss. refl }) _ selector_items) (λ ss. leads_pure _ (λ steps. refl))
+  leads_desig_behind F x =
+      keeps_then (keeps_many selector_trace (λ ss. selectors_trace (selectors_of ss)) (record {
+        none = refl;
+        more =
+            λ s ss. refl;
+      }) _ selector_items) (λ ss. leads_pure _ (λ steps. refl))
 
   pub keeps_desig : Whole desig_trace (desig_with e)
   unfolding desig_with desig_behind
-  keeps_desig = keep_then _ (λ x. keeps_then (keeps_many selector_trace (λ ss. selectors_trace (selectors_of ss)) (record { none = refl; more = λ s ss. refl }) _ selector_items) (λ ss. keeps_pure _ (search same_traces)))
+  keeps_desig = keep_then _ (λ x. keeps_then (keeps_many selector_trace (λ ss. selectors_trace (selectors_of ss)) (record {
+    none = refl;
+    more =
+        λ s ss. refl;
+  }) _ selector_items) (λ ss. keeps_pure _ (search same_traces)))
 
   keeps_actual : Whole actual_trace (actual_with e)
   unfolding actual_with
@@ -51,10 +62,13 @@ module _ {e : Reader ExprTree} (h : Whole expr_trace e) where
 
   pub keeps_actuals : Whole actuals_trace (actuals_with e)
   unfolding actuals_with
-  keeps_actuals = pass_branch _ (λ t. list_then actual_trace (behind_next actual_trace) (record { none = refl; more = λ x xs. refl }) _ keeps_actual _ (between_next actual_trace) (λ x xs. refl) (λ x xs. pass_then _ (λ u. keeps_pure _ (closes x xs)))) (keeps_pure _ refl)
+  keeps_actuals = pass_branch _ (λ t. list_then actual_trace (behind_next actual_trace) (record { none = refl; more = λ x xs. refl }) _ keeps_actual _
+      (between_next actual_trace) (λ x xs. refl) (λ x xs. pass_then _ (λ u. keeps_pure _ (closes x xs)))) (keeps_pure _ refl)
     where
-      closes : (x : ActualTree) (xs : List ActualTree) → next ∷ ((actual_trace x ++ behind_next actual_trace xs) ++ next ∷ []) ≡ actuals_trace (actuals_of (x ∷ xs))
-      closes x xs = ap (λ z. next ∷ z) (append_assoc (actual_trace x) (behind_next actual_trace xs) (next ∷ []) ∙ ap (λ z. actual_trace x ++ z) (closed actual_trace (λ args. comma_actuals_trace (actuals_of args)) refl (λ y ys. refl) xs))
+      closes : (x : ActualTree) (xs : List ActualTree) →
+          next ∷ ((actual_trace x ++ behind_next actual_trace xs) ++ next ∷ []) ≡ actuals_trace (actuals_of (x ∷ xs))
+      closes x xs = ap (λ z. next ∷ z) (append_assoc (actual_trace x) (behind_next actual_trace xs) (next ∷ []) ∙
+          ap (λ z. actual_trace x ++ z) (closed actual_trace (λ args. comma_actuals_trace (actuals_of args)) refl (λ y ys. refl) xs))
 
   keeps_paren : (p : Place) → Keeps (λ steps. here p ∷ next ∷ steps) (Traced factor_trace) (paren_behind e p)
   unfolding paren_behind
@@ -66,7 +80,8 @@ module _ {e : Reader ExprTree} (h : Whole expr_trace e) where
 
   pub keeps_plain_factor : Whole factor_trace (plain_factor e)
   unfolding plain_factor
-  keeps_plain_factor = keep_branch _ (λ n. keeps_pure _ refl) (keep_branch _ (λ x. keeps_pure _ refl) (keep_branch _ (λ t. keeps_paren t.1) (keep_branch_twice _ keeps_applied keeps_stop)))
+  keeps_plain_factor = keep_branch _ (λ n. keeps_pure _ refl)
+      (keep_branch _ (λ x. keeps_pure _ refl) (keep_branch _ (λ t. keeps_paren t.1) (keep_branch_twice _ keeps_applied keeps_stop)))
 
 -- No trace of an expression is kept by no token.
 none_first : (a b : List Step) (rest : List Token) → ((r : List Token) → AreKept a [] r → ⊥) → AreKept (a ++ b) [] rest → ⊥
@@ -101,7 +116,11 @@ module _ {f : Reader FactorTree} (h : Whole factor_trace f) where
 
   keeps_term : Whole term_trace (term_with f)
   unfolding term_with
-  keeps_term = keeps_then h (λ x. keeps_then (keeps_many multiplier_trace (λ ms. multipliers_trace (multipliers_of ms)) (record { none = refl; more = λ m ms. refl }) _ (keep_items keeps_multiplier)) (λ ms. keeps_pure _ (search same_traces)))
+  keeps_term = keeps_then h (λ x. keeps_then (keeps_many multiplier_trace (λ ms. multipliers_trace (multipliers_of ms)) (record {
+    none = refl;
+    more =
+        λ m ms. refl;
+  }) _ (keep_items keeps_multiplier)) (λ ms. keeps_pure _ (search same_traces)))
 
   keeps_summand : (op : AddOp × Place) → Keeps (λ steps. here op.1 ∷ next ∷ steps) (Traced summand_trace) (summand_behind f op)
   unfolding summand_behind
@@ -109,7 +128,9 @@ module _ {f : Reader FactorTree} (h : Whole factor_trace f) where
 
   keeps_simple_behind : (sign : Option (plus_or_minus.Sign × Place)) → Keeps (λ steps. sign_trace sign ++ steps) (Traced simple_trace) (simple_behind f sign)
   unfolding simple_behind
-  keeps_simple_behind sign = keeps_then keeps_term (λ t. keeps_then (keeps_many summand_trace (λ us. summands_trace (summands_of us)) (record { none = refl; more = λ u us. refl }) _ (keep_items keeps_summand)) (λ us. keeps_pure _ (search same_traces)))
+  keeps_simple_behind sign =
+      keeps_then keeps_term (λ t. keeps_then (keeps_many summand_trace (λ us. summands_trace (summands_of us)) (record { none = refl; more = λ u us. refl }) _
+      (keep_items keeps_summand)) (λ us. keeps_pure _ (search same_traces)))
 
   keeps_simple : Whole simple_trace (simple_with f)
   unfolding simple_with
@@ -117,14 +138,16 @@ module _ {f : Reader FactorTree} (h : Whole factor_trace f) where
 
   keeps_expr_from : (p : Place) → Keeps (λ steps. here p ∷ steps) (Traced expr_trace) (expr_from f p)
   unfolding expr_from
-  keeps_expr_from p = keeps_then keeps_simple (λ left. keep_branch _ (λ r. keeps_then keeps_simple (λ right. keeps_pure _ (search same_traces))) (keeps_pure _ (search same_traces)))
+  keeps_expr_from p = keeps_then keeps_simple
+      (λ left. keep_branch _ (λ r. keeps_then keeps_simple (λ right. keeps_pure _ (search same_traces))) (keeps_pure _ (search same_traces)))
 
   pub keeps_expr_with : Whole expr_trace (expr_with f)
   unfolding expr_with expr_from bind peek
   keeps_expr_with = record { reaches = go }
     where
       -- where no token comes there is no sum
-      at_end : {B : Type 0} (start : List Token) (k : SimpleTree → Reader B) (Q : B → List Token → List Token → Type 0) (o : Outcome SimpleTree) → Reaches (λ x rest. Traced simple_trace x [] rest) o → Reaches (λ x rest. Q x start rest) (then_read o k)
+      at_end : {B : Type 0} (start : List Token) (k : SimpleTree → Reader B) (Q : B → List Token → List Token → Type 0) (o : Outcome SimpleTree) →
+          Reaches (λ x rest. Traced simple_trace x [] rest) o → Reaches (λ x rest. Q x start rest) (then_read o k)
       at_end start k Q (Ok p) w = absurd (simple_takes p.0 p.1 w.kept)
       at_end start k Q (Err q) w = tt
 

@@ -38,11 +38,15 @@ heads_procedure F = keep_then _ (λ x. keeps_then keeps_formals (λ gs. pass_the
 
 heads_function : Heads function_head
 unfolding function_head
-heads_function F = keep_then _ (λ x. keeps_then keeps_formals (λ gs. pass_then _ (λ t. keep_then _ (λ result. pass_then _ (λ u. leads_pure _ (λ steps. ap F (search same_traces depth 12)))))))
+heads_function F = keep_then _
+    (λ x. keeps_then keeps_formals
+    (λ gs. pass_then _ (λ t. keep_then _ (λ result. pass_then _ (λ u. leads_pure _ (λ steps. ap F (search same_traces depth 12)))))))
 
 heads_guarded : {e : Reader ExprTree} → Whole expr_trace e → Heads (guarded_head e)
 unfolding guarded_head
-heads_guarded h F = pass_then _ (λ t. keep_then _ (λ x. keeps_then keeps_formals (λ gs. keep_then _ (λ u. keeps_then h (λ test. pass_then _ (λ v. leads_pure _ (λ steps. ap F (search same_traces depth 12))))))))
+heads_guarded h F = pass_then _
+    (λ t. keep_then _ (λ x. keeps_then keeps_formals
+    (λ gs. keep_then _ (λ u. keeps_then h (λ test. pass_then _ (λ v. leads_pure _ (λ steps. ap F (search same_traces depth 12))))))))
 
 -- an export and an entry, with their words and semicolons
 abbrev export_trace : List (Text × Place) → List Step
@@ -70,7 +74,8 @@ opened (x ∷ xs) steps = next ∷ here x.1 ∷ next ∷ (comma_names_trace xs +
 
 leads_opened : Keeps (λ steps. next ∷ steps) (Leading opened) names
 unfolding names names_behind
-leads_opened = keep_then _ (λ x. leads_onto (λ y. next ∷ here y.1 ∷ next ∷ []) comma_names_trace (record { none = refl; more = λ y ys. refl }) _ (separate (keeps_take _)) (x ∷ []) (λ items steps. refl))
+leads_opened = keep_then _ (λ x. leads_onto (λ y. next ∷ here y.1 ∷ next ∷ []) comma_names_trace (record { none = refl; more = λ y ys. refl }) _
+    (separate (keeps_take _)) (x ∷ []) (λ items steps. refl))
 
 keeps_params : Whole params_trace params
 unfolding params
@@ -81,7 +86,8 @@ keeps_params = pass_branch _ (λ t. keeps_bind leads_opened (λ xs. pass_then _ 
     closes (x ∷ xs) = search same_traces
 
 -- a place that is kept twice
-kept_twice : (a : List Step) (p : Place) (b : List Step) (ts rest : List Token) → AreKept (a ++ (here p ∷ b)) ts rest → AreKept (a ++ (here p ∷ here p ∷ b)) ts rest
+kept_twice : (a : List Step) (p : Place) (b : List Step) (ts rest : List Token) → AreKept (a ++ (here p ∷ b)) ts rest →
+    AreKept (a ++ (here p ∷ here p ∷ b)) ts rest
 kept_twice [] p b ts rest k = (k.0, k)
 kept_twice (here q ∷ a) p b ts rest k = (k.0, kept_twice a p b ts rest k.1)
 kept_twice (next ∷ a) p b [] rest k = k
@@ -98,21 +104,29 @@ module _ {s : Reader StmtTree} (k : Whole stmt_trace s) where
   module _ {p : Home → Reader (List PartTree)} (hp : (h : Home) → Whole (λ qs. parts_trace (parts_of qs)) (p h)) where
     keeps_sub : {head : Reader SubHead} → Heads head → Keeps (λ steps. next ∷ steps) (Traced sub_trace) (sub_behind p s head)
     unfolding sub_behind
-    keeps_sub h = keeps_bind (h (λ steps. steps)) (λ a. keeps_then (hp _) (λ qs. keeps_then (keeps_body k) (λ b. pass_then _ (λ t. keeps_pure _ (search same_traces depth 12)))))
+    keeps_sub h = keeps_bind (h (λ steps. steps))
+        (λ a. keeps_then (hp _) (λ qs. keeps_then (keeps_body k) (λ b. pass_then _ (λ t. keeps_pure _ (search same_traces depth 12)))))
 
     keeps_module : (own : Home) → Whole module_trace (module_behind p s own)
     unfolding module_behind
-    keeps_module own = keep_then _ (λ x. pass_then _ (λ t. keeps_then (keeps_many export_trace exports_trace (record { none = refl; more = λ xs es. search same_traces }) _ (pass_items (λ u. keeps_export))) (λ es.
+    keeps_module own = keep_then _
+        (λ x. pass_then _ (λ t. keeps_then (keeps_many export_trace exports_trace (record { none = refl; more = λ xs es. search same_traces }) _
+        (pass_items (λ u. keeps_export))) (λ es.
         keeps_then (hp own) (λ qs. keeps_then keeps_ending (λ b. pass_then _ (λ u. keeps_pure _ (search same_traces depth 12)))))))
 
     keeps_process : Keeps (λ steps. next ∷ steps) (Traced process_trace) (process_behind p s)
     unfolding process_behind
-    keeps_process = keeps_then keeps_type_word (λ kind. keep_then _ (λ x. keeps_then keeps_formals (λ gs. pass_then _ (λ t. keeps_then (keeps_many entry_trace entries_trace (record { none = refl; more = λ n ns. search same_traces depth 12 }) _ (pass_items (λ u. keeps_entry))) (λ ns.
+    keeps_process = keeps_then keeps_type_word
+        (λ kind. keep_then _ (λ x. keeps_then keeps_formals
+        (λ gs. pass_then _ (λ t. keeps_then (keeps_many entry_trace entries_trace (record { none = refl; more = λ n ns. search same_traces depth 12 }) _
+        (pass_items (λ u. keeps_entry))) (λ ns.
         keeps_then (hp _) (λ qs. keeps_then (keeps_body k) (λ b. pass_then _ (λ u. keeps_pure _ (search same_traces depth 14)))))))))
 
     keeps_program_behind : (place : Place) → Keeps (λ steps. here place ∷ next ∷ steps) (Traced trace_of) (program_behind p s place)
     unfolding program_behind
-    keeps_program_behind place = keep_then _ (λ x. keeps_then keeps_params (λ xs. pass_then _ (λ t. keeps_then (hp _) (λ qs. keeps_then (keeps_body k) (λ b. pass_then _ (λ u. keeps_pure _ (search same_traces depth 12)))))))
+    keeps_program_behind place =
+        keep_then _ (λ x. keeps_then keeps_params
+        (λ xs. pass_then _ (λ t. keeps_then (hp _) (λ qs. keeps_then (keeps_body k) (λ b. pass_then _ (λ u. keeps_pure _ (search same_traces depth 12)))))))
 
     keeps_block_with : {e : Reader ExprTree} → Whole expr_trace e → (h : Home) → Whole part_trace (block_with p e s h)
     unfolding block_with
@@ -132,8 +146,10 @@ keeps_part_with ht hb = pass_branch _ (λ u. keeps_then keeps_const_items (λ it
 -- Whatever the number of levels.
 keeps_parts_at : (n : ℕ) (h : Home) → Whole (λ qs. parts_trace (parts_of qs)) (parts_at n h)
 unfolding parts_at
-keeps_parts_at zero h = keeps_while part_trace _ (record { none = refl; more = λ q qs. refl }) _ (keeps_part_with (keeps_type_at zero) (keeps_choose _ keeps_stop_deep keeps_stop))
-keeps_parts_at (suc n) h = keeps_while part_trace _ (record { none = refl; more = λ q qs. refl }) _ (keeps_part_with (keeps_type_at (suc n)) (keeps_block_with (keeps_stmt_at n) (keeps_parts_at n) (keeps_expr_at n) h))
+keeps_parts_at zero h = keeps_while part_trace _ (record { none = refl; more = λ q qs. refl }) _
+    (keeps_part_with (keeps_type_at zero) (keeps_choose _ keeps_stop_deep keeps_stop))
+keeps_parts_at (suc n) h = keeps_while part_trace _ (record { none = refl; more = λ q qs. refl }) _ (keeps_part_with (keeps_type_at (suc n))
+    (keeps_block_with (keeps_stmt_at n) (keeps_parts_at n) (keeps_expr_at n) h))
 
 keeps_program_at : (n : ℕ) → Whole trace_of (program_at n)
 unfolding program_at
@@ -160,5 +176,6 @@ keeps_whole_at n = keeps_then (keeps_program_at n) keeps_finish
 pub places_are_kept : (tokens rest : List Token) (tree : ProgramTree) → read_tokens tokens ≡ Ok (tree, rest) → ArePlacesOf tree tokens
 unfolding read_tokens
 places_are_kept tokens rest tree e =
-    let reached : Reaches (λ x left. Entire x tokens left) (Ok (tree, rest)) = subst (λ z. Reaches (λ x left. Entire x tokens left) z) e ((keeps_whole_at most_depth).reaches tokens tokens (led tokens)) in
+    let reached : Reaches (λ x left. Entire x tokens left) (Ok (tree, rest)) =
+    subst (λ z. Reaches (λ x left. Entire x tokens left) z) e ((keeps_whole_at most_depth).reaches tokens tokens (led tokens)) in
     let entire : Entire tree tokens rest = reached in entire.kept

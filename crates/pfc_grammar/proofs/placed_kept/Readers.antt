@@ -63,7 +63,8 @@ pub keeps_pure : {A : Type 0} {F : List Step → List Step} {K : A → List Step
 unfolding pure
 keeps_pure x e = record { reaches = λ start ts l. record { kept = subst (λ z. AreKept z start ts) e (l [] ts refl) } }
 
-pub leads_pure : {A : Type 0} {F : List Step → List Step} {M : A → List Step → List Step} (x : A) → ((steps : List Step) → F steps ≡ M x steps) → Keeps F (Leading M) (pure x)
+pub leads_pure : {A : Type 0} {F : List Step → List Step} {M : A → List Step → List Step} (x : A) →
+    ((steps : List Step) → F steps ≡ M x steps) → Keeps F (Leading M) (pure x)
 unfolding pure
 leads_pure x e = record { reaches = λ start ts l. record { leads = λ steps rest k. subst (λ z. AreKept z start rest) (e steps) (l steps rest k) } }
 
@@ -75,7 +76,8 @@ pub keeps_stop_deep : {A : Type 0} {F : List Step → List Step} {Q : A → List
 unfolding stop_deep
 keeps_stop_deep = record { reaches = λ start ts l. tt }
 
-pub keeps_bind : {A B : Type 0} {F : List Step → List Step} {M : A → List Step → List Step} {Q : B → List Token → List Token → Type 0} {r : Reader A} {k : A → Reader B} → Keeps F (Leading M) r → ((x : A) → Keeps (M x) Q (k x)) → Keeps F Q (bind r k)
+pub keeps_bind : {A B : Type 0} {F : List Step → List Step} {M : A → List Step → List Step} {Q : B → List Token → List Token → Type 0} {r : Reader A} {k : A →
+    Reader B} → Keeps F (Leading M) r → ((x : A) → Keeps (M x) Q (k x)) → Keeps F Q (bind r k)
 unfolding bind
 keeps_bind {A = A} {M = M} {Q = Q} {r = r} {k = k} h t = record { reaches = λ start ts l. go start (r ts) (h.reaches start ts l) }
   where
@@ -87,20 +89,25 @@ keeps_bind {A = A} {M = M} {Q = Q} {r = r} {k = k} h t = record { reaches = λ s
 pub keeps_part : {A : Type 0} {F : List Step → List Step} {K : A → List Step} {r : Reader A} → Whole K r → Keeps F (Leading (λ x steps. F (K x ++ steps))) r
 keeps_part {A = A} {F = F} {K = K} {r = r} h = record { reaches = λ start ts l. go start ts l (r ts) (h.reaches ts ts (led ts)) }
   where
-    go : (start ts : List Token) → Leads F start ts → (o : Outcome A) → Reaches (λ x rest. Traced K x ts rest) o → Reaches (λ x rest. Leading (λ y steps. F (K y ++ steps)) x start rest) o
+    go : (start ts : List Token) → Leads F start ts → (o : Outcome A) → Reaches (λ x rest. Traced K x ts rest) o →
+        Reaches (λ x rest. Leading (λ y steps. F (K y ++ steps)) x start rest) o
     go start ts l (Ok p) w = record { leads = λ steps rest k. l (K p.0 ++ steps) rest (kept_both (K p.0) steps ts p.1 rest w.kept k) }
     go start ts l (Err e) w = tt
 
-pub keeps_then : {A B : Type 0} {F : List Step → List Step} {K : A → List Step} {Q : B → List Token → List Token → Type 0} {r : Reader A} {k : A → Reader B} → Whole K r → ((x : A) → Keeps (λ steps. F (K x ++ steps)) Q (k x)) → Keeps F Q (bind r k)
+pub keeps_then : {A B : Type 0} {F : List Step → List Step} {K : A → List Step} {Q : B → List Token → List Token → Type 0} {r : Reader A} {k : A → Reader B} →
+    Whole K r → ((x : A) → Keeps (λ steps. F (K x ++ steps)) Q (k x)) → Keeps F Q (bind r k)
 keeps_then h t = keeps_bind (keeps_part h) t
 
 -- one token
-pub keeps_branch_by : {O A : Type 0} {F : List Step → List Step} {Q : A → List Token → List Token → Type 0} (T : Place → List Step → List Step) → ((t : Token) (ts : List Token) → Leads (T t.place) (t ∷ ts) ts) →
-    (c : Symbol → Option O) {g : O × Place → Reader A} {r : Reader A} → ((o : O × Place) → Keeps (λ steps. F (T o.1 steps)) Q (g o)) → Keeps F Q r → Keeps F Q (branch c g r)
+pub keeps_branch_by : {O A : Type 0} {F : List Step → List Step} {Q : A → List Token → List Token → Type 0} (T : Place → List Step → List Step) →
+    ((t : Token) (ts : List Token) → Leads (T t.place) (t ∷ ts) ts) →
+    (c : Symbol → Option O) {g : O × Place → Reader A} {r : Reader A} →
+    ((o : O × Place) → Keeps (λ steps. F (T o.1 steps)) Q (g o)) → Keeps F Q r → Keeps F Q (branch c g r)
 unfolding branch
 keeps_branch_by {O = O} {F = F} {Q = Q} T one c {g = g} {r = r} h k = record { reaches = go }
   where
-    at : (start : List Token) (t : Token) (ts : List Token) → Leads F start (t ∷ ts) → (o : Option O) → Reaches (λ x rest. Q x start rest) (branch_at o g r t ts)
+    at : (start : List Token) (t : Token) (ts : List Token) → Leads F start (t ∷ ts) → (o : Option O) →
+        Reaches (λ x rest. Q x start rest) (branch_at o g r t ts)
     at start t ts l (Some o) = (h (o, t.place)).reaches start ts (λ steps rest w. l (T t.place steps) rest (one t ts steps rest w))
     at start t ts l None = k.reaches start (t ∷ ts) l
 
@@ -109,30 +116,37 @@ keeps_branch_by {O = O} {F = F} {Q = Q} T one c {g = g} {r = r} h k = record { r
     go start (t ∷ ts) l = at start t ts l (c t.kind)
 
 -- its place is not kept
-pub pass_branch : {O A : Type 0} {F : List Step → List Step} {Q : A → List Token → List Token → Type 0} (c : Symbol → Option O) {g : O × Place → Reader A} {r : Reader A} → ((o : O × Place) → Keeps (λ steps. F (next ∷ steps)) Q (g o)) → Keeps F Q r → Keeps F Q (branch c g r)
+pub pass_branch : {O A : Type 0} {F : List Step → List Step} {Q : A → List Token → List Token → Type 0} (c : Symbol → Option O) {g : O × Place →
+    Reader A} {r : Reader A} → ((o : O × Place) → Keeps (λ steps. F (next ∷ steps)) Q (g o)) → Keeps F Q r → Keeps F Q (branch c g r)
 pass_branch c h k = keeps_branch_by (λ p steps. next ∷ steps) (λ t ts steps rest w. w) c h k
 
 -- it is kept
-pub keep_branch : {O A : Type 0} {F : List Step → List Step} {Q : A → List Token → List Token → Type 0} (c : Symbol → Option O) {g : O × Place → Reader A} {r : Reader A} → ((o : O × Place) → Keeps (λ steps. F (here o.1 ∷ next ∷ steps)) Q (g o)) → Keeps F Q r → Keeps F Q (branch c g r)
+pub keep_branch : {O A : Type 0} {F : List Step → List Step} {Q : A → List Token → List Token → Type 0} (c : Symbol → Option O) {g : O × Place →
+    Reader A} {r : Reader A} → ((o : O × Place) → Keeps (λ steps. F (here o.1 ∷ next ∷ steps)) Q (g o)) → Keeps F Q r → Keeps F Q (branch c g r)
 keep_branch c h k = keeps_branch_by (λ p steps. here p ∷ next ∷ steps) (λ t ts steps rest w. (refl, w)) c h k
 
 -- it is kept twice
-pub keep_branch_twice : {O A : Type 0} {F : List Step → List Step} {Q : A → List Token → List Token → Type 0} (c : Symbol → Option O) {g : O × Place → Reader A} {r : Reader A} → ((o : O × Place) → Keeps (λ steps. F (here o.1 ∷ here o.1 ∷ next ∷ steps)) Q (g o)) → Keeps F Q r → Keeps F Q (branch c g r)
+pub keep_branch_twice : {O A : Type 0} {F : List Step → List Step} {Q : A → List Token → List Token → Type 0} (c : Symbol → Option O) {g : O × Place →
+    Reader A} {r : Reader A} → ((o : O × Place) → Keeps (λ steps. F (here o.1 ∷ here o.1 ∷ next ∷ steps)) Q (g o)) → Keeps F Q r → Keeps F Q (branch c g r)
 keep_branch_twice c h k = keeps_branch_by (λ p steps. here p ∷ here p ∷ next ∷ steps) (λ t ts steps rest w. (refl, (refl, w))) c h k
 
-pub pass_then : {O A : Type 0} {F : List Step → List Step} {Q : A → List Token → List Token → Type 0} (c : Symbol → Option O) {k : O × Place → Reader A} → ((o : O × Place) → Keeps (λ steps. F (next ∷ steps)) Q (k o)) → Keeps F Q (bind (take_as c) k)
+pub pass_then : {O A : Type 0} {F : List Step → List Step} {Q : A → List Token → List Token → Type 0} (c : Symbol → Option O) {k : O × Place → Reader A} →
+    ((o : O × Place) → Keeps (λ steps. F (next ∷ steps)) Q (k o)) → Keeps F Q (bind (take_as c) k)
 unfolding take_as
 pass_then {F = F} c t = keeps_bind {M = λ o steps. F (next ∷ steps)} (pass_branch c (λ o. leads_pure o (λ steps. refl)) keeps_stop) t
 
-pub keep_then : {O A : Type 0} {F : List Step → List Step} {Q : A → List Token → List Token → Type 0} (c : Symbol → Option O) {k : O × Place → Reader A} → ((o : O × Place) → Keeps (λ steps. F (here o.1 ∷ next ∷ steps)) Q (k o)) → Keeps F Q (bind (take_as c) k)
+pub keep_then : {O A : Type 0} {F : List Step → List Step} {Q : A → List Token → List Token → Type 0} (c : Symbol → Option O) {k : O × Place → Reader A} →
+    ((o : O × Place) → Keeps (λ steps. F (here o.1 ∷ next ∷ steps)) Q (k o)) → Keeps F Q (bind (take_as c) k)
 unfolding take_as
 keep_then {F = F} c t = keeps_bind {M = λ o steps. F (here o.1 ∷ next ∷ steps)} (keep_branch c (λ o. leads_pure o (λ steps. refl)) keeps_stop) t
 
-pub keeps_choose : {A : Type 0} {F : List Step → List Step} {Q : A → List Token → List Token → Type 0} (c : Symbol → Bool) {g r : Reader A} → Keeps F Q g → Keeps F Q r → Keeps F Q (choose c g r)
+pub keeps_choose : {A : Type 0} {F : List Step → List Step} {Q : A → List Token → List Token → Type 0} (c : Symbol → Bool) {g r : Reader A} →
+    Keeps F Q g → Keeps F Q r → Keeps F Q (choose c g r)
 unfolding choose
 keeps_choose {F = F} {Q = Q} c {g = g} {r = r} h k = record { reaches = go }
   where
-    at : (start : List Token) (t : Token) (ts : List Token) → Leads F start (t ∷ ts) → (b : Bool) → Reaches (λ x rest. Q x start rest) (choose_at b g r (t ∷ ts))
+    at : (start : List Token) (t : Token) (ts : List Token) → Leads F start (t ∷ ts) → (b : Bool) →
+        Reaches (λ x rest. Q x start rest) (choose_at b g r (t ∷ ts))
     at start t ts l true = h.reaches start (t ∷ ts) l
     at start t ts l false = k.reaches start (t ∷ ts) l
 
@@ -146,7 +160,8 @@ unfolding take_as
 keeps_take c = keep_branch c (λ o. keeps_pure o refl) keeps_stop
 
 -- no steps follow
-pub keeps_end : {A : Type 0} {F : List Step → List Step} {M : A → List Step → List Step} {K : A → List Step} {r : Reader A} → ((x : A) → M x [] ≡ K x) → Keeps F (Leading M) r → Keeps F (Traced K) r
+pub keeps_end : {A : Type 0} {F : List Step → List Step} {M : A → List Step → List Step} {K : A → List Step} {r : Reader A} → ((x : A) → M x [] ≡ K x) →
+    Keeps F (Leading M) r → Keeps F (Traced K) r
 keeps_end {A = A} {F = F} {M = M} {K = K} {r = r} e h = record { reaches = λ start ts l. go start (r ts) (h.reaches start ts l) }
   where
     go : (start : List Token) (o : Outcome A) → Reaches (λ x rest. Leading M x start rest) o → Reaches (λ x rest. Traced K x start rest) o
@@ -154,10 +169,13 @@ keeps_end {A = A} {F = F} {M = M} {K = K} {r = r} e h = record { reaches = λ st
     go start (Err q) w = tt
 
 -- what is made of a value that is read
-pub keeps_made : {A B : Type 0} {F : List Step → List Step} {K : A → List Step} {K' : B → List Step} {r : Reader A} (f : A → B) → ((x : A) (start rest : List Token) → AreKept (K x) start rest → AreKept (K' (f x)) start rest) → Keeps F (Traced K) r → Keeps F (Traced K') (bind r (λ x. pure (f x)))
+pub keeps_made : {A B : Type 0} {F : List Step → List Step} {K : A → List Step} {K' : B → List Step} {r : Reader A} (f : A → B) →
+    ((x : A) (start rest : List Token) → AreKept (K x) start rest → AreKept (K' (f x)) start rest) → Keeps F (Traced K) r →
+    Keeps F (Traced K') (bind r (λ x. pure (f x)))
 unfolding bind pure
 keeps_made {A = A} {F = F} {K = K} {K' = K'} {r = r} f e h = record { reaches = λ start ts l. go start (r ts) (h.reaches start ts l) }
   where
-    go : (start : List Token) (o : Outcome A) → Reaches (λ x rest. Traced K x start rest) o → Reaches (λ y rest. Traced K' y start rest) (then_read o (λ x. pure (f x)))
+    go : (start : List Token) (o : Outcome A) → Reaches (λ x rest. Traced K x start rest) o →
+        Reaches (λ y rest. Traced K' y start rest) (then_read o (λ x. pure (f x)))
     go start (Ok p) w = record { kept = e p.0 start p.1 w.kept }
     go start (Err q) w = tt

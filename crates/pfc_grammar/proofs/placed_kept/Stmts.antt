@@ -28,19 +28,24 @@ leads_accept_head = keep_then _ (λ x. keeps_then keeps_formals (λ gs. leads_pu
 
 leads_labels : {F : List Step → List Step} → Keeps F (Leading (λ cs steps. F (constants_trace cs ++ (next ∷ steps)))) labels
 unfolding labels
-leads_labels = keeps_then (keeps_list constant_trace comma_constants_trace (record { none = refl; more = λ c cs. refl }) _ keeps_constant constants_trace (λ c cs. refl)) (λ cs. pass_then _ (λ t. leads_pure _ (λ steps. refl)))
+leads_labels = keeps_then (keeps_list constant_trace comma_constants_trace (record { none = refl; more = λ c cs. refl }) _ keeps_constant constants_trace
+    (λ c cs. refl)) (λ cs. pass_then _ (λ t. leads_pure _ (λ steps. refl)))
 
 leads_spread : {F : List Step → List Step} →
     Keeps F (Leading (λ r steps. F (here r.place ∷ next ∷ next ∷ (constant_trace r.low ++ (next ∷ (constant_trace r.high ++ (next ∷ steps))))))) spread_behind
 unfolding spread_behind
-leads_spread = keep_then _ (λ x. pass_then _ (λ t. keeps_then keeps_constant (λ low. pass_then _ (λ u. keeps_then keeps_constant (λ high. pass_then _ (λ v. leads_pure _ (λ steps. refl)))))))
+leads_spread = keep_then _
+    (λ x. pass_then _ (λ t. keeps_then keeps_constant
+    (λ low. pass_then _ (λ u. keeps_then keeps_constant (λ high. pass_then _ (λ v. leads_pure _ (λ steps. refl)))))))
 
-spread_whole : (p : Place) (low high : List Step) → next ∷ here p ∷ next ∷ next ∷ (low ++ (next ∷ (high ++ (next ∷ [])))) ≡ next ∷ here p ∷ next ∷ next ∷ ((low ++ (next ∷ high)) ++ (next ∷ []))
+spread_whole : (p : Place) (low high : List Step) → next ∷ here p ∷ next ∷ next ∷ (low ++ (next ∷ (high ++ (next ∷ [])))) ≡ next ∷ here p ∷ next ∷ next ∷
+    ((low ++ (next ∷ high)) ++ (next ∷ []))
 spread_whole p low high = search same_traces
 
 keeps_replication : Whole replication_trace replication
 unfolding replication
-keeps_replication = pass_branch _ (λ t. keeps_bind leads_spread (λ r. keeps_pure _ (spread_whole r.place (constant_trace r.low) (constant_trace r.high)))) (keeps_pure _ refl)
+keeps_replication = pass_branch _ (λ t. keeps_bind leads_spread (λ r. keeps_pure _ (spread_whole r.place (constant_trace r.low) (constant_trace r.high))))
+    (keeps_pure _ refl)
 
 abbrev alt_head_trace : Option Spread × Option ExprTree → List Step
 alt_head_trace h = replication_trace h.0 ++ guard_trace h.1
@@ -50,9 +55,11 @@ module _ {e : Reader ExprTree} (h : Whole expr_trace e) where
   unfolding test_before
   leads_test w = keeps_then h (λ x. pass_then _ (λ t. leads_pure _ (λ steps. refl)))
 
-  leads_for_head : {F : List Step → List Step} → Keeps F (Leading (λ a steps. F (here a.0.1 ∷ next ∷ next ∷ (expr_trace a.1 ++ (next ∷ (expr_trace a.3 ++ (next ∷ steps))))))) (for_head e)
+  leads_for_head : {F : List Step → List Step} →
+      Keeps F (Leading (λ a steps. F (here a.0.1 ∷ next ∷ next ∷ (expr_trace a.1 ++ (next ∷ (expr_trace a.3 ++ (next ∷ steps))))))) (for_head e)
   unfolding for_head
-  leads_for_head = keep_then _ (λ x. pass_then _ (λ t. keeps_then h (λ from. pass_then _ (λ down. keeps_then h (λ to. pass_then _ (λ u. leads_pure _ (λ steps. refl)))))))
+  leads_for_head = keep_then _
+      (λ x. pass_then _ (λ t. keeps_then h (λ from. pass_then _ (λ down. keeps_then h (λ to. pass_then _ (λ u. leads_pure _ (λ steps. refl)))))))
 
   keeps_guard : Whole guard_trace (guard e)
   unfolding guard
@@ -71,12 +78,14 @@ module _ {e : Reader ExprTree} (h : Whole expr_trace e) where
   keeps_action x = keeps_bind (leads_desig_behind h (λ steps. here x.1 ∷ steps) x) (λ d.
       keep_branch _ (λ t. keeps_then h (λ value. keeps_pure _ (search same_traces))) (
       keep_branch _ (λ t. keeps_then h (λ value. keeps_pure _ (search same_traces))) (
-      keep_branch _ (λ t. keeps_then (keeps_desig h) (λ v. keeps_pure _ (search same_traces))) (keeps_then (keeps_actuals h) (λ args. keeps_pure _ (search same_traces))))))
+      keep_branch _ (λ t. keeps_then (keeps_desig h) (λ v. keeps_pure _ (search same_traces)))
+      (keeps_then (keeps_actuals h) (λ args. keeps_pure _ (search same_traces))))))
 
   keeps_comm_behind : (x : Text × Place) → Keeps (λ steps. here x.1 ∷ next ∷ steps) (Traced comm_trace) (comm_behind e x)
   unfolding comm_behind
   keeps_comm_behind x = keeps_bind (leads_desig_behind h (λ steps. steps) x) (λ d.
-      keep_branch _ (λ t. keeps_then h (λ value. keeps_pure _ (search same_traces))) (keep_then _ (λ t. keeps_then (keeps_desig h) (λ v. keeps_pure _ (search same_traces)))))
+      keep_branch _ (λ t. keeps_then h (λ value. keeps_pure _ (search same_traces)))
+      (keep_then _ (λ t. keeps_then (keeps_desig h) (λ v. keeps_pure _ (search same_traces)))))
 
   keeps_message : Whole comm_trace (message e)
   unfolding message
@@ -94,10 +103,12 @@ module _ {e : Reader ExprTree} (h : Whole expr_trace e) where
 module _ {s : Reader StmtTree} (k : Whole stmt_trace s) where
   keeps_stmts : Whole (λ ss. stmts_trace (stmts_of ss)) (stmts_with s)
   unfolding stmts_with
-  keeps_stmts = keeps_list stmt_trace (λ ss. semicolon_stmts_trace (stmts_of ss)) (record { none = refl; more = λ x xs. refl }) _ k (λ ss. stmts_trace (stmts_of ss)) (λ x xs. refl)
+  keeps_stmts = keeps_list stmt_trace (λ ss. semicolon_stmts_trace (stmts_of ss)) (record { none = refl; more = λ x xs. refl }) _ k
+      (λ ss. stmts_trace (stmts_of ss)) (λ x xs. refl)
 
   -- behind `begin`, which is kept as the place of the body
-  leads_body_behind : (F : List Step → List Step) (p : Place) → Keeps (λ steps. F (here p ∷ next ∷ steps)) (Leading (λ b steps. F (body_trace b ++ steps))) (body_behind s p)
+  leads_body_behind : (F : List Step → List Step) (p : Place) →
+      Keeps (λ steps. F (here p ∷ next ∷ steps)) (Leading (λ b steps. F (body_trace b ++ steps))) (body_behind s p)
   unfolding body_behind
   leads_body_behind F p = keeps_then keeps_stmts (λ ss. keep_then _ (λ t. leads_pure _ (λ steps. ap F (search same_traces))))
 
@@ -119,7 +130,8 @@ module _ {s : Reader StmtTree} (k : Whole stmt_trace s) where
 
   keeps_accept : Whole accept_trace (accept_behind s)
   unfolding accept_behind
-  keeps_accept = keeps_bind leads_accept_head (λ a. pass_branch _ (λ t. keeps_then k (λ x. keeps_pure _ (search same_traces))) (keeps_pure _ (search same_traces)))
+  keeps_accept = keeps_bind leads_accept_head
+      (λ a. pass_branch _ (λ t. keeps_then k (λ x. keeps_pure _ (search same_traces))) (keeps_pure _ (search same_traces)))
 
   keeps_accepting : (p : Place) → Keeps (λ steps. here p ∷ next ∷ steps) (Traced stmt_trace) (accepting_behind s p)
   unfolding accepting_behind
@@ -128,11 +140,15 @@ module _ {s : Reader StmtTree} (k : Whole stmt_trace s) where
 module _ {e : Reader ExprTree} (h : Whole expr_trace e) {s : Reader StmtTree} (k : Whole stmt_trace s) where
   keeps_if : (p : Place) → Keeps (λ steps. here p ∷ next ∷ steps) (Traced stmt_trace) (if_behind e s p)
   unfolding if_behind
-  keeps_if p = keeps_bind (leads_test h _) (λ test. keeps_then k (λ first. pass_branch _ (λ t. keeps_then k (λ second. keeps_pure _ (search same_traces))) (keeps_pure _ (search same_traces))))
+  keeps_if p = keeps_bind (leads_test h _)
+      (λ test. keeps_then k (λ first. pass_branch _ (λ t. keeps_then k (λ second. keeps_pure _ (search same_traces))) (keeps_pure _ (search same_traces))))
 
   keeps_case : (p : Place) → Keeps (λ steps. here p ∷ next ∷ steps) (Traced stmt_trace) (case_behind e s p)
   unfolding case_behind
-  keeps_case p = keeps_bind (leads_test h _) (λ value. keeps_bind (leads_list_end arm_trace (λ arms. semicolon_arms_trace (arms_of arms)) (record { none = refl; more = λ a arms. refl }) _ _ (keeps_arm k) (λ arms. arms_trace (arms_of arms)) (λ a arms. refl))
+  keeps_case p = keeps_bind (leads_test h _) (λ value. keeps_bind (leads_list_end arm_trace (λ arms. semicolon_arms_trace (arms_of arms)) (record {
+    none = refl;
+    more = λ a arms. refl;
+  }) _ _ (keeps_arm k) (λ arms. arms_trace (arms_of arms)) (λ a arms. refl))
       (λ arms. pass_then _ (λ t. keeps_pure _ (search same_traces))))
 
   keeps_while_do : (p : Place) → Keeps (λ steps. here p ∷ next ∷ steps) (Traced stmt_trace) (while_behind e s p)
@@ -141,11 +157,14 @@ module _ {e : Reader ExprTree} (h : Whole expr_trace e) {s : Reader StmtTree} (k
 
   keeps_repeat : (p : Place) → Keeps (λ steps. here p ∷ next ∷ steps) (Traced stmt_trace) (repeat_behind e s p)
   unfolding repeat_behind
-  keeps_repeat p = keeps_then (keeps_stmts k) (λ ss. pass_branch _ (λ t. keeps_then h (λ test. keeps_pure _ (search same_traces))) (pass_then _ (λ t. keeps_pure _ (search same_traces))))
+  keeps_repeat p = keeps_then (keeps_stmts k) (λ ss. pass_branch _ (λ t. keeps_then h (λ test. keeps_pure _ (search same_traces)))
+      (pass_then _ (λ t. keeps_pure _ (search same_traces))))
 
   keeps_for : (p : Place) → Keeps (λ steps. here p ∷ next ∷ steps) (Traced stmt_trace) (for_behind e s p)
   unfolding for_behind
-  keeps_for p = keeps_bind (leads_for_head h) (λ a. keeps_then k (λ x. keeps_pure _ (ap (λ z. here p ∷ next ∷ here a.0.1 ∷ next ∷ next ∷ z) (between (expr_trace a.1) (expr_trace a.3) (stmt_trace x)))))
+  keeps_for p = keeps_bind (leads_for_head h)
+      (λ a. keeps_then k (λ x. keeps_pure _ (ap (λ z. here p ∷ next ∷ here a.0.1 ∷ next ∷ next ∷ z)
+      (between (expr_trace a.1) (expr_trace a.3) (stmt_trace x)))))
     where
       between : (a b c : List Step) → a ++ (next ∷ (b ++ (next ∷ (c ++ [])))) ≡ (a ++ (next ∷ b)) ++ (next ∷ c)
       between a b c = search same_traces
@@ -157,13 +176,17 @@ module _ {e : Reader ExprTree} (h : Whole expr_trace e) {s : Reader StmtTree} (k
   keeps_alt : Whole alt_trace (alt_with e s)
   unfolding alt_with
   keeps_alt = keeps_then (keeps_alt_head h) (λ a. keeps_then (keeps_comm (is_some a.0)) (λ c.
-      keeps_then (keeps_many (λ x. next ∷ stmt_trace x) (λ ss. semicolon_stmts_trace (stmts_of ss)) (record { none = refl; more = λ x xs. refl }) _ (separate k)) (λ ss. keeps_pure _ (search same_traces))))
+      keeps_then (keeps_many (λ x. next ∷ stmt_trace x) (λ ss. semicolon_stmts_trace (stmts_of ss)) (record { none = refl; more = λ x xs. refl }) _
+      (separate k)) (λ ss. keeps_pure _ (search same_traces))))
 
   -- behind the `select` at p, in a statement whose first token stands at first
-  keeps_select : (pri : Bool) (first p : Place) → Keeps (λ steps. pri_trace pri first ++ (here p ∷ next ∷ steps)) (Traced stmt_trace) (select_behind e s pri first p)
+  keeps_select : (pri : Bool) (first p : Place) →
+      Keeps (λ steps. pri_trace pri first ++ (here p ∷ next ∷ steps)) (Traced stmt_trace) (select_behind e s pri first p)
   unfolding select_behind
-  keeps_select pri first p = keeps_then (keeps_list alt_trace (λ alts. or_alts_trace (alts_of alts)) (record { none = refl; more = λ a alts. refl }) _ keeps_alt (λ alts. alts_trace (alts_of alts)) (λ a alts. refl)) (λ alts.
-      keep_branch _ (λ t. keeps_then (keeps_stmts k) (λ ss. pass_then _ (λ u. keeps_pure _ (search same_traces)))) (pass_then _ (λ t. keeps_pure _ (search same_traces))))
+  keeps_select pri first p = keeps_then (keeps_list alt_trace (λ alts. or_alts_trace (alts_of alts)) (record { none = refl; more = λ a alts. refl }) _ keeps_alt
+      (λ alts. alts_trace (alts_of alts)) (λ a alts. refl)) (λ alts.
+      keep_branch _ (λ t. keeps_then (keeps_stmts k) (λ ss. pass_then _ (λ u. keeps_pure _ (search same_traces))))
+      (pass_then _ (λ t. keeps_pure _ (search same_traces))))
 
   keeps_pri : (p : Place) → Keeps (λ steps. here p ∷ next ∷ steps) (Traced stmt_trace) (pri_behind e s p)
   unfolding pri_behind

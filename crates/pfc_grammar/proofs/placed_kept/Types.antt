@@ -20,9 +20,11 @@ use Rattle.pfc_grammar.proofs.placed_kept.Loops.{behind_next, between_next, clos
 use Rattle.pfc_grammar.proofs.placed_kept.Loops.{leads_list_end}
 
 -- behind the first name
-pub leads_names_behind : (F : List Step → List Step) (x : Text × Place) → Keeps (λ steps. F (here x.1 ∷ next ∷ steps)) (Leading (λ xs steps. F (names_trace xs ++ steps))) (names_behind x)
+pub leads_names_behind : (F : List Step → List Step) (x : Text × Place) →
+    Keeps (λ steps. F (here x.1 ∷ next ∷ steps)) (Leading (λ xs steps. F (names_trace xs ++ steps))) (names_behind x)
 unfolding names_behind
-leads_names_behind F x = leads_onto (λ y. next ∷ here y.1 ∷ next ∷ []) comma_names_trace (record { none = refl; more = λ y ys. refl }) _ (separate (keeps_take _)) (x ∷ []) (λ items steps. refl)
+leads_names_behind F x = leads_onto (λ y. next ∷ here y.1 ∷ next ∷ []) comma_names_trace (record { none = refl; more = λ y ys. refl }) _
+    (separate (keeps_take _)) (x ∷ []) (λ items steps. refl)
 
 pub keeps_names : Whole names_trace names
 unfolding names
@@ -49,7 +51,8 @@ closed_var_trace v = var_trace v ++ next ∷ []
 
 module _ {t : Reader TypeTree} (h : Whole type_trace t) where
   -- behind the first name
-  leads_var_behind : (F : List Step → List Step) (x : Text × Place) → Keeps (λ steps. F (here x.1 ∷ next ∷ steps)) (Leading (λ v steps. F (var_trace v ++ steps))) (var_behind t x)
+  leads_var_behind : (F : List Step → List Step) (x : Text × Place) →
+      Keeps (λ steps. F (here x.1 ∷ next ∷ steps)) (Leading (λ v steps. F (var_trace v ++ steps))) (var_behind t x)
   unfolding var_behind
   leads_var_behind F x = keeps_bind (leads_names_behind F x) (λ xs. pass_then _ (λ u. keeps_then h (λ form. leads_pure _ (λ steps. ap F (search same_traces)))))
 
@@ -63,16 +66,20 @@ module _ {t : Reader TypeTree} (h : Whole type_trace t) where
 
   keeps_array : (p : Place) → Keeps (λ steps. here p ∷ next ∷ steps) (Traced type_trace) (array_behind t p)
   unfolding array_behind
-  keeps_array p = pass_then _ (λ u. keeps_then (keeps_list range_trace comma_ranges_trace (record { none = refl; more = λ r rs. refl }) _ keeps_range ranges_trace (λ r rs. refl)) (λ rs.
+  keeps_array p = pass_then _
+      (λ u. keeps_then (keeps_list range_trace comma_ranges_trace (record { none = refl; more = λ r rs. refl }) _ keeps_range ranges_trace (λ r rs. refl))
+      (λ rs.
       pass_then _ (λ v. pass_then _ (λ w. keeps_then h (λ form. keeps_pure _ (search same_traces))))))
 
   keeps_record : (p : Place) → Keeps (λ steps. here p ∷ next ∷ steps) (Traced type_trace) (record_behind t p)
   unfolding record_behind
-  keeps_record p = keeps_bind (leads_list_end var_trace (λ vs. semicolon_fields_trace (vars_of vs)) (record { none = refl; more = λ v vs. refl }) _ _ keeps_var (λ vs. fields_trace (vars_of vs)) (λ v vs. refl)) (λ vs. pass_then _ (λ u. keeps_pure _ (search same_traces)))
+  keeps_record p = keeps_bind (leads_list_end var_trace (λ vs. semicolon_fields_trace (vars_of vs)) (record { none = refl; more = λ v vs. refl }) _ _ keeps_var
+      (λ vs. fields_trace (vars_of vs)) (λ v vs. refl)) (λ vs. pass_then _ (λ u. keeps_pure _ (search same_traces)))
 
   pub keeps_type_with : Whole type_trace (type_with t)
   unfolding type_with
-  keeps_type_with = keep_branch _ (λ x. keeps_pure _ refl) (keep_branch _ (λ u. keeps_channel u.1) (keep_branch _ (λ u. keeps_array u.1) (keep_branch _ (λ u. keeps_record u.1) keeps_stop)))
+  keeps_type_with = keep_branch _ (λ x. keeps_pure _ refl)
+      (keep_branch _ (λ u. keeps_channel u.1) (keep_branch _ (λ u. keeps_array u.1) (keep_branch _ (λ u. keeps_record u.1) keeps_stop)))
 
   keeps_type_item : (x : Text × Place) → Keeps (λ steps. here x.1 ∷ next ∷ steps) (Traced type_item_trace) (type_item_behind t x)
   unfolding type_item_behind
@@ -88,7 +95,11 @@ module _ {t : Reader TypeTree} (h : Whole type_trace t) where
 
   pub keeps_var_items : Whole (λ vs. vars_trace (vars_of vs)) (var_items t)
   unfolding var_items
-  keeps_var_items = keeps_some closed_var_trace (λ vs. vars_trace (vars_of vs)) (record { none = refl; more = λ v vs. search same_traces }) _ (keep_items keeps_var_item)
+  keeps_var_items = keeps_some closed_var_trace (λ vs. vars_trace (vars_of vs)) (record {
+    none = refl;
+    more =
+        λ v vs. search same_traces;
+  }) _ (keep_items keeps_var_item)
 
 abbrev const_item_trace : ConstItem → List Step
 const_item_trace i = here i.place ∷ next ∷ next ∷ constant_trace i.value ++ next ∷ []
@@ -111,10 +122,12 @@ keeps_group = pass_branch _ (λ t. keeps_group_behind true) (keeps_group_behind 
 
 pub keeps_formals : Whole formals_trace formals
 unfolding formals
-keeps_formals = pass_branch _ (λ t. list_then group_trace (behind_next group_trace) (record { none = refl; more = λ x xs. refl }) _ keeps_group _ (between_next group_trace) (λ x xs. refl) (λ x xs. pass_then _ (λ u. keeps_pure _ (closes x xs)))) (keeps_pure _ refl)
+keeps_formals = pass_branch _ (λ t. list_then group_trace (behind_next group_trace) (record { none = refl; more = λ x xs. refl }) _ keeps_group _
+    (between_next group_trace) (λ x xs. refl) (λ x xs. pass_then _ (λ u. keeps_pure _ (closes x xs)))) (keeps_pure _ refl)
   where
     closes : (x : GroupTree) (xs : List GroupTree) → next ∷ ((group_trace x ++ behind_next group_trace xs) ++ next ∷ []) ≡ formals_trace (x ∷ xs)
-    closes x xs = ap (λ z. next ∷ z) (append_assoc (group_trace x) (behind_next group_trace xs) (next ∷ []) ∙ ap (λ z. group_trace x ++ z) (closed group_trace semicolon_groups_trace refl (λ y ys. refl) xs))
+    closes x xs = ap (λ z. next ∷ z) (append_assoc (group_trace x) (behind_next group_trace xs) (next ∷ []) ∙
+        ap (λ z. group_trace x ++ z) (closed group_trace semicolon_groups_trace refl (λ y ys. refl) xs))
 
 -- Whatever the number of levels.
 pub keeps_type_at : (n : ℕ) → Whole type_trace (type_at n)

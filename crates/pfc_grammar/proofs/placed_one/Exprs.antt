@@ -28,21 +28,24 @@ fills_sign (Some s) = fills_here _ (fills_next (fills_done _))
 abbrev mutual
   pub fill_expr : ExprShape → Filler ExprTree
   fill_expr (shape.plain s) = fill_here (λ p. fill_last (fill_simple s) (λ s'. plain s' p))
-  fill_expr (shape.related s r t) = fill_here (λ p. fill_part (fill_simple s) (λ s'. fill_here (λ q. fill_next (fill_last (fill_simple t) (λ t'. related s' (r, q) t' p)))))
+  fill_expr (shape.related s r t) =
+      fill_here (λ p. fill_part (fill_simple s) (λ s'. fill_here (λ q. fill_next (fill_last (fill_simple t) (λ t'. related s' (r, q) t' p)))))
 
   pub fill_simple : SimpleShape → Filler SimpleTree
   fill_simple (shape.sum o t us) = fill_part (fill_sign o) (λ o'. fill_part (fill_term t) (λ t'. fill_last (fill_summands us) (λ us'. sum o' t' us')))
 
   pub fill_summands : SummandShapes → Filler SummandTrees
   fill_summands shape.no_summands = fill_done no_summands
-  fill_summands (shape.more_summands op t us) = fill_here (λ p. fill_next (fill_part (fill_term t) (λ t'. fill_last (fill_summands us) (λ us'. more_summands (op, p) t' us'))))
+  fill_summands (shape.more_summands op t us) =
+      fill_here (λ p. fill_next (fill_part (fill_term t) (λ t'. fill_last (fill_summands us) (λ us'. more_summands (op, p) t' us'))))
 
   pub fill_term : TermShape → Filler TermTree
   fill_term (shape.product f ms) = fill_part (fill_factor f) (λ f'. fill_last (fill_multipliers ms) (λ ms'. product f' ms'))
 
   pub fill_multipliers : MultiplierShapes → Filler MultiplierTrees
   fill_multipliers shape.no_multipliers = fill_done no_multipliers
-  fill_multipliers (shape.more_multipliers op f ms) = fill_here (λ p. fill_next (fill_part (fill_factor f) (λ f'. fill_last (fill_multipliers ms) (λ ms'. more_multipliers (op, p) f' ms'))))
+  fill_multipliers (shape.more_multipliers op f ms) =
+      fill_here (λ p. fill_next (fill_part (fill_factor f) (λ f'. fill_last (fill_multipliers ms) (λ ms'. more_multipliers (op, p) f' ms'))))
 
   pub fill_factor : FactorShape → Filler FactorTree
   fill_factor (shape.number n) = fill_here (λ p. fill_next (fill_done (number n p)))
@@ -80,7 +83,8 @@ abbrev mutual
 
   pub fill_comma_actuals : ActualShapes → Filler ActualTrees
   fill_comma_actuals shape.no_actuals = fill_next (fill_done no_actuals)
-  fill_comma_actuals (shape.more_actuals a args) = fill_next (fill_part (fill_actual a) (λ a'. fill_last (fill_comma_actuals args) (λ args'. more_actuals a' args')))
+  fill_comma_actuals (shape.more_actuals a args) =
+      fill_next (fill_part (fill_actual a) (λ a'. fill_last (fill_comma_actuals args) (λ args'. more_actuals a' args')))
 
 -- and that they make each tree from its shape
 mutual
@@ -89,7 +93,9 @@ mutual
   fills_expr (related s r t p) = fills_here _ (fills_part _ (fills_simple s) (fills_here _ (fills_next (fills_last _ (fills_simple t) refl))))
 
   pub fills_simple : (x : SimpleTree) → Fills (simple_trace x) (fill_simple (forget_simple x)) x
-  fills_simple (sum o t us) = fills_three (sign_trace o) (term_trace t) (summands_trace us) (fills_part _ (fills_sign o) (fills_part _ (fills_term t) (fills_last _ (fills_summands us) refl)))
+  fills_simple (sum o t us) =
+      fills_three (sign_trace o) (term_trace t) (summands_trace us)
+      (fills_part _ (fills_sign o) (fills_part _ (fills_term t) (fills_last _ (fills_summands us) refl)))
 
   pub fills_summands : (xs : SummandTrees) → Fills (summands_trace xs) (fill_summands (forget_summands xs)) xs
   fills_summands no_summands = fills_done _

@@ -67,7 +67,8 @@ fills_next {trace = trace} {c = c} {x = x} w = record { fills = go }
     go [] rest h = absurd h
     go (t ∷ ts) rest h = w.fills ts rest h
 
-pub fills_part : {A B : Type 0} {a b : List Step} {f : Filler A} (k : A → Filler B) {y : A} {x : B} → Fills a f y → Fills b (k y) x → Fills (a ++ b) (fill_part f k) x
+pub fills_part : {A B : Type 0} {a b : List Step} {f : Filler A} (k : A → Filler B) {y : A} {x : B} → Fills a f y →
+    Fills b (k y) x → Fills (a ++ b) (fill_part f k) x
 unfolding fill_part
 fills_part {a = a} {b = b} {f = f} k {x = x} v w = record { fills = λ ts rest h. at ts rest (split a b ts rest h) }
   where
@@ -88,7 +89,8 @@ fills_four a b d e w = fills_three (a ++ b) d e (fills_three a b (d ++ e) w)
 pub fills_five : {A : Type 0} (a b d e f : List Step) {c : Filler A} {x : A} → Fills (a ++ (b ++ (d ++ (e ++ f)))) c x → Fills ((((a ++ b) ++ d) ++ e) ++ f) c x
 fills_five a b d e f w = fills_four (a ++ b) d e f (fills_three a b (d ++ (e ++ f)) w)
 
-pub fills_six : {A : Type 0} (a b d e f g : List Step) {c : Filler A} {x : A} → Fills (a ++ (b ++ (d ++ (e ++ (f ++ g))))) c x → Fills (((((a ++ b) ++ d) ++ e) ++ f) ++ g) c x
+pub fills_six : {A : Type 0} (a b d e f g : List Step) {c : Filler A} {x : A} → Fills (a ++ (b ++ (d ++ (e ++ (f ++ g))))) c x →
+    Fills (((((a ++ b) ++ d) ++ e) ++ f) ++ g) c x
 fills_six a b d e f g w = fills_five (a ++ b) d e f g (fills_three a b (d ++ (e ++ (f ++ g))) w)
 
 -- a token that may stand, whose place is not kept

@@ -24,7 +24,8 @@ use Rattle.pfc_grammar.proofs.placed_one.Types.{fill_constant, fill_constants, f
 
 abbrev fill_replication : Option SpreadShape → Filler (Option Spread)
 fill_replication None = fill_done None
-fill_replication (Some r) = fill_next (fill_here (λ p. fill_next (fill_next (fill_part (fill_constant r.low) (λ low. fill_next (fill_part (fill_constant r.high) (λ high.
+fill_replication (Some r) =
+    fill_next (fill_here (λ p. fill_next (fill_next (fill_part (fill_constant r.low) (λ low. fill_next (fill_part (fill_constant r.high) (λ high.
     fill_next (fill_done (Some (record { name = r.name; low = low; high = high; place = p }))))))))))
 
 fills_replication : (x : Option Spread) → Fills (replication_trace x) (fill_replication (option_map forget_spread x)) x
@@ -55,20 +56,38 @@ abbrev mutual
   fill_stmt shape.null = fill_here (λ p. fill_next (fill_done (null p)))
   fill_stmt (shape.block b) = fill_here (λ p. fill_last (fill_body b) (λ b'. block b' p))
   fill_stmt (shape.if_then e s) = fill_here (λ p. fill_next (fill_part (fill_expr e) (λ e'. fill_next (fill_last (fill_stmt s) (λ s'. if_then e' s' p)))))
-  fill_stmt (shape.if_then_else e s t) = fill_here (λ p. fill_next (fill_part (fill_expr e) (λ e'. fill_next (fill_part (fill_stmt s) (λ s'. fill_next (fill_last (fill_stmt t) (λ t'. if_then_else e' s' t' p)))))))
-  fill_stmt (shape.case_of e arms b) = fill_here (λ p. fill_next (fill_part (fill_expr e) (λ e'. fill_next (fill_part (fill_arms arms) (λ arms'. fill_part (fill_flag b) (λ b'. fill_next (fill_done (case_of e' arms' b' p))))))))
+  fill_stmt (shape.if_then_else e s t) =
+      fill_here (λ p. fill_next
+      (fill_part (fill_expr e) (λ e'. fill_next (fill_part (fill_stmt s) (λ s'. fill_next (fill_last (fill_stmt t) (λ t'. if_then_else e' s' t' p)))))))
+  fill_stmt (shape.case_of e arms b) =
+      fill_here (λ p. fill_next
+      (fill_part (fill_expr e)
+      (λ e'. fill_next (fill_part (fill_arms arms) (λ arms'. fill_part (fill_flag b) (λ b'. fill_next (fill_done (case_of e' arms' b' p))))))))
   fill_stmt (shape.while_do e s) = fill_here (λ p. fill_next (fill_part (fill_expr e) (λ e'. fill_next (fill_last (fill_stmt s) (λ s'. while_do e' s' p)))))
-  fill_stmt (shape.repeat_until ss e) = fill_here (λ p. fill_next (fill_part (fill_stmts ss) (λ ss'. fill_next (fill_last (fill_expr e) (λ e'. repeat_until ss' e' p)))))
+  fill_stmt (shape.repeat_until ss e) =
+      fill_here (λ p. fill_next (fill_part (fill_stmts ss) (λ ss'. fill_next (fill_last (fill_expr e) (λ e'. repeat_until ss' e' p)))))
   fill_stmt (shape.repeat_forever ss) = fill_here (λ p. fill_next (fill_part (fill_stmts ss) (λ ss'. fill_next (fill_done (repeat_forever ss' p)))))
-  fill_stmt (shape.for_do x from down to s) = fill_here (λ first. fill_next (fill_here (λ p. fill_next (fill_next (fill_part (fill_expr from) (λ from'. fill_next (fill_part (fill_expr to) (λ to'. fill_next (fill_last (fill_stmt s) (λ s'. for_do x from' down to' s' first p))))))))))
+  fill_stmt (shape.for_do x from down to s) =
+      fill_here (λ first. fill_next
+      (fill_here (λ p. fill_next
+      (fill_next (fill_part (fill_expr from)
+      (λ from'. fill_next (fill_part (fill_expr to) (λ to'. fill_next (fill_last (fill_stmt s) (λ s'. for_do x from' down to' s' first p))))))))))
   fill_stmt (shape.cobegin ss) = fill_here (λ p. fill_next (fill_part (fill_stmts ss) (λ ss'. fill_here (λ last. fill_next (fill_done (cobegin ss' last p))))))
   fill_stmt (shape.accepting a) = fill_here (λ p. fill_next (fill_last (fill_accept a) (λ a'. accepting a' p)))
   fill_stmt (shape.requeue x args) = fill_here (λ p. fill_next (fill_here (λ q. fill_next (fill_last (fill_actuals args) (λ args'. requeue (x, q) args' p)))))
-  fill_stmt (shape.select pri alts) = fill_part (fill_pri pri) (λ first. fill_here (λ p. fill_next (fill_part (fill_alts alts) (λ alts'. fill_next (fill_done (select pri alts' first p))))))
-  fill_stmt (shape.select_else pri alts ss) = fill_part (fill_pri pri) (λ first. fill_here (λ p. fill_next (fill_part (fill_alts alts) (λ alts'. fill_here (λ other. fill_next (fill_part (fill_stmts ss) (λ ss'. fill_next (fill_done (select_else pri alts' ss' other first p)))))))))
-  fill_stmt (shape.assign d e) = fill_here (λ first. fill_part (fill_desig d) (λ d'. fill_here (λ p. fill_next (fill_last (fill_expr e) (λ e'. assign d' e' first p)))))
-  fill_stmt (shape.send d e) = fill_here (λ first. fill_part (fill_desig d) (λ d'. fill_here (λ p. fill_next (fill_last (fill_expr e) (λ e'. send d' e' first p)))))
-  fill_stmt (shape.receive d v) = fill_here (λ first. fill_part (fill_desig d) (λ d'. fill_here (λ p. fill_next (fill_last (fill_desig v) (λ v'. receive d' v' first p)))))
+  fill_stmt (shape.select pri alts) =
+      fill_part (fill_pri pri) (λ first. fill_here (λ p. fill_next (fill_part (fill_alts alts) (λ alts'. fill_next (fill_done (select pri alts' first p))))))
+  fill_stmt (shape.select_else pri alts ss) =
+      fill_part (fill_pri pri)
+      (λ first. fill_here (λ p. fill_next
+      (fill_part (fill_alts alts)
+      (λ alts'. fill_here (λ other. fill_next (fill_part (fill_stmts ss) (λ ss'. fill_next (fill_done (select_else pri alts' ss' other first p)))))))))
+  fill_stmt (shape.assign d e) =
+      fill_here (λ first. fill_part (fill_desig d) (λ d'. fill_here (λ p. fill_next (fill_last (fill_expr e) (λ e'. assign d' e' first p)))))
+  fill_stmt (shape.send d e) =
+      fill_here (λ first. fill_part (fill_desig d) (λ d'. fill_here (λ p. fill_next (fill_last (fill_expr e) (λ e'. send d' e' first p)))))
+  fill_stmt (shape.receive d v) =
+      fill_here (λ first. fill_part (fill_desig d) (λ d'. fill_here (λ p. fill_next (fill_last (fill_desig v) (λ v'. receive d' v' first p)))))
   fill_stmt (shape.call d args) = fill_here (λ p. fill_part (fill_desig d) (λ d'. fill_last (fill_actuals args) (λ args'. call d' args' p)))
 
   pub fill_stmts : StmtShapes → Filler StmtTrees
@@ -80,7 +99,8 @@ abbrev mutual
   fill_semicolon_stmts (shape.more_stmts s ss) = fill_next (fill_part (fill_stmt s) (λ s'. fill_last (fill_semicolon_stmts ss) (λ ss'. more_stmts s' ss')))
 
   pub fill_body : BodyShape → Filler BodyTree
-  fill_body (shape.body ss) = fill_here (λ first. fill_next (fill_part (fill_stmts ss) (λ ss'. fill_here (λ last. fill_next (fill_done (body ss' first last))))))
+  fill_body (shape.body ss) =
+      fill_here (λ first. fill_next (fill_part (fill_stmts ss) (λ ss'. fill_here (λ last. fill_next (fill_done (body ss' first last))))))
 
   fill_arm : ArmShape → Filler ArmTree
   fill_arm (shape.arm cs s) = fill_part (fill_constants cs) (λ cs'. fill_next (fill_last (fill_stmt s) (λ s'. arm cs' s')))
@@ -95,10 +115,13 @@ abbrev mutual
 
   fill_accept : AcceptShape → Filler AcceptTree
   fill_accept (shape.accept x gs) = fill_here (λ p. fill_next (fill_last (fill_formals gs) (λ gs'. accept x gs' p)))
-  fill_accept (shape.accept_do x gs s) = fill_here (λ p. fill_next (fill_part (fill_formals gs) (λ gs'. fill_next (fill_last (fill_stmt s) (λ s'. accept_do x gs' s' p)))))
+  fill_accept (shape.accept_do x gs s) =
+      fill_here (λ p. fill_next (fill_part (fill_formals gs) (λ gs'. fill_next (fill_last (fill_stmt s) (λ s'. accept_do x gs' s' p)))))
 
   fill_alt : AltShape → Filler AltTree
-  fill_alt (shape.alt r g c ss) = fill_part (fill_replication r) (λ r'. fill_part (fill_guard g) (λ g'. fill_part (fill_comm c) (λ c'. fill_last (fill_semicolon_stmts ss) (λ ss'. alt r' g' c' ss'))))
+  fill_alt (shape.alt r g c ss) =
+      fill_part (fill_replication r)
+      (λ r'. fill_part (fill_guard g) (λ g'. fill_part (fill_comm c) (λ c'. fill_last (fill_semicolon_stmts ss) (λ ss'. alt r' g' c' ss'))))
 
   fill_alts : AltShapes → Filler AltTrees
   fill_alts shape.no_alts = fill_done no_alts
@@ -121,17 +144,27 @@ mutual
   fills_stmt (null p) = fills_here _ (fills_next (fills_done _))
   fills_stmt (block b p) = fills_here _ (fills_last _ (fills_body b) refl)
   fills_stmt (if_then e s p) = fills_here _ (fills_next (fills_part _ (fills_expr e) (fills_next (fills_last _ (fills_stmt s) refl))))
-  fills_stmt (if_then_else e s t p) = fills_here _ (fills_next (fills_three (expr_trace e) (next ∷ stmt_trace s) (next ∷ stmt_trace t) (fills_part _ (fills_expr e) (fills_next (fills_part _ (fills_stmt s) (fills_next (fills_last _ (fills_stmt t) refl)))))))
-  fills_stmt (case_of e arms b p) = fills_here _ (fills_next (fills_four (expr_trace e) (next ∷ arms_trace arms) (flag_trace b) (next ∷ []) (fills_part _ (fills_expr e) (fills_next (fills_part _ (fills_arms arms) (fills_part _ (fills_flag b) (fills_next (fills_done _))))))))
+  fills_stmt (if_then_else e s t p) =
+      fills_here _ (fills_next (fills_three (expr_trace e) (next ∷ stmt_trace s) (next ∷ stmt_trace t)
+      (fills_part _ (fills_expr e) (fills_next (fills_part _ (fills_stmt s) (fills_next (fills_last _ (fills_stmt t) refl)))))))
+  fills_stmt (case_of e arms b p) =
+      fills_here _ (fills_next (fills_four (expr_trace e) (next ∷ arms_trace arms) (flag_trace b) (next ∷ [])
+      (fills_part _ (fills_expr e) (fills_next (fills_part _ (fills_arms arms) (fills_part _ (fills_flag b) (fills_next (fills_done _))))))))
   fills_stmt (while_do e s p) = fills_here _ (fills_next (fills_part _ (fills_expr e) (fills_next (fills_last _ (fills_stmt s) refl))))
   fills_stmt (repeat_until ss e p) = fills_here _ (fills_next (fills_part _ (fills_stmts ss) (fills_next (fills_last _ (fills_expr e) refl))))
   fills_stmt (repeat_forever ss p) = fills_here _ (fills_next (fills_part _ (fills_stmts ss) (fills_next (fills_done _))))
-  fills_stmt (for_do x from down to s first p) = fills_here _ (fills_next (fills_here _ (fills_next (fills_next (fills_three (expr_trace from) (next ∷ expr_trace to) (next ∷ stmt_trace s) (fills_part _ (fills_expr from) (fills_next (fills_part _ (fills_expr to) (fills_next (fills_last _ (fills_stmt s) refl))))))))))
+  fills_stmt (for_do x from down to s first p) =
+      fills_here _ (fills_next
+      (fills_here _ (fills_next (fills_next (fills_three (expr_trace from) (next ∷ expr_trace to) (next ∷ stmt_trace s)
+      (fills_part _ (fills_expr from) (fills_next (fills_part _ (fills_expr to) (fills_next (fills_last _ (fills_stmt s) refl))))))))))
   fills_stmt (cobegin ss last p) = fills_here _ (fills_next (fills_part _ (fills_stmts ss) (fills_here _ (fills_next (fills_done _)))))
   fills_stmt (accepting a p) = fills_here _ (fills_next (fills_last _ (fills_accept a) refl))
   fills_stmt (requeue x args p) = fills_here _ (fills_next (fills_here _ (fills_next (fills_last _ (fills_actuals args) refl))))
-  fills_stmt (select pri alts first p) = fills_three (pri_trace pri first) (here p ∷ next ∷ alts_trace alts) (next ∷ []) (fills_part _ (fills_pri pri first) (fills_here _ (fills_next (fills_part _ (fills_alts alts) (fills_next (fills_done _))))))
-  fills_stmt (select_else pri alts ss other first p) = fills_four (pri_trace pri first) (here p ∷ next ∷ alts_trace alts) (here other ∷ next ∷ stmts_trace ss) (next ∷ []) (fills_part _ (fills_pri pri first) (fills_here _ (fills_next (fills_part _ (fills_alts alts) (fills_here _ (fills_next (fills_part _ (fills_stmts ss) (fills_next (fills_done _)))))))))
+  fills_stmt (select pri alts first p) = fills_three (pri_trace pri first) (here p ∷ next ∷ alts_trace alts) (next ∷ [])
+      (fills_part _ (fills_pri pri first) (fills_here _ (fills_next (fills_part _ (fills_alts alts) (fills_next (fills_done _))))))
+  fills_stmt (select_else pri alts ss other first p) = fills_four (pri_trace pri first) (here p ∷ next ∷ alts_trace alts) (here other ∷ next ∷ stmts_trace ss)
+      (next ∷ []) (fills_part _ (fills_pri pri first)
+      (fills_here _ (fills_next (fills_part _ (fills_alts alts) (fills_here _ (fills_next (fills_part _ (fills_stmts ss) (fills_next (fills_done _)))))))))
   fills_stmt (assign d e first p) = fills_here _ (fills_part _ (fills_desig d) (fills_here _ (fills_next (fills_last _ (fills_expr e) refl))))
   fills_stmt (send d e first p) = fills_here _ (fills_part _ (fills_desig d) (fills_here _ (fills_next (fills_last _ (fills_expr e) refl))))
   fills_stmt (receive d v first p) = fills_here _ (fills_part _ (fills_desig d) (fills_here _ (fills_next (fills_last _ (fills_desig v) refl))))
@@ -164,7 +197,8 @@ mutual
   fills_accept (accept_do x gs s p) = fills_here _ (fills_next (fills_part _ (fills_formals gs) (fills_next (fills_last _ (fills_stmt s) refl))))
 
   fills_alt : (x : AltTree) → Fills (alt_trace x) (fill_alt (forget_alt x)) x
-  fills_alt (alt r g c ss) = fills_four (replication_trace r) (guard_trace g) (comm_trace c) (semicolon_stmts_trace ss) (fills_part _ (fills_replication r) (fills_part _ (fills_guard g) (fills_part _ (fills_comm c) (fills_last _ (fills_semicolon_stmts ss) refl))))
+  fills_alt (alt r g c ss) = fills_four (replication_trace r) (guard_trace g) (comm_trace c) (semicolon_stmts_trace ss)
+      (fills_part _ (fills_replication r) (fills_part _ (fills_guard g) (fills_part _ (fills_comm c) (fills_last _ (fills_semicolon_stmts ss) refl))))
 
   fills_alts : (xs : AltTrees) → Fills (alts_trace xs) (fill_alts (forget_alts xs)) xs
   fills_alts no_alts = fills_done _

@@ -87,8 +87,10 @@ abbrev mutual
   pub fill_type : TypeShape → Filler TypeTree
   fill_type (shape.named x) = fill_here (λ p. fill_next (fill_done (named x p)))
   fill_type (shape.channel t) = fill_here (λ p. fill_next (fill_next (fill_last (fill_type t) (λ t'. channel t' p))))
-  fill_type (shape.array rs t) = fill_here (λ p. fill_next (fill_next (fill_part (fill_ranges rs) (λ rs'. fill_next (fill_next (fill_last (fill_type t) (λ t'. array rs' t' p)))))))
-  fill_type (shape.fields vs b) = fill_here (λ p. fill_next (fill_part (fill_fields vs) (λ vs'. fill_part (fill_flag b) (λ b'. fill_next (fill_done (fields vs' b' p))))))
+  fill_type (shape.array rs t) =
+      fill_here (λ p. fill_next (fill_next (fill_part (fill_ranges rs) (λ rs'. fill_next (fill_next (fill_last (fill_type t) (λ t'. array rs' t' p)))))))
+  fill_type (shape.fields vs b) =
+      fill_here (λ p. fill_next (fill_part (fill_fields vs) (λ vs'. fill_part (fill_flag b) (λ b'. fill_next (fill_done (fields vs' b' p))))))
 
   pub fill_var : VarShape → Filler VarTree
   fill_var (shape.var_item xs t) = fill_part (fill_names xs) (λ xs'. fill_next (fill_last (fill_type t) (λ t'. var_item xs' t')))
@@ -105,8 +107,11 @@ mutual
   pub fills_type : (x : TypeTree) → Fills (type_trace x) (fill_type (forget_type x)) x
   fills_type (named x p) = fills_here _ (fills_next (fills_done _))
   fills_type (channel t p) = fills_here _ (fills_next (fills_next (fills_last _ (fills_type t) refl)))
-  fills_type (array rs t p) = fills_here _ (fills_next (fills_next (fills_part _ (fills_ranges rs) (fills_next (fills_next (fills_last _ (fills_type t) refl))))))
-  fills_type (fields vs b p) = fills_here _ (fills_next (fills_three (fields_trace vs) (flag_trace b) (next ∷ []) (fills_part _ (fills_fields vs) (fills_part _ (fills_flag b) (fills_next (fills_done _))))))
+  fills_type (array rs t p) =
+      fills_here _ (fills_next (fills_next (fills_part _ (fills_ranges rs) (fills_next (fills_next (fills_last _ (fills_type t) refl))))))
+  fills_type (fields vs b p) =
+      fills_here _ (fills_next (fills_three (fields_trace vs) (flag_trace b) (next ∷ [])
+      (fills_part _ (fills_fields vs) (fills_part _ (fills_flag b) (fills_next (fills_done _))))))
 
   pub fills_var : (x : VarTree) → Fills (var_trace x) (fill_var (forget_var x)) x
   fills_var (var_item xs t) = fills_part _ (fills_names xs) (fills_next (fills_last _ (fills_type t) refl))
@@ -129,25 +134,34 @@ fills_vars (more_vars v vs) = fills_part _ (fills_var v) (fills_next (fills_last
 
 abbrev pub fill_const_items : List ConstItemShape → Filler (List ConstItem)
 fill_const_items [] = fill_done []
-fill_const_items (i ∷ is) = fill_here (λ p. fill_next (fill_next (fill_part (fill_constant i.value) (λ value. fill_next (fill_last (fill_const_items is) (λ is'. record { name = i.name; value = value; place = p } ∷ is'))))))
+fill_const_items (i ∷ is) =
+    fill_here (λ p. fill_next
+    (fill_next (fill_part (fill_constant i.value)
+    (λ value. fill_next (fill_last (fill_const_items is) (λ is'. record { name = i.name; value = value; place = p } ∷ is'))))))
 
 pub fills_const_items : (xs : List ConstItem) → Fills (const_items_trace xs) (fill_const_items (map forget_const_item xs)) xs
 fills_const_items [] = fills_done _
-fills_const_items (i ∷ is) = fills_here _ (fills_next (fills_next (fills_part _ (fills_constant i.value) (fills_next (fills_last _ (fills_const_items is) refl)))))
+fills_const_items (i ∷ is) =
+    fills_here _ (fills_next (fills_next (fills_part _ (fills_constant i.value) (fills_next (fills_last _ (fills_const_items is) refl)))))
 
 abbrev pub fill_type_items : List TypeItemShape → Filler (List TypeItemTree)
 fill_type_items [] = fill_done []
-fill_type_items (i ∷ is) = fill_here (λ p. fill_next (fill_next (fill_part (fill_type i.form) (λ form. fill_next (fill_last (fill_type_items is) (λ is'. record { name = i.name; form = form; place = p } ∷ is'))))))
+fill_type_items (i ∷ is) =
+    fill_here (λ p. fill_next
+    (fill_next (fill_part (fill_type i.form)
+    (λ form. fill_next (fill_last (fill_type_items is) (λ is'. record { name = i.name; form = form; place = p } ∷ is'))))))
 
 pub fills_type_items : (xs : List TypeItemTree) → Fills (type_items_trace xs) (fill_type_items (map forget_type_item xs)) xs
 fills_type_items [] = fills_done _
 fills_type_items (i ∷ is) = fills_here _ (fills_next (fills_next (fills_part _ (fills_type i.form) (fills_next (fills_last _ (fills_type_items is) refl)))))
 
 abbrev fill_group : GroupShape → Filler GroupTree
-fill_group g = fill_part (fill_flag g.reference) (λ b. fill_part (fill_names g.names) (λ xs. fill_next (fill_here (λ p. fill_next (fill_done (record { reference = b; names = xs; form = (g.form, p) }))))))
+fill_group g = fill_part (fill_flag g.reference)
+    (λ b. fill_part (fill_names g.names) (λ xs. fill_next (fill_here (λ p. fill_next (fill_done (record { reference = b; names = xs; form = (g.form, p) }))))))
 
 fills_group : (x : GroupTree) → Fills (group_trace x) (fill_group (forget_group x)) x
-fills_group g = fills_three (flag_trace g.reference) (names_trace g.names) (next ∷ here g.form.1 ∷ next ∷ []) (fills_part _ (fills_flag g.reference) (fills_part _ (fills_names g.names) (fills_next (fills_here _ (fills_next (fills_done _))))))
+fills_group g = fills_three (flag_trace g.reference) (names_trace g.names) (next ∷ here g.form.1 ∷ next ∷ [])
+    (fills_part _ (fills_flag g.reference) (fills_part _ (fills_names g.names) (fills_next (fills_here _ (fills_next (fills_done _))))))
 
 abbrev fill_semicolon_groups : List GroupShape → Filler (List GroupTree)
 fill_semicolon_groups [] = fill_next (fill_done [])

@@ -59,13 +59,17 @@ selectors_lawful [] l = tt
 selectors_lawful (s ∷ ss) l = (l.0, selectors_lawful ss l.1)
 
 -- with the sign that closes them
-comma_actuals_written : (args : List ActualShape) → comma_actuals_tokens (actuals_of args) ≡ flat (λ a. Sign COMMA ∷ actual_tokens a) args ++ (Sign CLOSE_PAREN ∷ [])
+comma_actuals_written : (args : List ActualShape) →
+    comma_actuals_tokens (actuals_of args) ≡ flat (λ a. Sign COMMA ∷ actual_tokens a) args ++ (Sign CLOSE_PAREN ∷ [])
 comma_actuals_written [] = refl
-comma_actuals_written (a ∷ args) = ap (λ z. (Sign COMMA ∷ actual_tokens a) ++ z) (comma_actuals_written args) ∙ sym (append_assoc (Sign COMMA ∷ actual_tokens a) (flat (λ a'. Sign COMMA ∷ actual_tokens a') args) (Sign CLOSE_PAREN ∷ []))
+comma_actuals_written (a ∷ args) = ap (λ z. (Sign COMMA ∷ actual_tokens a) ++ z) (comma_actuals_written args) ∙
+    sym (append_assoc (Sign COMMA ∷ actual_tokens a) (flat (λ a'. Sign COMMA ∷ actual_tokens a') args) (Sign CLOSE_PAREN ∷ []))
 
-actuals_written : (args : List ActualShape) → Filled IsLawfulActual args → actuals_tokens (actuals_of args) ≡ Sign OPEN_PAREN ∷ (separated (Sign COMMA) actual_tokens args ++ (Sign CLOSE_PAREN ∷ []))
+actuals_written : (args : List ActualShape) → Filled IsLawfulActual args →
+    actuals_tokens (actuals_of args) ≡ Sign OPEN_PAREN ∷ (separated (Sign COMMA) actual_tokens args ++ (Sign CLOSE_PAREN ∷ []))
 actuals_written [] l = absurd l
-actuals_written (a ∷ args) l = ap (λ z. Sign OPEN_PAREN ∷ (actual_tokens a ++ z)) (comma_actuals_written args) ∙ ap (λ z. Sign OPEN_PAREN ∷ z) (sym (append_assoc (actual_tokens a) (flat (λ a'. Sign COMMA ∷ actual_tokens a') args) (Sign CLOSE_PAREN ∷ [])))
+actuals_written (a ∷ args) l = ap (λ z. Sign OPEN_PAREN ∷ (actual_tokens a ++ z)) (comma_actuals_written args) ∙
+    ap (λ z. Sign OPEN_PAREN ∷ z) (sym (append_assoc (actual_tokens a) (flat (λ a'. Sign COMMA ∷ actual_tokens a') args) (Sign CLOSE_PAREN ∷ [])))
 
 actuals_lawful : (args : List ActualShape) → Each IsLawfulActual args → AreLawfulActuals (actuals_of args)
 actuals_lawful [] l = tt
@@ -108,7 +112,8 @@ is_or x s = is_word OR s
 not_or : (s : Symbol) → is_some (as_add_op s) ≡ false → is_word OR s ≡ false
 not_or (Word n) e = at (nat_eq n OR) e
   where
-    at : (b : Bool) → is_some (elim b as (λ z. Option AddOp) [ true ↦ Some Or | false ↦ None ]) ≡ false → takes (elim b as (λ z. Option (Unit {0})) [ true ↦ Some tt | false ↦ None ]) ≡ false
+    at : (b : Bool) → is_some (elim b as (λ z. Option AddOp) [ true ↦ Some Or | false ↦ None ]) ≡ false →
+        takes (elim b as (λ z. Option (Unit {0})) [ true ↦ Some tt | false ↦ None ]) ≡ false
     at true q = q
     at false q = refl
 not_or (Sign n) e = refl
@@ -121,12 +126,16 @@ module _ (e : Reader ExprShape) (he : Sound expr_tokens IsLawfulExpr is_or none 
   sound_selector : (b : Bool) → Sound selector_tokens IsLawfulSelector free none (λ k. selector_symbol b ∷ k) (selector_behind e b)
   unfolding selector_behind
   sound_selector true = sound_bind (sound_separated (Sign COMMA) (as_sign COMMA) he (sign_is COMMA)) (λ es l. sound_sign CLOSE_BRACKET (λ u.
-      sound_pure (index (exprs_of es)) (ap (λ z. Sign OPEN_BRACKET ∷ (z ++ (Sign CLOSE_BRACKET ∷ []))) (exprs_written es)) (indices_lawful es (chain_filled (Sign COMMA) is_or IsLawfulExpr es l)) (λ s q. refl)))
+      sound_pure (index (exprs_of es)) (ap (λ z. Sign OPEN_BRACKET ∷ (z ++ (Sign CLOSE_BRACKET ∷ []))) (exprs_written es))
+      (indices_lawful es (chain_filled (Sign COMMA) is_or IsLawfulExpr es l)) (λ s q. refl)))
   sound_selector false = sound_name (λ x. sound_pure (field x) refl tt (λ s q. refl))
 
   pub sound_desig_behind : (x : Text) → Sound desig_tokens IsLawfulDesig free none (λ k. Name x ∷ k) (desig_behind e x)
   unfolding desig_behind
-  sound_desig_behind x = sound_last (λ ss. desig x (selectors_of ss)) (sound_each (λ s o q. subst (λ z. Sound selector_tokens IsLawfulSelector free none (λ k. z ∷ k) (selector_behind e o)) (sym (selector_is s o q)) (sound_selector o)))
+  sound_desig_behind x =
+      sound_last (λ ss. desig x (selectors_of ss))
+      (sound_each (λ s o q. subst (λ z. Sound selector_tokens IsLawfulSelector free none (λ k. z ∷ k) (selector_behind e o))
+      (sym (selector_is s o q)) (sound_selector o)))
       (λ ss l. ap (λ z. Name x ∷ z) (selectors_written ss)) selectors_lawful (λ ss l s q. refl)
 
   pub sound_desig : Sound desig_tokens IsLawfulDesig free none here (desig_with e)
@@ -135,12 +144,15 @@ module _ (e : Reader ExprShape) (he : Sound expr_tokens IsLawfulExpr is_or none 
 
   sound_actual : Sound actual_tokens IsLawfulActual free none here (actual_with e)
   unfolding actual_with
-  sound_actual = sound_bind he (λ v l. sound_on_sign COLON (λ u n. sound_last (λ w. actual_width v w) he (λ w m. refl) (λ w m. (l, m)) (λ w m s q. refl)) (sound_pure (actual v) (sym (append-nil (expr_tokens v))) l (λ s q. refl)))
+  sound_actual = sound_bind he (λ v l. sound_on_sign COLON (λ u n. sound_last (λ w. actual_width v w) he (λ w m. refl) (λ w m. (l, m)) (λ w m s q. refl))
+      (sound_pure (actual v) (sym (append-nil (expr_tokens v))) l (λ s q. refl)))
 
   pub sound_actuals : {t : Symbol → Bool} → Sound actuals_tokens AreLawfulActuals free t here (actuals_with e)
   unfolding actuals_with
-  sound_actuals = sound_on_sign OPEN_PAREN (λ t n. sound_bind (sound_separated (Sign COMMA) (as_sign COMMA) sound_actual (sign_is COMMA)) (λ args l. sound_sign CLOSE_PAREN (λ u.
-      sound_pure (actuals_of args) (actuals_written args (chain_filled (Sign COMMA) free IsLawfulActual args l)) (filled_actuals_lawful args (chain_filled (Sign COMMA) free IsLawfulActual args l)) (λ s q. refl))))
+  sound_actuals = sound_on_sign OPEN_PAREN (λ t n. sound_bind (sound_separated (Sign COMMA) (as_sign COMMA) sound_actual (sign_is COMMA))
+      (λ args l. sound_sign CLOSE_PAREN (λ u.
+      sound_pure (actuals_of args) (actuals_written args (chain_filled (Sign COMMA) free IsLawfulActual args l))
+      (filled_actuals_lawful args (chain_filled (Sign COMMA) free IsLawfulActual args l)) (λ s q. refl))))
       (sound_pure no_actuals refl tt (λ s q. refl))
 
   sound_paren : Sound factor_tokens IsLawfulFactor free none (λ k. Sign OPEN_PAREN ∷ k) (paren_behind e)
@@ -149,7 +161,8 @@ module _ (e : Reader ExprShape) (he : Sound expr_tokens IsLawfulExpr is_or none 
 
   sound_applied : (x : Text) → Sound factor_tokens IsLawfulFactor free none (λ k. Name x ∷ k) (applied_behind e x)
   unfolding applied_behind
-  sound_applied x = sound_bind_behind (Name x) here (sound_desig_behind x) (λ d l. sound_last (λ args. applied d args) sound_actuals (λ args m. refl) (λ args m. (l, m)) (λ args m s q. refl))
+  sound_applied x = sound_bind_behind (Name x) here (sound_desig_behind x) (λ d l. sound_last (λ args. applied d args) sound_actuals (λ args m. refl)
+      (λ args m. (l, m)) (λ args m s q. refl))
 
   pub sound_plain_factor : {t : Symbol → Bool} → Sound factor_tokens IsLawfulFactor free t here (plain_factor e)
   unfolding plain_factor
@@ -168,18 +181,22 @@ module _ (f : Reader FactorShape) (hf : Sound factor_tokens IsLawfulFactor free 
   sound_term : {t : Symbol → Bool} → Sound term_tokens IsLawfulTerm free t here (term_with f)
   unfolding term_with
   sound_term = sound_bind hf (λ x l. sound_last (λ ms. product x (multipliers_of ms))
-      (sound_each (λ s o q. subst (λ z. Sound multiplier_tokens (λ m. IsLawfulFactor m.1) free none (λ k. z ∷ k) (multiplier_behind f o)) (sym (mul_op_is s o q)) (sound_multiplier o)))
+      (sound_each (λ s o q. subst (λ z. Sound multiplier_tokens (λ m. IsLawfulFactor m.1) free none (λ k. z ∷ k) (multiplier_behind f o))
+      (sym (mul_op_is s o q)) (sound_multiplier o)))
       (λ ms m. ap (λ z. factor_tokens x ++ z) (multipliers_written ms)) (λ ms m. (l, multipliers_lawful ms m)) (λ ms m s q. refl))
 
   sound_summand : (op : AddOp) → Sound summand_tokens (λ u. IsLawfulTerm u.1) free none (λ k. add_symbol op ∷ k) (summand_behind f op)
   unfolding summand_behind
   sound_summand op = sound_last (λ x. (op, x)) sound_term (λ x l. refl) (λ x l. l) (λ x l s q. refl)
 
-  sound_simple_behind : {t : Symbol → Bool} (sign : Option plus_or_minus.Sign) → Sound simple_tokens IsLawfulSimple is_or t (λ k. sign_tokens sign ++ k) (simple_behind f sign)
+  sound_simple_behind : {t : Symbol → Bool} (sign : Option plus_or_minus.Sign) →
+      Sound simple_tokens IsLawfulSimple is_or t (λ k. sign_tokens sign ++ k) (simple_behind f sign)
   unfolding simple_behind
   sound_simple_behind sign = sound_bind sound_term (λ x l. sound_last (λ us. sum sign x (summands_of us))
-      (sound_each (λ s o q. subst (λ z. Sound summand_tokens (λ u. IsLawfulTerm u.1) free none (λ k. z ∷ k) (summand_behind f o)) (sym (add_op_is s o q)) (sound_summand o)))
-      (λ us m. append_assoc (sign_tokens sign) (term_tokens x) (summands_tokens (summands_of us)) ∙ ap (λ z. sign_tokens sign ++ (term_tokens x ++ z)) (summands_written us)) (λ us m. (l, summands_lawful us m)) (λ us m s q. not_or s (or-right _ _ q)))
+      (sound_each (λ s o q. subst (λ z. Sound summand_tokens (λ u. IsLawfulTerm u.1) free none (λ k. z ∷ k) (summand_behind f o))
+      (sym (add_op_is s o q)) (sound_summand o)))
+      (λ us m. append_assoc (sign_tokens sign) (term_tokens x) (summands_tokens (summands_of us)) ∙
+      ap (λ z. sign_tokens sign ++ (term_tokens x ++ z)) (summands_written us)) (λ us m. (l, summands_lawful us m)) (λ us m s q. not_or s (or-right _ _ q)))
 
   sound_simple : {t : Symbol → Bool} → Sound simple_tokens IsLawfulSimple is_or t here (simple_with f)
   unfolding simple_with
@@ -187,10 +204,12 @@ module _ (f : Reader FactorShape) (hf : Sound factor_tokens IsLawfulFactor free 
 
   pub sound_expr_with : {t : Symbol → Bool} → Sound expr_tokens IsLawfulExpr is_or t here (expr_with f)
   unfolding expr_with
-  sound_expr_with = sound_bind sound_simple (λ x l. sound_on relation_symbol relation_is (λ r n. sound_last (λ y. related x r y) sound_simple (λ y m. refl) (λ y m. (l, m)) (λ y m s q. q))
+  sound_expr_with = sound_bind sound_simple (λ x l. sound_on relation_symbol relation_is (λ r n. sound_last (λ y. related x r y) sound_simple
+      (λ y m. refl) (λ y m. (l, m)) (λ y m s q. q))
       (sound_pure (plain x) (sym (append-nil (simple_tokens x))) l (λ s q. or-left _ _ q)))
 
-  pub sound_factor_with : (e : Reader ExprShape) → Sound expr_tokens IsLawfulExpr is_or none here e → {t : Symbol → Bool} → Sound factor_tokens IsLawfulFactor free t here (factor_with f e)
+  pub sound_factor_with : (e : Reader ExprShape) → Sound expr_tokens IsLawfulExpr is_or none here e → {t : Symbol → Bool} →
+      Sound factor_tokens IsLawfulFactor free t here (factor_with f e)
   unfolding factor_with
   sound_factor_with e he = sound_on_word NOT (λ u n. sound_last (λ x. negation x) hf (λ x l. refl) (λ x l. l) (λ x l s q. refl)) (sound_plain_factor e he)
 
@@ -216,10 +235,22 @@ begun_not : (s : Symbol) → is_word NOT s ≡ true → Goes factor_tokens IsLaw
 begun_not s e = record { whole = negation (literal []); more = Literal [] ∷ []; lawful = tt; writes = ap (λ z. z ∷ (Literal [] ∷ [])) (sym (word_was NOT s e)) }
 
 begun_paren : (s : Symbol) (o : Unit {0}) → as_sign OPEN_PAREN s ≡ Some o → Goes factor_tokens IsLawfulFactor (λ k. s ∷ k)
-begun_paren s o e = record { whole = paren (expr_of (literal [])); more = Literal [] ∷ Sign CLOSE_PAREN ∷ []; lawful = ((tt, tt), tt); writes = ap (λ z. z ∷ (Literal [] ∷ Sign CLOSE_PAREN ∷ [])) (sym (sign_is OPEN_PAREN s o e)) }
+begun_paren s o e = record {
+  whole = paren (expr_of (literal []));
+  more = Literal [] ∷ Sign CLOSE_PAREN ∷ [];
+  lawful = ((tt, tt), tt);
+  writes =
+      ap (λ z. z ∷ (Literal [] ∷ Sign CLOSE_PAREN ∷ [])) (sym (sign_is OPEN_PAREN s o e));
+}
 
 begun_applied : (s : Symbol) (x : Text) → as_name s ≡ Some x → Goes factor_tokens IsLawfulFactor (λ k. s ∷ k)
-begun_applied s x e = record { whole = applied (desig x no_selectors) no_actuals; more = []; lawful = (tt, tt); writes = ap (λ z. z ∷ []) (sym (name_is s x e)) }
+begun_applied s x e = record {
+  whole = applied (desig x no_selectors) no_actuals;
+  more = [];
+  lawful = (tt, tt);
+  writes =
+      ap (λ z. z ∷ []) (sym (name_is s x e));
+}
 
 begun_factor : (s : Symbol) → begins_factor s ≡ true → Goes factor_tokens IsLawfulFactor (λ k. s ∷ k)
 begun_factor s e = four (or_cases _ _ e)
@@ -232,16 +263,23 @@ begun_factor s e = four (or_cases _ _ e)
     two (inl h) = one (or_cases _ _ h)
     two (inr h) = begun_not s h
 
-    three : ((takes (as_number s) || takes (as_literal s) || is_word NOT s) ≡ true) ⊎ (takes (as_sign OPEN_PAREN s) ≡ true) → Goes factor_tokens IsLawfulFactor (λ k. s ∷ k)
+    three : ((takes (as_number s) || takes (as_literal s) || is_word NOT s) ≡ true) ⊎ (takes (as_sign OPEN_PAREN s) ≡ true) →
+        Goes factor_tokens IsLawfulFactor (λ k. s ∷ k)
     three (inl h) = two (or_cases _ _ h)
     three (inr h) = begun_paren s (taken (as_sign OPEN_PAREN s) h).0 (taken (as_sign OPEN_PAREN s) h).1
 
-    four : ((takes (as_number s) || takes (as_literal s) || is_word NOT s || takes (as_sign OPEN_PAREN s)) ≡ true) ⊎ (takes (as_name s) ≡ true) → Goes factor_tokens IsLawfulFactor (λ k. s ∷ k)
+    four : ((takes (as_number s) || takes (as_literal s) || is_word NOT s || takes (as_sign OPEN_PAREN s)) ≡ true) ⊎ (takes (as_name s) ≡ true) →
+        Goes factor_tokens IsLawfulFactor (λ k. s ∷ k)
     four (inl h) = three (or_cases _ _ h)
     four (inr h) = begun_applied s (taken (as_name s) h).0 (taken (as_name s) h).1
 
 begun_signed : (s : Symbol) (o : plus_or_minus.Sign) → as_plus_minus s ≡ Some o → Goes expr_tokens IsLawfulExpr (λ k. s ∷ k)
-begun_signed s o e = record { whole = plain (sum (Some o) (product (literal []) no_multipliers) no_summands); more = Literal [] ∷ []; lawful = ((tt, tt), tt); writes = ap (λ z. z ∷ (Literal [] ∷ [])) (sym (plus_minus_is s o e)) }
+begun_signed s o e = record {
+  whole = plain (sum (Some o) (product (literal []) no_multipliers) no_summands);
+  more = Literal [] ∷ [];
+  lawful = ((tt, tt), tt);
+  writes = ap (λ z. z ∷ (Literal [] ∷ [])) (sym (plus_minus_is s o e));
+}
 
 pub begun_expr : (s : Symbol) → begins_expr s ≡ true → Goes expr_tokens IsLawfulExpr (λ k. s ∷ k)
 begun_expr s e = at (or_cases _ _ e)

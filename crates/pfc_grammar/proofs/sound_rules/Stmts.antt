@@ -73,7 +73,8 @@ at_or false false q = refl
 
 -- behind an `if` without `else`
 if_behind_set : (i e : Bool) (s : Symbol) → (behind i e s || is_some (as_word ELSE s)) ≡ false → behind true e s ≡ false
-if_behind_set i e s q = or-both (is_word ELSE s) (e && is_word OR s) (sym (some_takes (as_word ELSE s)) ∙ or-right (behind i e s) (is_some (as_word ELSE s)) q) (or-right (i && is_word ELSE s) (e && is_word OR s) (or-left (behind i e s) (is_some (as_word ELSE s)) q))
+if_behind_set i e s q = or-both (is_word ELSE s) (e && is_word OR s) (sym (some_takes (as_word ELSE s)) ∙ or-right (behind i e s) (is_some (as_word ELSE s)) q)
+    (or-right (i && is_word ELSE s) (e && is_word OR s) (or-left (behind i e s) (is_some (as_word ELSE s)) q))
 
 -- What lists of shapes write, and when they are lawful.
 semicolon_stmts_written : (ss : List StmtShape) → semicolon_stmts_tokens (stmts_of ss) ≡ flat (λ s. Sign SEMICOLON ∷ stmt_tokens s) ss
@@ -169,17 +170,26 @@ sound_accept_head = sound_name (λ x. sound_last (λ gs. (x, gs)) sound_formals 
 
 sound_labels : Sound label_tokens (λ cs. IsFilled cs × AreLawfulConstants cs) free none here labels
 unfolding labels
-sound_labels = sound_bind (sound_separated (Sign COMMA) (as_sign COMMA) sound_constant (sign_is COMMA)) (λ cs l. sound_sign COLON (λ u. sound_pure cs (ap (λ z. z ++ (Sign COLON ∷ [])) (constants_written cs))
-    (filled IsLawfulConstant cs (chain_filled (Sign COMMA) free IsLawfulConstant cs l), constants_lawful cs (chain_filled (Sign COMMA) free IsLawfulConstant cs l)) (λ s q. refl)))
+sound_labels = sound_bind (sound_separated (Sign COMMA) (as_sign COMMA) sound_constant (sign_is COMMA))
+    (λ cs l. sound_sign COLON (λ u. sound_pure cs (ap (λ z. z ++ (Sign COLON ∷ [])) (constants_written cs)) (
+      filled IsLawfulConstant cs (chain_filled (Sign COMMA) free IsLawfulConstant cs l),
+      constants_lawful cs
+          (chain_filled (Sign COMMA) free IsLawfulConstant cs l),
+    ) (λ s q. refl)))
 
 sound_spread : Sound spread_tokens (λ r. IsLawfulConstant r.low × IsLawfulConstant r.high) free none (λ k. Word FOR ∷ k) spread_behind
 unfolding spread_behind
-sound_spread = sound_name (λ x. sound_sign BECOMES (λ u. sound_bind sound_constant (λ low l. sound_word TO (λ v. sound_bind sound_constant (λ high m. sound_word REPLICATE (λ w. sound_pure (record { name = x; low = low; high = high })
-    (ap (λ z. Word FOR ∷ Name x ∷ Sign BECOMES ∷ z) (append_assoc (constant_tokens low) (Word TO ∷ constant_tokens high) (Word REPLICATE ∷ []))) (l, m) (λ s q. refl)))))))
+sound_spread = sound_name
+    (λ x. sound_sign BECOMES
+    (λ u. sound_bind sound_constant
+    (λ low l. sound_word TO (λ v. sound_bind sound_constant (λ high m. sound_word REPLICATE (λ w. sound_pure (record { name = x; low = low; high = high })
+    (ap (λ z. Word FOR ∷ Name x ∷ Sign BECOMES ∷ z) (append_assoc (constant_tokens low) (Word TO ∷ constant_tokens high) (Word REPLICATE ∷ []))) (l, m)
+    (λ s q. refl)))))))
 
 sound_replication : {t : Symbol → Bool} → Sound replication_tokens IsLawfulSpread free t here replication
 unfolding replication
-sound_replication = sound_on_word FOR (λ u n. sound_bind_behind (Word FOR) here sound_spread (λ r l. sound_pure (Some r) (sym (append-nil (spread_tokens r))) l (λ s q. refl))) (sound_pure None refl tt (λ s q. refl))
+sound_replication = sound_on_word FOR (λ u n. sound_bind_behind (Word FOR) here sound_spread (λ r l. sound_pure (Some r) (sym (append-nil (spread_tokens r))) l
+    (λ s q. refl))) (sound_pure None refl tt (λ s q. refl))
 
 abbrev alt_head_tokens : Option SpreadShape × Option ExprShape → List Symbol
 alt_head_tokens h = replication_tokens h.0 ++ guard_tokens h.1
@@ -200,12 +210,15 @@ module _ (e : Reader ExprShape) (he : Sound expr_tokens IsLawfulExpr is_or none 
 
   sound_for_head : Sound for_head_tokens (λ h. IsLawfulExpr h.1 × IsLawfulExpr h.3) free none here (for_head e)
   unfolding for_head
-  sound_for_head = sound_name (λ x. sound_sign BECOMES (λ u. sound_bind he (λ a l. sound_next direction_symbol direction_is true (λ d. sound_bind he (λ b m. sound_word DO (λ v. sound_pure (x, a, d, b)
+  sound_for_head = sound_name
+      (λ x. sound_sign BECOMES
+      (λ u. sound_bind he (λ a l. sound_next direction_symbol direction_is true (λ d. sound_bind he (λ b m. sound_word DO (λ v. sound_pure (x, a, d, b)
       (ap (λ z. Name x ∷ Sign BECOMES ∷ z) (append_assoc (expr_tokens a) (direction_symbol d ∷ expr_tokens b) (Word DO ∷ []))) (l, m) (λ s q. refl)))))))
 
   sound_guard : {t : Symbol → Bool} → Sound guard_tokens IsLawfulGuard free t here (guard e)
   unfolding guard
-  sound_guard = sound_on_word WHEN (λ u n. sound_bind he (λ x l. sound_sign ARROW (λ v. sound_pure (Some x) refl l (λ s q. refl)))) (sound_pure None refl tt (λ s q. refl))
+  sound_guard = sound_on_word WHEN (λ u n. sound_bind he (λ x l. sound_sign ARROW (λ v. sound_pure (Some x) refl l (λ s q. refl))))
+      (sound_pure None refl tt (λ s q. refl))
 
   sound_alt_head : {t : Symbol → Bool} → Sound alt_head_tokens (λ h. IsLawfulSpread h.0 × IsLawfulGuard h.1) free t here (alt_head e)
   unfolding alt_head
@@ -217,19 +230,28 @@ module _ (e : Reader ExprShape) (he : Sound expr_tokens IsLawfulExpr is_or none 
 
   sound_action : (x : Text) → Sound stmt_tokens IsLawfulStmt stmt_behind none (λ k. Name x ∷ k) (action_behind e x)
   unfolding action_behind
-  sound_action x = sound_bind_behind (Name x) here (sound_desig_behind e he x) (λ d l. sound_on_sign BECOMES (λ u n. sound_last (λ v. assign d v) he (λ v m. refl) (λ v m. (l, m)) (λ v m s q. q))
+  sound_action x = sound_bind_behind (Name x) here (sound_desig_behind e he x)
+      (λ d l. sound_on_sign BECOMES (λ u n. sound_last (λ v. assign d v) he (λ v m. refl) (λ v m. (l, m)) (λ v m s q. q))
       (sound_on_sign SEND (λ u n. sound_last (λ v. send d v) he (λ v m. refl) (λ v m. (l, m)) (λ v m s q. q))
       (sound_on_sign RECEIVE (λ u n. sound_last (λ v. receive d v) (sound_desig e he) (λ v m. refl) (λ v m. (l, m)) (λ v m s q. refl))
       (sound_last (λ args. call d args) (sound_actuals e he) (λ args m. refl) (λ args m. (l, m)) (λ args m s q. refl)))))
 
   sound_comm_behind : (x : Text) → Sound comm_tokens (λ c. IsReplicable c × IsLawfulComm c) comm_tail none (λ k. Name x ∷ k) (comm_behind e x)
   unfolding comm_behind
-  sound_comm_behind x = sound_bind_behind (Name x) here (sound_desig_behind e he x) (λ d l. sound_on_sign SEND (λ u n. sound_last (λ v. comm_send d v) he (λ v m. refl) (λ v m. (tt, (l, m))) (λ v m s q. q))
+  sound_comm_behind x =
+      sound_bind_behind (Name x) here (sound_desig_behind e he x)
+      (λ d l. sound_on_sign SEND (λ u n. sound_last (λ v. comm_send d v) he (λ v m. refl) (λ v m. (tt, (l, m))) (λ v m s q. q))
       (sound_sign RECEIVE (λ u. sound_last (λ v. comm_receive d v) (sound_desig e he) (λ v m. refl) (λ v m. (tt, (l, m))) (λ v m s q. refl))))
 
   sound_message : {t : Symbol → Bool} → Sound comm_tokens (λ c. IsReplicable c × IsLawfulComm c) comm_tail t here (message e)
   unfolding message
-  sound_message = sound_on Name name_is (λ x n. sound_comm_behind x) (sound_stop (record { whole = comm_accept (accept [] []); more = Word ACCEPT ∷ Name [] ∷ []; lawful = (tt, tt); writes = refl }))
+  sound_message = sound_on Name name_is (λ x n. sound_comm_behind x) (sound_stop (record {
+    whole = comm_accept (accept [] []);
+    more =
+        Word ACCEPT ∷ Name [] ∷ [];
+    lawful = (tt, tt);
+    writes = refl;
+  }))
 
   sound_message_or_wait : {t : Symbol → Bool} → Sound comm_tokens IsLawfulComm comm_tail t here (message_or_wait e)
   unfolding message_or_wait
@@ -249,7 +271,9 @@ module _ (e : Reader ExprShape) (he : Sound expr_tokens IsLawfulExpr is_or none 
 
     sound_body_behind : Sound body_tokens IsLawfulBody free none (λ k. Word BEGIN ∷ k) (body_behind s)
     unfolding body_behind
-    sound_body_behind = sound_bind sound_stmts (λ ss l. sound_word END (λ u. sound_pure (body (stmts_of ss)) (ap (λ z. Word BEGIN ∷ (z ++ (Word END ∷ []))) (stmts_written ss)) (stmts_lawful ss l) (λ v q. refl)))
+    sound_body_behind = sound_bind sound_stmts
+        (λ ss l. sound_word END (λ u. sound_pure (body (stmts_of ss)) (ap (λ z. Word BEGIN ∷ (z ++ (Word END ∷ [])))
+        (stmts_written ss)) (stmts_lawful ss l) (λ v q. refl)))
 
     pub sound_body : {t : Symbol → Bool} → Sound body_tokens IsLawfulBody free t here (body_with s)
     unfolding body_with
@@ -258,94 +282,127 @@ module _ (e : Reader ExprShape) (he : Sound expr_tokens IsLawfulExpr is_or none 
     sound_if : Sound stmt_tokens IsLawfulStmt stmt_behind none (λ k. Word IF ∷ k) (if_behind e s)
     unfolding if_behind
     sound_if = sound_bind (sound_test THEN) (λ c l. sound_bind hs (λ x m. sound_on_word ELSE
-        (λ u n. sound_last (λ y. if_then_else c x y) hs (λ y p. ap (λ z. Word IF ∷ z) (shift (expr_tokens c) (Word THEN) (stmt_tokens x) (Word ELSE ∷ stmt_tokens y))) (λ y p. (l, m, at_else (ends_in_if x) (ends_in_expr x) n, p)) (λ y p v q. q))
-        (sound_pure (if_then c x) (ap (λ z. Word IF ∷ z) (sym (append-nil (expr_tokens c ++ (Word THEN ∷ stmt_tokens x))) ∙ shift (expr_tokens c) (Word THEN) (stmt_tokens x) [])) (l, m) (λ v q. if_behind_set (ends_in_if x) (ends_in_expr x) v q))))
+        (λ u n. sound_last (λ y. if_then_else c x y) hs (λ y p. ap (λ z. Word IF ∷ z) (shift (expr_tokens c) (Word THEN) (stmt_tokens x)
+        (Word ELSE ∷ stmt_tokens y))) (λ y p. (l, m, at_else (ends_in_if x) (ends_in_expr x) n, p)) (λ y p v q. q))
+        (sound_pure (if_then c x) (ap (λ z. Word IF ∷ z) (sym (append-nil (expr_tokens c ++ (Word THEN ∷ stmt_tokens x))) ∙
+        shift (expr_tokens c) (Word THEN) (stmt_tokens x) [])) (l, m) (λ v q. if_behind_set (ends_in_if x) (ends_in_expr x) v q))))
 
     sound_arm : Sound arm_tokens IsLawfulArm free none here (arm_with s)
     unfolding arm_with
-    sound_arm = sound_bind sound_labels (λ cs l. sound_last (λ x. arm cs x) hs (λ x m. sym (append_assoc (constants_tokens cs) (Sign COLON ∷ []) (stmt_tokens x))) (λ x m. (l.0, l.1, m)) (λ x m v q. refl))
+    sound_arm = sound_bind sound_labels
+        (λ cs l. sound_last (λ x. arm cs x) hs (λ x m. sym (append_assoc (constants_tokens cs) (Sign COLON ∷ []) (stmt_tokens x)))
+        (λ x m. (l.0, l.1, m)) (λ x m v q. refl))
 
     sound_case : Sound stmt_tokens IsLawfulStmt stmt_behind none (λ k. Word CASE ∷ k) (case_behind e s)
     unfolding case_behind
-    sound_case = sound_bind (sound_test OF) (λ c l. sound_bind (sound_ended (Sign SEMICOLON) (as_sign SEMICOLON) (is_word END) sound_arm (sign_is SEMICOLON)) (λ p m. sound_word END (λ u. sound_pure (case_of c (arms_of p.0) p.1)
+    sound_case = sound_bind (sound_test OF) (λ c l. sound_bind (sound_ended (Sign SEMICOLON) (as_sign SEMICOLON) (is_word END) sound_arm (sign_is SEMICOLON))
+        (λ p m. sound_word END (λ u. sound_pure (case_of c (arms_of p.0) p.1)
         (case_written c p.0 p.1) (l, filled_arms p.0 m) (λ v q. refl))))
       where
         last_is : (b : Bool) → last_tokens b ≡ last_of (Sign SEMICOLON) b
         last_is true = refl
         last_is false = refl
 
-        case_written : (c : ExprShape) (arms : List ArmShape) (b : Bool) → stmt_tokens (case_of c (arms_of arms) b) ≡ Word CASE ∷ ((expr_tokens c ++ (Word OF ∷ [])) ++ ((separated (Sign SEMICOLON) arm_tokens arms ++ last_of (Sign SEMICOLON) b) ++ (Word END ∷ [])))
+        case_written : (c : ExprShape) (arms : List ArmShape) (b : Bool) →
+            stmt_tokens (case_of c (arms_of arms) b) ≡ Word CASE ∷
+            ((expr_tokens c ++ (Word OF ∷ [])) ++ ((separated (Sign SEMICOLON) arm_tokens arms ++ last_of (Sign SEMICOLON) b) ++ (Word END ∷ [])))
         case_written c arms b = ap (λ z. Word CASE ∷ (((expr_tokens c ++ (Word OF ∷ z)) ++ last_tokens b) ++ (Word END ∷ []))) (arms_written arms)
             ∙ ap (λ z. Word CASE ∷ (((expr_tokens c ++ (Word OF ∷ separated (Sign SEMICOLON) arm_tokens arms)) ++ z) ++ (Word END ∷ []))) (last_is b)
-            ∙ ap (λ z. Word CASE ∷ (z ++ (Word END ∷ []))) (shift (expr_tokens c) (Word OF) (separated (Sign SEMICOLON) arm_tokens arms) (last_of (Sign SEMICOLON) b))
-            ∙ ap (λ z. Word CASE ∷ z) (append_assoc (expr_tokens c ++ (Word OF ∷ [])) (separated (Sign SEMICOLON) arm_tokens arms ++ last_of (Sign SEMICOLON) b) (Word END ∷ []))
+            ∙ ap (λ z. Word CASE ∷ (z ++ (Word END ∷ [])))
+            (shift (expr_tokens c) (Word OF) (separated (Sign SEMICOLON) arm_tokens arms) (last_of (Sign SEMICOLON) b))
+            ∙ ap (λ z. Word CASE ∷ z) (append_assoc (expr_tokens c ++ (Word OF ∷ []))
+            (separated (Sign SEMICOLON) arm_tokens arms ++ last_of (Sign SEMICOLON) b) (Word END ∷ []))
 
     sound_while_do : Sound stmt_tokens IsLawfulStmt stmt_behind none (λ k. Word WHILE ∷ k) (while_behind e s)
     unfolding while_behind
-    sound_while_do = sound_bind (sound_test DO) (λ c l. sound_last (λ x. while_do c x) hs (λ x m. ap (λ z. Word WHILE ∷ z) (sym (append_assoc (expr_tokens c) (Word DO ∷ []) (stmt_tokens x)))) (λ x m. (l, m)) (λ x m v q. q))
+    sound_while_do = sound_bind (sound_test DO) (λ c l. sound_last (λ x. while_do c x) hs
+        (λ x m. ap (λ z. Word WHILE ∷ z) (sym (append_assoc (expr_tokens c) (Word DO ∷ []) (stmt_tokens x)))) (λ x m. (l, m)) (λ x m v q. q))
 
     sound_repeat : Sound stmt_tokens IsLawfulStmt stmt_behind none (λ k. Word REPEAT ∷ k) (repeat_behind e s)
     unfolding repeat_behind
     sound_repeat = sound_bind sound_stmts (λ ss l. sound_on_word UNTIL
-        (λ u n. sound_last (λ c. repeat_until (stmts_of ss) c) he (λ c m. ap (λ z. Word REPEAT ∷ (z ++ (Word UNTIL ∷ expr_tokens c))) (stmts_written ss)) (λ c m. (stmts_lawful ss l, m)) (λ c m v q. q))
-        (sound_word FOREVER (λ u. sound_pure (repeat_forever (stmts_of ss)) (ap (λ z. Word REPEAT ∷ (z ++ (Word FOREVER ∷ []))) (stmts_written ss)) (stmts_lawful ss l) (λ v q. refl))))
+        (λ u n. sound_last (λ c. repeat_until (stmts_of ss) c) he (λ c m. ap (λ z. Word REPEAT ∷ (z ++ (Word UNTIL ∷ expr_tokens c))) (stmts_written ss))
+        (λ c m. (stmts_lawful ss l, m)) (λ c m v q. q))
+        (sound_word FOREVER (λ u. sound_pure (repeat_forever (stmts_of ss)) (ap (λ z. Word REPEAT ∷ (z ++ (Word FOREVER ∷ [])))
+        (stmts_written ss)) (stmts_lawful ss l) (λ v q. refl))))
 
     sound_for : Sound stmt_tokens IsLawfulStmt stmt_behind none (λ k. Word FOR ∷ k) (for_behind e s)
     unfolding for_behind
     sound_for = sound_bind sound_for_head (λ h l. sound_last (λ x. for_do h.0 h.1 h.2 h.3 x) hs
-        (λ x m. ap (λ z. Word FOR ∷ Name h.0 ∷ Sign BECOMES ∷ z) (sym (append_assoc (expr_tokens h.1 ++ (direction_symbol h.2 ∷ expr_tokens h.3)) (Word DO ∷ []) (stmt_tokens x)))) (λ x m. (l.0, l.1, m)) (λ x m v q. q))
+        (λ x m. ap (λ z. Word FOR ∷ Name h.0 ∷ Sign BECOMES ∷ z) (sym (append_assoc (expr_tokens h.1 ++ (direction_symbol h.2 ∷ expr_tokens h.3)) (Word DO ∷ [])
+        (stmt_tokens x)))) (λ x m. (l.0, l.1, m)) (λ x m v q. q))
 
     sound_cobegin : Sound stmt_tokens IsLawfulStmt stmt_behind none (λ k. Word COBEGIN ∷ k) (cobegin_behind s)
     unfolding cobegin_behind
-    sound_cobegin = sound_bind sound_stmts (λ ss l. sound_word COEND (λ u. sound_pure (cobegin (stmts_of ss)) (ap (λ z. Word COBEGIN ∷ (z ++ (Word COEND ∷ []))) (stmts_written ss)) (stmts_lawful ss l) (λ v q. refl)))
+    sound_cobegin = sound_bind sound_stmts
+        (λ ss l. sound_word COEND (λ u. sound_pure (cobegin (stmts_of ss)) (ap (λ z. Word COBEGIN ∷ (z ++ (Word COEND ∷ [])))
+        (stmts_written ss)) (stmts_lawful ss l) (λ v q. refl)))
 
     sound_accept : Sound accept_tokens IsLawfulAccept accept_tail none here (accept_behind s)
     unfolding accept_behind
-    sound_accept = sound_bind sound_accept_head (λ h l. sound_on_word DO (λ u n. sound_last (λ x. accept_do h.0 h.1 x) hs (λ x m. refl) (λ x m. (l, m)) (λ x m v q. q))
+    sound_accept = sound_bind sound_accept_head
+        (λ h l. sound_on_word DO (λ u n. sound_last (λ x. accept_do h.0 h.1 x) hs (λ x m. refl) (λ x m. (l, m)) (λ x m v q. q))
         (sound_pure (accept h.0 h.1) (ap (λ z. Name h.0 ∷ z) (sym (append-nil (formals_tokens h.1)))) l (λ v q. refl)))
 
     sound_comm : {t : Symbol → Bool} (r : Option SpreadShape) → Sound comm_tokens (IsLawfulBehind r) comm_tail t here (comm_with e s (is_some r))
     unfolding comm_with
-    sound_comm r = sound_on_word ACCEPT (λ u n. sound_last (λ a. comm_accept a) sound_accept (λ a m. refl) (λ a m. (accept_behind_any r a, m)) (λ a m v q. q)) (sound_comm_plain r)
+    sound_comm r = sound_on_word ACCEPT (λ u n. sound_last (λ a. comm_accept a) sound_accept (λ a m. refl) (λ a m. (accept_behind_any r a, m)) (λ a m v q. q))
+        (sound_comm_plain r)
 
     -- the statements behind what an alternative waits for
     abbrev alt_rest : CommShape → List StmtShape → Symbol → Bool
     alt_rest c ss = behind (last_ends_in_if (comm_ends_in_if c) (stmts_of ss)) (last_ends_in_expr (comm_ends_in_expr c) (stmts_of ss))
 
-    sound_alt_rest : (c : CommShape) → Sound (flat (λ x. Sign SEMICOLON ∷ stmt_tokens x)) (Each IsLawfulStmt) (alt_rest c) (comm_tail c) here (many (as_sign SEMICOLON) (λ t. s))
+    sound_alt_rest : (c : CommShape) → Sound (flat (λ x. Sign SEMICOLON ∷ stmt_tokens x)) (Each IsLawfulStmt) (alt_rest c)
+        (comm_tail c) here (many (as_sign SEMICOLON) (λ t. s))
     unfolding many
     sound_alt_rest c = sound_less (λ ss l. l) (λ ss v q. or-left _ _ q)
-        (sound_many_onto (flat (λ x. Sign SEMICOLON ∷ stmt_tokens x)) (Each IsLawfulStmt) (alt_rest c) (λ x. Sign SEMICOLON ∷ stmt_tokens x) IsLawfulStmt stmt_behind (as_sign SEMICOLON) (λ t. s)
-        (λ v o q. subst (λ z. Sound (λ x. Sign SEMICOLON ∷ stmt_tokens x) IsLawfulStmt stmt_behind none (λ k. z ∷ k) s) (sym (sign_is SEMICOLON v o q)) (sound_behind (Sign SEMICOLON) hs))
+        (sound_many_onto (flat (λ x. Sign SEMICOLON ∷ stmt_tokens x)) (Each IsLawfulStmt) (alt_rest c)
+        (λ x. Sign SEMICOLON ∷ stmt_tokens x) IsLawfulStmt stmt_behind (as_sign SEMICOLON) (λ t. s)
+        (λ v o q. subst (λ z. Sound (λ x. Sign SEMICOLON ∷ stmt_tokens x) IsLawfulStmt stmt_behind none (λ k. z ∷ k) s)
+        (sym (sign_is SEMICOLON v o q)) (sound_behind (Sign SEMICOLON) hs))
         (λ xs i x. flat-snoc (λ x. Sign SEMICOLON ∷ stmt_tokens x) xs x) (λ xs i v o b q x l. each-snoc IsLawfulStmt xs x i l)
-        (λ xs x v q. ap (λ z. behind z (last_ends_in_expr (comm_ends_in_expr c) (stmts_of (xs ++ x ∷ []))) v) (last_if-snoc (comm_ends_in_if c) xs x) ∙ ap (λ z. behind (ends_in_if x) z v) (last_expr-snoc (comm_ends_in_expr c) xs x) ∙ q) [] tt)
+        (λ xs x v q. ap (λ z. behind z (last_ends_in_expr (comm_ends_in_expr c) (stmts_of (xs ++ x ∷ []))) v) (last_if-snoc (comm_ends_in_if c) xs x) ∙
+        ap (λ z. behind (ends_in_if x) z v) (last_expr-snoc (comm_ends_in_expr c) xs x) ∙ q) [] tt)
 
     sound_alt : Sound alt_tokens IsLawfulAlt alt_tail none here (alt_with e s)
     unfolding alt_with
-    sound_alt = sound_bind sound_alt_head (λ h l. sound_bind (sound_comm h.0) (λ c m. sound_bind_at (sound_alt_rest c) (λ ss n. sound_pure (alt h.0 h.1 c (stmts_of ss))
-        (append_assoc (alt_head_tokens h) (comm_tokens c) (semicolon_stmts_tokens (stmts_of ss)) ∙ ap (λ z. alt_head_tokens h ++ (comm_tokens c ++ z)) (semicolon_stmts_written ss ∙ sym (append-nil (flat (λ x. Sign SEMICOLON ∷ stmt_tokens x) ss)))) (l.0, l.1, m.0, m.1, each_stmt ss n) (λ v q. q))))
+    sound_alt = sound_bind sound_alt_head
+        (λ h l. sound_bind (sound_comm h.0) (λ c m. sound_bind_at (sound_alt_rest c) (λ ss n. sound_pure (alt h.0 h.1 c (stmts_of ss))
+        (append_assoc (alt_head_tokens h) (comm_tokens c) (semicolon_stmts_tokens (stmts_of ss)) ∙
+        ap (λ z. alt_head_tokens h ++ (comm_tokens c ++ z)) (semicolon_stmts_written ss ∙ sym (append-nil (flat (λ x. Sign SEMICOLON ∷ stmt_tokens x) ss))))
+        (l.0, l.1, m.0, m.1, each_stmt ss n) (λ v q. q))))
 
     sound_select : (pri : Bool) → Sound stmt_tokens IsLawfulStmt stmt_behind none (λ k. pri_tokens pri ++ (Word SELECT ∷ k)) (select_behind e s pri)
     unfolding select_behind
     sound_select pri = sound_bind (sound_separated (Word OR) (as_word OR) sound_alt (word_is OR)) (λ alts l. sound_on_word ELSE
-        (λ u n. sound_bind sound_stmts (λ ss m. sound_word END (λ v. sound_pure (select_else pri (alts_of alts) (stmts_of ss)) (else_written alts ss) (alts_lawful alts l, else_behind alts (or-left (behind_last alt_tail alts (Word ELSE)) false n), stmts_lawful ss m) (λ v q. refl))))
-        (sound_word END (λ u. sound_pure (select pri (alts_of alts)) (append_assoc (pri_tokens pri) (Word SELECT ∷ alts_tokens (alts_of alts)) (Word END ∷ []) ∙ ap (λ z. pri_tokens pri ++ (Word SELECT ∷ (z ++ (Word END ∷ [])))) (alts_written alts)) (alts_lawful alts l) (λ v q. refl))))
+        (λ u n. sound_bind sound_stmts (λ ss m. sound_word END (λ v. sound_pure (select_else pri (alts_of alts) (stmts_of ss)) (else_written alts ss)
+        (alts_lawful alts l, else_behind alts (or-left (behind_last alt_tail alts (Word ELSE)) false n), stmts_lawful ss m) (λ v q. refl))))
+        (sound_word END (λ u. sound_pure (select pri (alts_of alts)) (append_assoc (pri_tokens pri) (Word SELECT ∷ alts_tokens (alts_of alts)) (Word END ∷ []) ∙
+        ap (λ z. pri_tokens pri ++ (Word SELECT ∷ (z ++ (Word END ∷ [])))) (alts_written alts)) (alts_lawful alts l) (λ v q. refl))))
       where
-        else_written : (alts : List AltShape) (ss : List StmtShape) → stmt_tokens (select_else pri (alts_of alts) (stmts_of ss)) ≡ pri_tokens pri ++ (Word SELECT ∷ (separated (Word OR) alt_tokens alts ++ (Word ELSE ∷ (separated (Sign SEMICOLON) stmt_tokens ss ++ (Word END ∷ [])))))
-        else_written alts ss = append_assoc (pri_tokens pri ++ (Word SELECT ∷ alts_tokens (alts_of alts))) (Word ELSE ∷ stmts_tokens (stmts_of ss)) (Word END ∷ [])
+        else_written : (alts : List AltShape) (ss : List StmtShape) → stmt_tokens (select_else pri (alts_of alts) (stmts_of ss)) ≡ pri_tokens pri ++
+            (Word SELECT ∷ (separated (Word OR) alt_tokens alts ++ (Word ELSE ∷ (separated (Sign SEMICOLON) stmt_tokens ss ++ (Word END ∷ [])))))
+        else_written alts ss = append_assoc (pri_tokens pri ++ (Word SELECT ∷ alts_tokens (alts_of alts)))
+            (Word ELSE ∷ stmts_tokens (stmts_of ss)) (Word END ∷ [])
             ∙ append_assoc (pri_tokens pri) (Word SELECT ∷ alts_tokens (alts_of alts)) (Word ELSE ∷ (stmts_tokens (stmts_of ss) ++ (Word END ∷ [])))
             ∙ ap (λ z. pri_tokens pri ++ (Word SELECT ∷ (z ++ (Word ELSE ∷ (stmts_tokens (stmts_of ss) ++ (Word END ∷ [])))))) (alts_written alts)
             ∙ ap (λ z. pri_tokens pri ++ (Word SELECT ∷ (separated (Word OR) alt_tokens alts ++ (Word ELSE ∷ (z ++ (Word END ∷ [])))))) (stmts_written ss)
 
     sound_second : {t : Symbol → Bool} → Sound stmt_tokens IsLawfulStmt stmt_behind t here (stmt_second e s)
     unfolding stmt_second
-    sound_second = sound_on_word COBEGIN (λ u n. sound_cobegin) (sound_on_word ACCEPT (λ u n. sound_last (λ a. accepting a) sound_accept (λ a m. refl) (λ a m. m) (λ a m v q. q)) (sound_on_word REQUEUE (λ u n. sound_requeue)
-        (sound_on_word PRI (λ u n. sound_word SELECT (λ v. sound_select true)) (sound_on_word SELECT (λ u n. sound_select false) (sound_on Name name_is (λ x n. sound_action x) (sound_pure empty refl tt (λ v q. refl)))))))
+    sound_second = sound_on_word COBEGIN (λ u n. sound_cobegin) (sound_on_word ACCEPT (λ u n. sound_last (λ a. accepting a) sound_accept (λ a m. refl)
+        (λ a m. m) (λ a m v q. q)) (sound_on_word REQUEUE (λ u n. sound_requeue)
+        (sound_on_word PRI (λ u n. sound_word SELECT (λ v. sound_select true)) (sound_on_word SELECT (λ u n. sound_select false)
+        (sound_on Name name_is (λ x n. sound_action x) (sound_pure empty refl tt (λ v q. refl)))))))
 
     pub sound_stmt_with : {t : Symbol → Bool} → Sound stmt_tokens IsLawfulStmt stmt_behind t here (stmt_with e s)
     unfolding stmt_with
-    sound_stmt_with = sound_on_word NULL (λ u n. sound_pure null refl tt (λ v q. refl)) (sound_on_word BEGIN (λ u n. sound_bind_behind (Word BEGIN) here sound_body_behind (λ b l. sound_pure (block b) (sym (append-nil (body_tokens b))) l (λ v q. refl)))
-        (sound_on_word IF (λ u n. sound_if) (sound_on_word CASE (λ u n. sound_case) (sound_on_word WHILE (λ u n. sound_while_do) (sound_on_word REPEAT (λ u n. sound_repeat) (sound_on_word FOR (λ u n. sound_for) sound_second))))))
+    sound_stmt_with = sound_on_word NULL (λ u n. sound_pure null refl tt (λ v q. refl))
+        (sound_on_word BEGIN (λ u n. sound_bind_behind (Word BEGIN) here sound_body_behind
+        (λ b l. sound_pure (block b) (sym (append-nil (body_tokens b))) l (λ v q. refl)))
+        (sound_on_word IF (λ u n. sound_if) (sound_on_word CASE (λ u n. sound_case) (sound_on_word WHILE (λ u n. sound_while_do)
+        (sound_on_word REPEAT (λ u n. sound_repeat) (sound_on_word FOR (λ u n. sound_for) sound_second))))))
 
 -- Each symbol that begins a statement does begin a lawful one.
 abbrev Begun : Symbol → Type 0
@@ -368,15 +425,24 @@ abbrev ending : AltShapes
 ending = more_alts (alt None None terminate no_stmts) no_alts
 
 begun_stmt : (s : Symbol) → begins_stmt s ≡ true → Begun s
-begun_stmt s = or_else _ _ (or_else _ _ (or_else _ _ (or_else _ _ (or_else _ _ (or_else _ _ (or_else _ _ (or_else _ _ (or_else _ _ (or_else _ _ (or_else _ _ (or_else _ _
-    (λ h. record { whole = call (desig (taken (as_name s) h).0 no_selectors) no_actuals; more = []; lawful = (tt, tt); writes = ap (λ z. z ∷ []) (sym (name_is s (taken (as_name s) h).0 (taken (as_name s) h).1)) })
+begun_stmt s = or_else _ _
+    (or_else _ _ (or_else _ _ (or_else _ _ (or_else _ _ (or_else _ _ (or_else _ _ (or_else _ _ (or_else _ _ (or_else _ _ (or_else _ _ (or_else _ _
+    (λ h. record {
+      whole = call (desig (taken (as_name s) h).0 no_selectors) no_actuals;
+      more = [];
+      lawful = (tt, tt);
+      writes =
+          ap (λ z. z ∷ []) (sym (name_is s (taken (as_name s) h).0 (taken (as_name s) h).1));
+    })
     (begun_by NULL s null [] tt refl))
     (begun_by BEGIN s (block (body nothing)) (Word END ∷ []) (tt, tt) refl))
     (begun_by IF s (if_then one empty) (Literal [] ∷ Word THEN ∷ []) (lawful_one, tt) refl))
-    (begun_by CASE s (case_of one (more_arms (arm (type_shape.literal [] ∷ []) empty) no_arms) false) (Literal [] ∷ Word OF ∷ Literal [] ∷ Sign COLON ∷ Word END ∷ []) (lawful_one, ((tt, (tt, tt), tt), tt)) refl))
+    (begun_by CASE s (case_of one (more_arms (arm (type_shape.literal [] ∷ []) empty) no_arms) false)
+    (Literal [] ∷ Word OF ∷ Literal [] ∷ Sign COLON ∷ Word END ∷ []) (lawful_one, ((tt, (tt, tt), tt), tt)) refl))
     (begun_by WHILE s (while_do one empty) (Literal [] ∷ Word DO ∷ []) (lawful_one, tt) refl))
     (begun_by REPEAT s (repeat_forever nothing) (Word FOREVER ∷ []) (tt, tt) refl))
-    (begun_by FOR s (for_do [] one false one empty) (Name [] ∷ Sign BECOMES ∷ Literal [] ∷ Word TO ∷ Literal [] ∷ Word DO ∷ []) (lawful_one, lawful_one, tt) refl))
+    (begun_by FOR s (for_do [] one false one empty) (Name [] ∷ Sign BECOMES ∷ Literal [] ∷ Word TO ∷ Literal [] ∷ Word DO ∷
+    []) (lawful_one, lawful_one, tt) refl))
     (begun_by COBEGIN s (cobegin nothing) (Word COEND ∷ []) (tt, tt) refl))
     (begun_by ACCEPT s (accepting (accept [] [])) (Name [] ∷ []) tt refl))
     (begun_by REQUEUE s (requeue [] no_actuals) (Name [] ∷ []) tt refl))

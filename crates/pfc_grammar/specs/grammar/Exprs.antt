@@ -89,7 +89,8 @@ applied_behind e x = do
 
 -- a factor without `not`: number | literal | "(" expr ")" | desig [actuals]
 unfoldable pub plain_factor : Reader ExprShape → Reader FactorShape
-plain_factor e = branch as_number (λ n. pure (number n)) (branch as_literal (λ x. pure (literal x)) (branch (as_sign OPEN_PAREN) (λ t. paren_behind e) (branch as_name (applied_behind e) stop)))
+plain_factor e = branch as_number (λ n. pure (number n)) (branch as_literal (λ x. pure (literal x)) (branch (as_sign OPEN_PAREN) (λ t. paren_behind e)
+    (branch as_name (applied_behind e) stop)))
 
 -- factor = number | literal | "not" factor | "(" expr ")" | desig [actuals]
 unfoldable pub factor_with : Reader FactorShape → Reader ExprShape → Reader FactorShape

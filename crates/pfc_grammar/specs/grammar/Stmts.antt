@@ -265,7 +265,8 @@ stmt_second e s = branch (as_word COBEGIN) (λ t. cobegin_behind s) (branch (as_
 unfoldable pub stmt_with : Reader ExprShape → Reader StmtShape → Reader StmtShape
 stmt_with e s = branch (as_word NULL) (λ t. pure null) (branch (as_word BEGIN) (λ t. do
   b ← body_behind s
-  pure (block b)) (branch (as_word IF) (λ t. if_behind e s) (branch (as_word CASE) (λ t. case_behind e s) (branch (as_word WHILE) (λ t. while_behind e s) (branch (as_word REPEAT) (λ t. repeat_behind e s) (branch (as_word FOR) (λ t. for_behind e s) (stmt_second e s)))))))
+  pure (block b)) (branch (as_word IF) (λ t. if_behind e s) (branch (as_word CASE) (λ t. case_behind e s) (branch (as_word WHILE) (λ t. while_behind e s)
+    (branch (as_word REPEAT) (λ t. repeat_behind e s) (branch (as_word FOR) (λ t. for_behind e s) (stmt_second e s)))))))
 
 -- a statement where n levels are left, of which it takes one; one that is empty has no symbol
 unfoldable pub stmt_at : ℕ → Reader StmtShape

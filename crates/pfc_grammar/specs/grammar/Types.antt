@@ -81,7 +81,8 @@ record_behind t = do
 -- type = name | "channel" "of" type | "array" "[" range {"," range} "]" "of" type
 --      | "record" fields {";" fields} [";"] "end"
 unfoldable pub type_with : Reader TypeShape → Reader TypeShape
-type_with t = branch as_name (λ x. pure (named x)) (branch (as_word CHANNEL) (λ u. channel_behind t) (branch (as_word ARRAY) (λ u. array_behind t) (branch (as_word RECORD) (λ u. record_behind t) stop)))
+type_with t = branch as_name (λ x. pure (named x)) (branch (as_word CHANNEL) (λ u. channel_behind t) (branch (as_word ARRAY) (λ u. array_behind t)
+    (branch (as_word RECORD) (λ u. record_behind t) stop)))
 
 -- a type where n levels are left, of which it takes one
 unfoldable pub type_at : ℕ → Reader TypeShape

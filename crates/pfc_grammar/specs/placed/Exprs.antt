@@ -67,7 +67,8 @@ applied_behind e x = do
 
 -- a factor without `not`: number | literal | "(" expr ")" | desig [actuals]
 unfoldable pub plain_factor : Reader ExprTree → Reader FactorTree
-plain_factor e = branch as_number (λ n. pure (number n.0 n.1)) (branch as_literal (λ x. pure (literal x.0 x.1)) (branch (as_sign OPEN_PAREN) (λ t. paren_behind e t.1) (branch as_name (applied_behind e) stop)))
+plain_factor e = branch as_number (λ n. pure (number n.0 n.1)) (branch as_literal (λ x. pure (literal x.0 x.1))
+    (branch (as_sign OPEN_PAREN) (λ t. paren_behind e t.1) (branch as_name (applied_behind e) stop)))
 
 -- factor = number | literal | "not" factor | "(" expr ")" | desig [actuals]
 unfoldable pub factor_with : Reader FactorTree → Reader ExprTree → Reader FactorTree

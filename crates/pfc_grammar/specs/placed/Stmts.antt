@@ -258,7 +258,9 @@ pri_behind e s p = do
 
 -- the statements of the last forms: body | accept | ["pri"] "select" .. | desig .., or no token
 unfoldable pub stmt_second : Reader ExprTree → Reader StmtTree → Reader StmtTree
-stmt_second e s = branch (as_word COBEGIN) (λ t. cobegin_behind s t.1) (branch (as_word ACCEPT) (λ t. accepting_behind s t.1) (branch (as_word REQUEUE) (λ t. requeue_behind e t.1) (branch (as_word PRI) (λ t. pri_behind e s t.1) (branch (as_word SELECT) (λ t. select_behind e s false t.1 t.1) (branch as_name (action_behind e) (pure empty))))))
+stmt_second e s = branch (as_word COBEGIN) (λ t. cobegin_behind s t.1) (branch (as_word ACCEPT) (λ t. accepting_behind s t.1)
+    (branch (as_word REQUEUE) (λ t. requeue_behind e t.1) (branch (as_word PRI) (λ t. pri_behind e s t.1)
+    (branch (as_word SELECT) (λ t. select_behind e s false t.1 t.1) (branch as_name (action_behind e) (pure empty))))))
 
 -- stmt = [ "null" | body | "if" expr "then" stmt ["else" stmt]
 --        | "case" expr "of" arm {";" arm} [";"] "end"
@@ -268,7 +270,9 @@ stmt_second e s = branch (as_word COBEGIN) (λ t. cobegin_behind s t.1) (branch 
 --        | ["pri"] "select" alt {"or" alt} ["else" stmts] "end"
 --        | desig (":=" expr | "!" expr | "?" desig | [actuals]) ]
 unfoldable pub stmt_with : Reader ExprTree → Reader StmtTree → Reader StmtTree
-stmt_with e s = branch (as_word NULL) (λ t. pure (null t.1)) (branch (as_word BEGIN) (λ t. block_behind s t.1) (branch (as_word IF) (λ t. if_behind e s t.1) (branch (as_word CASE) (λ t. case_behind e s t.1) (branch (as_word WHILE) (λ t. while_behind e s t.1) (branch (as_word REPEAT) (λ t. repeat_behind e s t.1) (branch (as_word FOR) (λ t. for_behind e s t.1) (stmt_second e s)))))))
+stmt_with e s = branch (as_word NULL) (λ t. pure (null t.1)) (branch (as_word BEGIN) (λ t. block_behind s t.1) (branch (as_word IF) (λ t. if_behind e s t.1)
+    (branch (as_word CASE) (λ t. case_behind e s t.1) (branch (as_word WHILE) (λ t. while_behind e s t.1) (branch (as_word REPEAT) (λ t. repeat_behind e s t.1)
+    (branch (as_word FOR) (λ t. for_behind e s t.1) (stmt_second e s)))))))
 
 -- a statement where n levels are left, of which it takes one; one that is empty has no token
 unfoldable pub stmt_at : ℕ → Reader StmtTree

@@ -81,7 +81,8 @@ record_behind t p = do
 -- type = name | "channel" "of" type | "array" "[" range {"," range} "]" "of" type
 --      | "record" fields {";" fields} [";"] "end"
 unfoldable pub type_with : Reader TypeTree → Reader TypeTree
-type_with t = branch as_name (λ x. pure (named x.0 x.1)) (branch (as_word CHANNEL) (λ u. channel_behind t u.1) (branch (as_word ARRAY) (λ u. array_behind t u.1) (branch (as_word RECORD) (λ u. record_behind t u.1) stop)))
+type_with t = branch as_name (λ x. pure (named x.0 x.1)) (branch (as_word CHANNEL) (λ u. channel_behind t u.1) (branch (as_word ARRAY) (λ u. array_behind t u.1)
+    (branch (as_word RECORD) (λ u. record_behind t u.1) stop)))
 
 -- a type where n levels are left, of which it takes one
 unfoldable pub type_at : ℕ → Reader TypeTree

@@ -72,7 +72,8 @@ pub(crate) fn guarded_head(
     tokens: &[Token],
     alloc: Global,
 ) -> Result<(SubHead, &[Token]), Halt>
-    ensures gives { Gives (λ r. ((r.0.name, map group_view r.0.formals.items, kind_view r.0.kind), r.1.now)) result (reader.guarded_head (expr_at levels) tokens.now) }
+    ensures gives { Gives (λ r. ((r.0.name, map group_view r.0.formals.items, kind_view r.0.kind), r.1.now)) result
+        (reader.guarded_head (expr_at levels) tokens.now) }
     ensures kept { IfOk result (λ r. length r.1.now < length tokens.now) }
 {
     let (_, rest) = expect_word(tokens, word::PROCEDURE)?;

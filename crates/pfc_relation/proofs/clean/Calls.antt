@@ -34,7 +34,8 @@ use Rattle.pfc_relation.proofs.clean.Expressions.{same_type, expr_typed, number_
 found_desig :
     (env : Env) (found : Option Found) (ss : SelectorTrees) (t : TypeId) → found_lends None found ≡ true
     → use_type env found (no_selector ss) true (selected env (variable_type (meaning_of found)) ss)
-    (args_fit env (called_function env.state.blocks (meaning_of found)).wants no_actuals && site_fits env.around (called_function env.state.blocks (meaning_of found)).site (first_type env no_actuals))
+    (args_fit env (called_function env.state.blocks (meaning_of found)).wants no_actuals && site_fits env.around
+    (called_function env.state.blocks (meaning_of found)).site (first_type env no_actuals))
     (first_type env no_actuals)
     ≡ Some t
     → selected env (variable_type (meaning_of found)) ss ≡ Some t
@@ -43,8 +44,10 @@ found_desig env (Some f) ss t h k = at f.meaning h (if_some (guard_allows env.ar
   where
     at :
         (m : Meaning) → found_lends None (Some (record f { meaning = m })) ≡ true
-        → use_type (record env { around = record env.around { guard = None } }) (Some (record f { meaning = m })) (no_selector ss) true (selected env (variable_type (Some m)) ss)
-        (args_fit env (called_function env.state.blocks (Some m)).wants no_actuals && site_fits env.around (called_function env.state.blocks (Some m)).site (first_type env no_actuals))
+        → use_type (record env { around = record env.around { guard = None } }) (Some (record f { meaning = m })) (no_selector ss) true
+        (selected env (variable_type (Some m)) ss)
+        (args_fit env (called_function env.state.blocks (Some m)).wants no_actuals && site_fits env.around
+        (called_function env.state.blocks (Some m)).site (first_type env no_actuals))
         (first_type env no_actuals)
         ≡ Some t
         → selected env (variable_type (Some m)) ss ≡ Some t
@@ -58,8 +61,10 @@ found_desig env (Some f) ss t h k = at f.meaning h (if_some (guard_allows env.ar
     at (Predeclared n) h k = absurd (never h)
     at Faulty h k = none_is_some t k
 
-read_desig : (env : Env) (e : ExprTree) (t : TypeId) → is_variable env None e ≡ true → expr_type env e ≡ Some t → (d : DesigTree) × (as_desig e ≡ Some d) × (desig_type env d ≡ Some t)
-read_desig env (plain (sum None (product (applied (desig x ss q) no_actuals p) no_multipliers) no_summands) r) t h k = (desig x ss q, refl, found_desig env (find env x) ss t h k)
+read_desig : (env : Env) (e : ExprTree) (t : TypeId) → is_variable env None e ≡ true → expr_type env e ≡ Some t → (d : DesigTree) ×
+    (as_desig e ≡ Some d) × (desig_type env d ≡ Some t)
+read_desig env (plain (sum None (product (applied (desig x ss q) no_actuals p) no_multipliers) no_summands) r) t h k =
+    (desig x ss q, refl, found_desig env (find env x) ss t h k)
 read_desig env e t h k = absurd (never h)
 
 read_simple : (t : TypeId) → may_be_read (Some t) ≡ true → is_simple t ≡ true
@@ -74,8 +79,16 @@ module _ (env : Env) (main : IsMain env) where
   read_typed (actual_width e width) h = absurd h.1.1.1.1.1
   read_typed (actual e) h =
       let t = expr_typed env main e h.0 in
-      let d = read_desig env e t.0 (so (is_variable env None e) (expr_place e) 318 h.1.0) t.1 in
-      (d.0, d.1, record { t = t.0; typed = d.2; simple = read_simple t.0 (ap may_be_read (sym t.1) ∙ so (may_be_read (expr_type env e)) (expr_place e) 326 h.1.1.0) })
+      let d = read_desig env e t.0 (so (is_variable env None e) (expr_place e) 318 h.1.0) t.1 in (
+        d.0,
+        d.1,
+        record {
+          t = t.0;
+          typed = d.2;
+          simple = read_simple t.0 (ap may_be_read (sym t.1) ∙
+              so (may_be_read (expr_type env e)) (expr_place e) 326 h.1.1.0);
+        },
+      )
 
   reads_typed : (args : ActualTrees) → IsClean (broken_reads env args) → AreRead env args
   reads_typed no_actuals h = tt
@@ -150,7 +163,8 @@ module _ (env : Env) (main : IsMain env) where
   name_typed (Some (Predeclared k)) p args h = routine_typed k p args h
   name_typed m p args h = tt
 
-  part_typed : (m : Option Meaning) (s : SelectorTree) (ss : SelectorTrees) (p : Place) (args : ActualTrees) → IsClean (call_part_of env m (more_selectors s ss) p args) → IsCall env (procedure_meant m) args
+  part_typed : (m : Option Meaning) (s : SelectorTree) (ss : SelectorTrees) (p : Place) (args : ActualTrees) →
+      IsClean (call_part_of env m (more_selectors s ss) p args) → IsCall env (procedure_meant m) args
   part_typed (Some (Predeclared k)) s ss p args h = absurd h.0
   part_typed m s ss p args h = tt
 

@@ -64,7 +64,8 @@ abbrev are_outer : Names → Bool
 are_outer [] = true
 are_outer (e ∷ names) = is_outer e.1 && are_outer names
 
-outer_found : (P : Option Meaning → Type 0) → P None → ((m : Meaning) → is_outer m ≡ true → P (Some m)) → (names : Names) → are_outer names ≡ true → (x : Text) → P (meaning_in names x)
+outer_found : (P : Option Meaning → Type 0) → P None → ((m : Meaning) → is_outer m ≡ true → P (Some m)) → (names : Names) →
+    are_outer names ≡ true → (x : Text) → P (meaning_in names x)
 outer_found P absent some [] h x = absent
 outer_found P absent some (e ∷ names) h x = by (bytes_eq x e.0) (outer_found P absent some names (both_right (is_outer e.1) (are_outer names) h) x)
   where
@@ -100,7 +101,8 @@ predeclared_found x = predeclared_is IsOfMainFound tt outer_of_main x
 pub look_of_main : (scopes : List Names) (x : Text) → AreOfMain (scope_at scopes 0) → IsOfMainFound (look scopes (here scopes 0 []) x)
 look_of_main scopes x h = by (position_in (scope_at scopes 0) x) (meaning_in (scope_at scopes 0) x) (found_of_main (scope_at scopes 0) x h)
   where
-    by : (p : Option ℕ) (m : Option Meaning) → IsOfMainFound m → IsOfMainFound (meaning_of (option_or (within (record { scope = 0; count = length (scope_at scopes 0) }) p m) (predeclared x)))
+    by : (p : Option ℕ) (m : Option Meaning) → IsOfMainFound m →
+        IsOfMainFound (meaning_of (option_or (within (record { scope = 0; count = length (scope_at scopes 0) }) p m) (predeclared x)))
     by None m g = predeclared_found x
     by (Some k) None g = predeclared_found x
     by (Some k) (Some y) g = seen (nat_lt k (length (scope_at scopes 0)))
@@ -128,13 +130,21 @@ set_first (others ∷ scopes) names h = h
 declare_names : (s : State) (x : Text × Place) (m : Meaning) → IsQuiet (declare s 0 x m) → IsQuiet s × (IsOfMain m → Names_kept s (declare s 0 x m))
 declare_names s x m = by (is_some (meaning_in (scope_at s.blocks.scopes 0) x.0))
   where
-    by : (b : Bool) → IsQuiet (if b then note s (unless false x.1 302) else add_name s 0 x.0 m) → IsQuiet s × (IsOfMain m → Names_kept s (if b then note s (unless false x.1 302) else add_name s 0 x.0 m))
+    by : (b : Bool) → IsQuiet (if b then note s (unless false x.1 302) else add_name s 0 x.0 m) → IsQuiet s ×
+        (IsOfMain m → Names_kept s (if b then note s (unless false x.1 302) else add_name s 0 x.0 m))
     by true q = pushed s.blocks.noted (record { code = 302; place = x.1 }) q
-    by false q = (q, λ good names. set_first s.blocks.scopes (scope_at s.blocks.scopes 0 ++ (x.0, m) ∷ []) (one_more (scope_at s.blocks.scopes 0) x.0 m names good))
+    by false q = (
+      q,
+      λ good names. set_first s.blocks.scopes (scope_at s.blocks.scopes 0 ++ (x.0, m) ∷ [])
+          (one_more (scope_at s.blocks.scopes 0) x.0 m names good),
+    )
 
 -- a name that is declared already is noted
-repeated_noted : {A : Type 0} (s : State) (x : Text × Place) (m : Meaning) → is_some (meaning_in (scope_at s.blocks.scopes 0) x.0) ≡ true → IsQuiet (declare s 0 x m) → A
-repeated_noted s x m h q = pushed s.blocks.noted (record { code = 302; place = x.1 }) (subst (λ (b : Bool). IsQuiet (if b then note s (unless false x.1 302) else add_name s 0 x.0 m)) h q)
+repeated_noted : {A : Type 0} (s : State) (x : Text × Place) (m : Meaning) →
+    is_some (meaning_in (scope_at s.blocks.scopes 0) x.0) ≡ true → IsQuiet (declare s 0 x m) → A
+repeated_noted s x m h q =
+    pushed s.blocks.noted (record { code = 302; place = x.1 })
+    (subst (λ (b : Bool). IsQuiet (if b then note s (unless false x.1 302) else add_name s 0 x.0 m)) h q)
 
 note_names : (s : State) (fs : Faults) → Names_kept s (note s fs)
 note_names s fs names = subst (λ scopes. AreOfMain (scope_at scopes 0)) (sym (note_kept s fs).scopes) names
@@ -223,31 +233,37 @@ types_hold s (d ∷ ds) h = types_hold (type_state s 0 [] d) ds (type_holds s d 
 variable_of_main : (o : Option TypeId) (t : TypeId) → o ≡ Some t → IsOfMain (variable_meaning false o)
 variable_of_main o t e = subst (λ v. IsOfMain (variable_meaning false v)) (sym e) tt
 
-populated_names : (s : State) (more : ℕ) (x : Text × Place) (m : Meaning) → IsQuiet (populated s 0 more x m) → IsQuiet s × (IsOfMain m → Names_kept s (populated s 0 more x m))
+populated_names : (s : State) (more : ℕ) (x : Text × Place) (m : Meaning) → IsQuiet (populated s 0 more x m) → IsQuiet s ×
+    (IsOfMain m → Names_kept s (populated s 0 more x m))
 populated_names s more x m = by (passes_most s.blocks.population more)
   where
     by :
         (b : Bool)
-        → IsQuiet (if b then declare (note (set_population s (most_processes (s.blocks.population + more))) (unless false x.1 424)) 0 x Faulty else declare (set_population s (most_processes (s.blocks.population + more))) 0 x m)
+        → IsQuiet (if b then declare (note (set_population s (most_processes (s.blocks.population + more))) (unless false x.1 424)) 0 x Faulty else declare
+        (set_population s (most_processes (s.blocks.population + more))) 0 x m)
         → IsQuiet s
         × (IsOfMain m
-        → Names_kept s (if b then declare (note (set_population s (most_processes (s.blocks.population + more))) (unless false x.1 424)) 0 x Faulty else declare (set_population s (most_processes (s.blocks.population + more))) 0 x m))
+        → Names_kept s (if b then declare (note (set_population s (most_processes (s.blocks.population + more))) (unless false x.1 424)) 0 x Faulty else declare
+        (set_population s (most_processes (s.blocks.population + more))) 0 x m))
     by true q =
         let counted = set_population s (most_processes (s.blocks.population + more)) in
         pushed s.blocks.noted (record { code = 424; place = x.1 }) (declare_names (note counted (unless false x.1 424)) x Faulty q).0
     by false q = declare_names (set_population s (most_processes (s.blocks.population + more))) x m q
 
-var_name_names : (s : State) (t : Option TypeId) (x : Text × Place) → IsQuiet (var_name_state s 0 t x) → IsQuiet s × (IsOfMain (variable_meaning false t) → Names_kept s (var_name_state s 0 t x))
+var_name_names : (s : State) (t : Option TypeId) (x : Text × Place) → IsQuiet (var_name_state s 0 t x) → IsQuiet s ×
+    (IsOfMain (variable_meaning false t) → Names_kept s (var_name_state s 0 t x))
 var_name_names s t x = by (is_some (meaning_in (scope_at s.blocks.scopes 0) x.0)) refl
   where
     by :
         (b : Bool) → is_some (meaning_in (scope_at s.blocks.scopes 0) x.0) ≡ b
         → IsQuiet (if b then declare s 0 x Faulty else populated s 0 (brought s.forms t) x (variable_meaning false t))
-        → IsQuiet s × (IsOfMain (variable_meaning false t) → Names_kept s (if b then declare s 0 x Faulty else populated s 0 (brought s.forms t) x (variable_meaning false t)))
+        → IsQuiet s × (IsOfMain (variable_meaning false t) →
+        Names_kept s (if b then declare s 0 x Faulty else populated s 0 (brought s.forms t) x (variable_meaning false t)))
     by true e q = repeated_noted s x Faulty e q
     by false e q = populated_names s (brought s.forms t) x (variable_meaning false t) q
 
-var_names_names : (s : State) (t : Option TypeId) (xs : List (Text × Place)) → IsQuiet (var_names_state s 0 t xs) → IsQuiet s × (IsOfMain (variable_meaning false t) → Names_kept s (var_names_state s 0 t xs))
+var_names_names : (s : State) (t : Option TypeId) (xs : List (Text × Place)) → IsQuiet (var_names_state s 0 t xs) → IsQuiet s ×
+    (IsOfMain (variable_meaning false t) → Names_kept s (var_names_state s 0 t xs))
 var_names_names s t [] q = (q, λ good names. names)
 var_names_names s t (x ∷ xs) q =
     let behind = var_names_names (var_name_state s 0 t x) t xs q in
@@ -255,9 +271,11 @@ var_names_names s t (x ∷ xs) q =
     (first.0, λ good names. behind.1 good (first.1 good names))
 
 -- a type that breaks no rule of its owner
-owned_is : (forms : Forms) (o : Option TypeId) (t : TypeId) (p : Place) → o ≡ Some t → IsClean (owner_rules in_program forms o p) → owned_type in_program forms o ≡ Some t
+owned_is : (forms : Forms) (o : Option TypeId) (t : TypeId) (p : Place) → o ≡ Some t →
+    IsClean (owner_rules in_program forms o p) → owned_type in_program forms o ≡ Some t
 owned_is forms None t p e h = cc
-owned_is forms (Some u) t p e h = ap (λ (b : Bool). where_so b u) (both _ _ (so (shared_fits in_program forms u) p 404 h.0) (so (condition_fits in_program forms u) p 405 h.1)) ∙ e
+owned_is forms (Some u) t p e h =
+    ap (λ (b : Bool). where_so b u) (both _ _ (so (shared_fits in_program forms u) p 404 h.0) (so (condition_fits in_program forms u) p 405 h.1)) ∙ e
   where
     both : (a b : Bool) → a ≡ true → b ≡ true → (a && b) ≡ true
     both a true e f = ap (λ x. x && true) e
@@ -298,7 +316,8 @@ part_holds (process_part q) s b h = built b
 parts_hold : (qs : PartTrees) (s : State) → parts_unbuilt qs ≡ false → HoldsMain s → HoldsMain (parts_state in_program s 0 [] qs)
 parts_hold no_parts s b h = h
 parts_hold (more_parts q qs) s b h =
-    parts_hold qs (part_state in_program s 0 [] q) (either_right (part_unbuilt q) (parts_unbuilt qs) b) (part_holds q s (either_left (part_unbuilt q) (parts_unbuilt qs) b) h)
+    parts_hold qs (part_state in_program s 0 [] q) (either_right (part_unbuilt q) (parts_unbuilt qs) b)
+    (part_holds q s (either_left (part_unbuilt q) (parts_unbuilt qs) b) h)
 
 -- ## The whole
 

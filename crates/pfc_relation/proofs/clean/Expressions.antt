@@ -48,10 +48,12 @@ has_type u t o e h = same_type t u (ap (may_have u) (sym e) ∙ h)
 
 module _ (env : Env) (main : IsMain env) where
   pub expr_typed : (e : ExprTree) → IsClean (broken_expr env e) → (t : TypeId) × (expr_type env e ≡ Some t)
-  expr_typed e h = there_is (expr_type env e) (broken_expr env e) (expr_uses_faulty env e) ((expressions_faulty env main.begins).exprs e) h (expr_unused env main e)
+  expr_typed e h = there_is (expr_type env e) (broken_expr env e) (expr_uses_faulty env e)
+      ((expressions_faulty env main.begins).exprs e) h (expr_unused env main e)
 
   pub desig_typed : (d : DesigTree) → IsClean (broken_desig env d) → (t : TypeId) × (desig_type env d ≡ Some t)
-  desig_typed d h = there_is (desig_type env d) (broken_desig env d) (desig_uses_faulty env d) ((expressions_faulty env main.begins).designators d) h (desig_unused env main d)
+  desig_typed d h = there_is (desig_type env d) (broken_desig env d) (desig_uses_faulty env d)
+      ((expressions_faulty env main.begins).designators d) h (desig_unused env main d)
 
   -- an expression that has to be of a simple type gives a number
   pub number_of : (e : ExprTree) (u : TypeId) → is_simple u ≡ true → IsClean (broken_expr env e) → may_have u (expr_type env e) ≡ true → IsNumber env e
@@ -88,12 +90,14 @@ multiply_simple And = refl
 summed_simple : (env : Env) (rest : SummandTrees) (t : Option TypeId) → may_be_simple t ≡ true → may_be_simple (summed env t rest) ≡ true
 summed_simple env no_summands t h = h
 summed_simple env (more_summands op u rest) t h =
-    summed_simple env rest (operated (add_operand op.0) t (term_type env u)) (where_simple (has (add_operand op.0) t && has (add_operand op.0) (term_type env u)) (add_operand op.0) (add_simple op.0))
+    summed_simple env rest (operated (add_operand op.0) t (term_type env u))
+    (where_simple (has (add_operand op.0) t && has (add_operand op.0) (term_type env u)) (add_operand op.0) (add_simple op.0))
 
 multiplied_simple : (env : Env) (rest : MultiplierTrees) (t : Option TypeId) → may_be_simple t ≡ true → may_be_simple (multiplied env t rest) ≡ true
 multiplied_simple env no_multipliers t h = h
 multiplied_simple env (more_multipliers op f rest) t h =
-    multiplied_simple env rest (operated (mul_operand op.0) t (factor_type env f)) (where_simple (has (mul_operand op.0) t && has (mul_operand op.0) (factor_type env f)) (mul_operand op.0) (multiply_simple op.0))
+    multiplied_simple env rest (operated (mul_operand op.0) t (factor_type env f))
+    (where_simple (has (mul_operand op.0) t && has (mul_operand op.0) (factor_type env f)) (mul_operand op.0) (multiply_simple op.0))
 
 -- a part that may be simple has no other type
 not_other : {A : Type 0} (o : Option TypeId) (t : TypeId) → o ≡ Some t → is_simple t ≡ false → may_be_simple o ≡ true → A
@@ -111,14 +115,18 @@ GiveSimple [] = Unit {0}
 GiveSimple (r ∷ rs) = GivesSimple r × GiveSimple rs
 
 routines_simple : GiveSimple routines
-routines_simple = (tt, (refl, (refl, (refl, (refl, (refl, (tt, (tt, (refl, (refl, (refl, (refl, (refl, (tt, (tt, (tt, (tt, (tt, (tt, (tt, (tt, (tt, (tt, tt)))))))))))))))))))))))
+routines_simple = (
+  tt,
+  (refl, (refl, (refl, (refl, (refl, (tt, (tt, (refl, (refl, (refl, (refl, (refl, (tt, (tt, (tt, (tt, (tt, (tt, (tt, (tt, (tt, (tt, tt)))))))))))))))))))))),
+)
 
 simple_at : (rs : List Routine) → GiveSimple rs → (k : ℕ) → GivesSimple (get_or rs k the_signal)
 simple_at [] h k = tt
 simple_at (r ∷ rs) h zero = h.0
 simple_at (r ∷ rs) h (suc k) = simple_at rs h.1 k
 
-alike_simple : (env : Env) (wants : List Want) (args : ActualTrees) → args_fit env (a_simple_value ∷ wants) args ≡ true → may_be_simple (first_type env args) ≡ true
+alike_simple : (env : Env) (wants : List Want) (args : ActualTrees) → args_fit env (a_simple_value ∷ wants) args ≡ true →
+    may_be_simple (first_type env args) ≡ true
 alike_simple env wants no_actuals fit = absurd (never fit)
 alike_simple env wants (more_actuals (actual_width e w) rest) fit = absurd (never fit)
 alike_simple env wants (more_actuals (actual e) rest) fit = by (expr_type env e) (both_left _ (args_fit env wants rest) fit)
@@ -127,7 +135,8 @@ alike_simple env wants (more_actuals (actual e) rest) fit = by (expr_type env e)
     by None h = refl
     by (Some t) h = h
 
-routine_simple : (env : Env) (r : Routine) (args : ActualTrees) → GivesSimple r → args_fit env (called_routine r).wants args ≡ true → may_be_simple (routine_value r (first_type env args)) ≡ true
+routine_simple : (env : Env) (r : Routine) (args : ActualTrees) → GivesSimple r → args_fit env (called_routine r).wants args ≡ true →
+    may_be_simple (routine_value r (first_type env args)) ≡ true
 routine_simple env (a_function wants (gives t) site) args simple fit = simple
 routine_simple env (a_function [] gives_alike site) args simple fit = absurd simple
 routine_simple env (a_function (a_simple_value ∷ wants) gives_alike site) args simple fit = alike_simple env wants args fit
@@ -149,11 +158,13 @@ if_some false o t h = none_is_some t h
 use_variable :
     (env : Env) (m : Meaning) (ss : SelectorTrees) (args : ActualTrees) (t : TypeId) → IsSimpleConstant (Some m) → IsOfMainFound (Some m)
     → plain_use env m (no_selector ss) (no_actual args) (selected env (variable_type (Some m)) ss)
-    (args_fit env (called_function env.state.blocks (Some m)).wants args && site_fits env.around (called_function env.state.blocks (Some m)).site (first_type env args))
+    (args_fit env (called_function env.state.blocks (Some m)).wants args && site_fits env.around
+    (called_function env.state.blocks (Some m)).site (first_type env args))
     (first_type env args)
     ≡ Some t
     → is_simple t ≡ false → (no_actual args ≡ true) × (selected env (variable_type (Some m)) ss ≡ Some t)
-use_variable env (Constant u v) ss args t simple of h k = absurd (never (sym k ∙ ap is_simple (sym (where_is (no_selector ss && no_actual args) u t h)) ∙ simple))
+use_variable env (Constant u v) ss args t simple of h k =
+    absurd (never (sym k ∙ ap is_simple (sym (where_is (no_selector ss && no_actual args) u t h)) ∙ simple))
 use_variable env (Named u) ss args t simple of h k = none_is_some t h
 use_variable env (Variable u r) ss args t simple of h k = if_some (no_actual args) (selected env (Some u) ss) t h
 use_variable env (ASub n) ss args t simple of h k = absurd of
@@ -166,17 +177,21 @@ use_variable env (Predeclared n) ss args t simple of h k =
     let fit = args_fit env (called_routine r).wants args && site_fits env.around (called_routine r).site (first_type env args) in
     let called = if_some (no_selector ss && fit) (routine_value r (first_type env args)) t h in
     not_other (routine_value r (first_type env args)) t called.1 k
-    (routine_simple env r args (simple_at routines routines_simple n) (both_left (args_fit env (called_routine r).wants args) _ (both_right (no_selector ss) fit called.0)))
+    (routine_simple env r args (simple_at routines routines_simple n) (both_left (args_fit env (called_routine r).wants args) _
+    (both_right (no_selector ss) fit called.0)))
 
 found_variable :
-    (env : Env) (found : Option Found) (ss : SelectorTrees) (args : ActualTrees) (t : TypeId) → IsSimpleConstant (meaning_of found) → IsOfMainFound (meaning_of found)
+    (env : Env) (found : Option Found) (ss : SelectorTrees) (args : ActualTrees) (t : TypeId) →
+    IsSimpleConstant (meaning_of found) → IsOfMainFound (meaning_of found)
     → use_type env found (no_selector ss) (no_actual args) (selected env (variable_type (meaning_of found)) ss)
-    (args_fit env (called_function env.state.blocks (meaning_of found)).wants args && site_fits env.around (called_function env.state.blocks (meaning_of found)).site (first_type env args))
+    (args_fit env (called_function env.state.blocks (meaning_of found)).wants args && site_fits env.around
+    (called_function env.state.blocks (meaning_of found)).site (first_type env args))
     (first_type env args)
     ≡ Some t
     → is_simple t ≡ false → (no_actual args ≡ true) × (selected env (variable_type (meaning_of found)) ss ≡ Some t)
 found_variable env None ss args t simple of h k = none_is_some t h
-found_variable env (Some f) ss args t simple of h k = use_variable env f.meaning ss args t simple of (if_some (guard_allows env.around.guard (Some f)) _ t h).1 k
+found_variable env (Some f) ss args t simple of h k =
+    use_variable env f.meaning ss args t simple of (if_some (guard_allows env.around.guard (Some f)) _ t h).1 k
 
 -- ## Variables, perhaps in parentheses
 
@@ -199,10 +214,12 @@ module _ (env : Env) (main : IsMain env) where
         (summed_simple env rest (operated (add_operand op.0) (term_type env first) (term_type env u)) (where_simple _ (add_operand op.0) (add_simple op.0)))
     variable_expr (plain (sum None (product f (more_multipliers op g rest)) no_summands) p) t h k =
         not_other (multiplied env (operated (mul_operand op.0) (factor_type env f) (factor_type env g)) rest) t h k
-        (multiplied_simple env rest (operated (mul_operand op.0) (factor_type env f) (factor_type env g)) (where_simple _ (mul_operand op.0) (multiply_simple op.0)))
+        (multiplied_simple env rest (operated (mul_operand op.0) (factor_type env f) (factor_type env g))
+        (where_simple _ (mul_operand op.0) (multiply_simple op.0)))
     variable_expr (plain (sum None (product f no_multipliers) no_summands) p) t h k = variable_factor f p t h k
 
-    variable_factor : (f : FactorTree) (p : Place) (t : TypeId) → factor_type env f ≡ Some t → is_simple t ≡ false → IsVariable env (plain (sum None (product f no_multipliers) no_summands) p) t
+    variable_factor : (f : FactorTree) (p : Place) (t : TypeId) → factor_type env f ≡ Some t → is_simple t ≡ false →
+        IsVariable env (plain (sum None (product f no_multipliers) no_summands) p) t
     variable_factor (number n q) p t h k = absurd (never (sym k ∙ ap is_simple (sym (some_alike integer t h))))
     variable_factor (literal x q) p t h k = absurd (never (sym k ∙ ap is_simple (sym (where_is _ char t h))))
     variable_factor (negation f q) p t h k = absurd (never (sym k ∙ ap is_simple (sym (where_is _ boolean t h))))
@@ -211,5 +228,6 @@ module _ (env : Env) (main : IsMain env) where
         let used = found_variable env (find env x) ss no_actuals t (look_simple env.state.blocks.scopes main.constants env.view x) (main.names x) h k in
         record { source = desig x ss r; is = refl; typed = used.1 }
     variable_factor (applied (desig x ss r) (more_actuals a rest) q) p t h k =
-        let used = found_variable env (find env x) ss (more_actuals a rest) t (look_simple env.state.blocks.scopes main.constants env.view x) (main.names x) h k in
+        let used = found_variable env (find env x) ss (more_actuals a rest) t
+        (look_simple env.state.blocks.scopes main.constants env.view x) (main.names x) h k in
         absurd (never used.0)

@@ -77,7 +77,8 @@ step_over : {A : Type 0} (x : A) (xs : List A) (i : ℕ) → slice_get (x ∷ xs
 step_over x xs i = let e : 1 + i ≡ suc i = omega arith in ap (λ k. slice_get (x ∷ xs) k) e
 
 -- a name that stands for something is held at its first place
-name_held : (test : Text → Bool) (names : Names) (m : Meaning) → lookup test names ≡ Some m → (name : Text) × (slice_get names (position_or_len test (keys_of names)) ≡ Some (name, m))
+name_held : (test : Text → Bool) (names : Names) (m : Meaning) → lookup test names ≡ Some m → (name : Text) ×
+    (slice_get names (position_or_len test (keys_of names)) ≡ Some (name, m))
 name_held test [] m h = none_is_some m h
 name_held test (e ∷ names) m h = by (test e.0) h (name_held test names m)
   where
@@ -88,11 +89,13 @@ name_held test (e ∷ names) m h = by (test e.0) h (name_held test names m)
     by true k ih = (e.0, ap (λ (n : Meaning). Some (e.0, n)) (some_alike e.1 m k))
     by false k ih = let found = ih k in (found.0, step_over e names (position_or_len test (keys_of names)) ∙ found.1)
 
-place_held : (names : Names) (x : Text) (k : ℕ) (m : Meaning) → position_in names x ≡ Some k → meaning_in names x ≡ Some m → (name : Text) × (slice_get names k ≡ Some (name, m))
+place_held : (names : Names) (x : Text) (k : ℕ) (m : Meaning) → position_in names x ≡ Some k → meaning_in names x ≡ Some m →
+    (name : Text) × (slice_get names k ≡ Some (name, m))
 place_held names x k m h g = by (nat_lt (position_or_len (bytes_eq x) (keys_of names)) (length (keys_of names))) h
   where
     by : (b : Bool) → cond b (Some (position_or_len (bytes_eq x) (keys_of names))) None ≡ Some k → (name : Text) × (slice_get names k ≡ Some (name, m))
-    by true e = let held = name_held (bytes_eq x) names m g in (held.0, ap (slice_get names) (sym (some_alike (position_or_len (bytes_eq x) (keys_of names)) k e)) ∙ held.1)
+    by true e = let held =
+        name_held (bytes_eq x) names m g in (held.0, ap (slice_get names) (sym (some_alike (position_or_len (bytes_eq x) (keys_of names)) k e)) ∙ held.1)
     by false e = none_is_some k e
 
 -- no predeclared name is a variable
@@ -128,7 +131,8 @@ variable_at scopes x found t r whole h is = by (position_in names x) refl (meani
     outer : {A : Type 0} → predeclared x ≡ Some found → A
     outer {A} e = absurd (subst IsNoVariable (ap meaning_of e ∙ ap Some is) (predeclared_is IsNoVariable tt outer_no_variable x))
 
-    held : (k : ℕ) (m : Meaning) → position_in names x ≡ Some k → meaning_in names x ≡ Some m → m ≡ Variable t r → (name : Text) × (slice_get names k ≡ Some (name, Variable t false))
+    held : (k : ℕ) (m : Meaning) → position_in names x ≡ Some k → meaning_in names x ≡ Some m → m ≡ Variable t r → (name : Text) ×
+        (slice_get names k ≡ Some (name, Variable t false))
     held k m p e v =
         let at = place_held names x k m p e in
         let of_main = subst IsOfMainFound (e ∙ ap Some v) (found_of_main names x whole) in
@@ -169,7 +173,8 @@ pub main_cells_fit : (t : ProgramTree) → first_fault t ≡ None → scope_cell
 main_cells_fit t h =
     subst (λ forms. scope_cells forms (scope_at (scopes_of t).scopes 0) ≤ 65536) (sym (note_forms s rules))
     (subst (λ scopes. scope_cells s.forms (scope_at scopes 0) ≤ 65536) (sym (note_kept s rules).scopes)
-    (first_of_sum (scope_cells s.forms (scope_at s.blocks.scopes 0)) _ 65536 (so (nat_le (main_cells s) 65536) t.name.1 304 (note_quiet s rules (nothing_noted t h)).1)))
+    (first_of_sum (scope_cells s.forms (scope_at s.blocks.scopes 0)) _ 65536 (so (nat_le (main_cells s) 65536) t.name.1 304
+    (note_quiet s rules (nothing_noted t h)).1)))
   where
     s : State
     s = declared_all t

@@ -89,7 +89,8 @@ module _ (scopes : List Names) (view : List Level) (names : (x : Text) → IsOfM
   ranges_unused [] = refl
   ranges_unused (r ∷ rs) =
       both_unused (constant_uses_faulty scopes view r.low || constant_uses_faulty scopes view r.high) (ranges_use_faulty scopes view rs)
-      (both_unused (constant_uses_faulty scopes view r.low) (constant_uses_faulty scopes view r.high) (constant_unused r.low) (constant_unused r.high)) (ranges_unused rs)
+      (both_unused (constant_uses_faulty scopes view r.low) (constant_uses_faulty scopes view r.high) (constant_unused r.low)
+      (constant_unused r.high)) (ranges_unused rs)
 
   mutual
     pub type_unused : (t : TypeTree) → type_uses_faulty scopes view t ≡ false
@@ -100,7 +101,8 @@ module _ (scopes : List Names) (view : List Level) (names : (x : Text) → IsOfM
 
     items_unused : (vs : VarTrees) → items_use_faulty scopes view vs ≡ false
     items_unused no_vars = refl
-    items_unused (more_vars (var_item xs t) vs) = both_unused (type_uses_faulty scopes view t) (items_use_faulty scopes view vs) (type_unused t) (items_unused vs)
+    items_unused (more_vars (var_item xs t) vs) =
+        both_unused (type_uses_faulty scopes view t) (items_use_faulty scopes view vs) (type_unused t) (items_unused vs)
 
 -- ## Expressions
 
@@ -122,7 +124,8 @@ module _ (env : Env) (main : IsMain env) where
 
     multipliers_unused : (rest : MultiplierTrees) → multipliers_use_faulty env rest ≡ false
     multipliers_unused no_multipliers = refl
-    multipliers_unused (more_multipliers op f rest) = both_unused (factor_uses_faulty env f) (multipliers_use_faulty env rest) (factor_unused f) (multipliers_unused rest)
+    multipliers_unused (more_multipliers op f rest) = both_unused (factor_uses_faulty env f) (multipliers_use_faulty env rest)
+        (factor_unused f) (multipliers_unused rest)
 
     pub factor_unused : (f : FactorTree) → factor_uses_faulty env f ≡ false
     factor_unused (number n p) = refl
@@ -132,7 +135,8 @@ module _ (env : Env) (main : IsMain env) where
     factor_unused (applied d args p) = both_unused (desig_uses_faulty env d) (actuals_use_faulty env args) (desig_unused d) (actuals_unused args)
 
     pub desig_unused : (d : DesigTree) → desig_uses_faulty env d ≡ false
-    desig_unused (desig x ss p) = both_unused (is_faulty_found env.state.blocks (find env x)) (selectors_use_faulty env ss) (not_faulty env.state.blocks (find env x) (main.names x)) (selectors_unused ss)
+    desig_unused (desig x ss p) = both_unused (is_faulty_found env.state.blocks (find env x)) (selectors_use_faulty env ss)
+        (not_faulty env.state.blocks (find env x) (main.names x)) (selectors_unused ss)
 
     selectors_unused : (ss : SelectorTrees) → selectors_use_faulty env ss ≡ false
     selectors_unused no_selectors = refl

@@ -73,7 +73,12 @@ arrays_quiet m (r ∷ rs) p h = arrays_quiet m rs p (added_quiets (made_arrays m
 field_quiets : (t : TypeId) (r : MadeFields) (x : Text × Place) → Quiets r.state (made_field t r x).state
 field_quiets t r x = by (is_some (type_named r.list x.0))
   where
-    by : (b : Bool) → Quiets r.state (if b then record { state = note r.state (unless false x.1 302); list = r.list; whole = false } else record r { list = r.list ++ (x.0, t) ∷ [] }).state
+    by : (b : Bool) → Quiets r.state (if b then record {
+      state = note r.state (unless false x.1 302);
+      list = r.list;
+      whole =
+          false;
+    } else record r { list = r.list ++ (x.0, t) ∷ [] }).state
     by true h = (note_quiet r.state (unless false x.1 302) h).0
     by false h = h
 
@@ -94,7 +99,8 @@ mutual
       made_quiets true s view t (note_quiet m.state rule (added_quiets (note m.state rule) (channel_form m.state.forms m.t) p h)).0
   made_quiets carried s view (array rs t p) h =
       let asked = note s (broken_ranges s.blocks.scopes view rs) in
-      (note_quiet s (broken_ranges s.blocks.scopes view rs) (made_quiets false asked view t (arrays_quiet (made false asked view t) (range_extents s.blocks.scopes view rs) p h))).0
+      (note_quiet s (broken_ranges s.blocks.scopes view rs)
+      (made_quiets false asked view t (arrays_quiet (made false asked view t) (range_extents s.blocks.scopes view rs) p h))).0
   made_quiets carried s view (fields vs last p) h =
       let r = made_items view (fields_begun s) vs in
       items_quiet view (fields_begun s) vs (added_quiets r.state (record_form r) p h)
@@ -148,7 +154,8 @@ mutual
       let both = either_right (expr_unbuilt e) (stmt_unbuilt t || stmt_unbuilt u) b in
       stmt_quiets s view t (either_left (stmt_unbuilt t) (stmt_unbuilt u) both)
       (stmt_quiets (stmt_state s view t) view u (either_right (stmt_unbuilt t) (stmt_unbuilt u) both) h)
-  stmt_quiets s view (case_of e arms last p) b h = arms_quiet view (record { state = s; seen = [] }) arms (either_right (expr_unbuilt e) (arms_unbuilt arms) b) h
+  stmt_quiets s view (case_of e arms last p) b h =
+      arms_quiet view (record { state = s; seen = [] }) arms (either_right (expr_unbuilt e) (arms_unbuilt arms) b) h
   stmt_quiets s view (while_do e t p) b h = stmt_quiets s view t (either_right (expr_unbuilt e) (stmt_unbuilt t) b) h
   stmt_quiets s view (repeat_until ts e p) b h = stmts_quiet s view ts (either_left (stmts_unbuilt ts) (expr_unbuilt e) b) h
   stmt_quiets s view (repeat_forever ts p) b h = stmts_quiet s view ts b h
@@ -166,7 +173,8 @@ mutual
   stmts_quiet : (s : State) (view : List Level) (ts : StmtTrees) → stmts_unbuilt ts ≡ false → Quiets s (stmts_state s view ts)
   stmts_quiet s view no_stmts b h = h
   stmts_quiet s view (more_stmts t ts) b h =
-      stmt_quiets s view t (either_left (stmt_unbuilt t) (stmts_unbuilt ts) b) (stmts_quiet (stmt_state s view t) view ts (either_right (stmt_unbuilt t) (stmts_unbuilt ts) b) h)
+      stmt_quiets s view t (either_left (stmt_unbuilt t) (stmts_unbuilt ts) b) (stmts_quiet (stmt_state s view t) view ts
+      (either_right (stmt_unbuilt t) (stmts_unbuilt ts) b) h)
 
   arms_quiet : (view : List Level) (r : Labels) (arms : ArmTrees) → arms_unbuilt arms ≡ false → Quiets r.state (arms_state view r arms).state
   arms_quiet view r no_arms b h = h

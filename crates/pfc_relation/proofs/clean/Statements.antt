@@ -44,7 +44,8 @@ variable_typed (Some (Predeclared k)) p of h = absurd h
 variable_typed (Some Faulty) p of h = absurd of
 
 -- what is assigned is a variable, since there is no function
-target_at : (env : Env) (m : Option Meaning) (p : Place) → IsOfMainFound m → IsClean (target_rules env m p) → (t : TypeId) × (target_of env m ≡ Some t) × (variable_type m ≡ Some t)
+target_at : (env : Env) (m : Option Meaning) (p : Place) → IsOfMainFound m → IsClean (target_rules env m p) → (t : TypeId) ×
+    (target_of env m ≡ Some t) × (variable_type m ≡ Some t)
 target_at env None p of h = absurd h
 target_at env (Some (AConstant t v)) p of h = absurd h
 target_at env (Some (Named t)) p of h = absurd h
@@ -67,9 +68,11 @@ label_simple None u t p e h = cc
 label_simple (Some s) u t p e h = ap may_be_simple (sym e) ∙ both_left (is_simple s) _ (so (may_label s u) p 319 h)
 
 module _ (env : Env) (main : IsMain env) where
-  label_value : (c : Constant) → IsClean (broken_constant env.state.blocks.scopes env.view c) → (o : Ordinal) × (constant_value env.state.blocks.scopes env.view c ≡ Some o)
+  label_value : (c : Constant) → IsClean (broken_constant env.state.blocks.scopes env.view c) → (o : Ordinal) ×
+      (constant_value env.state.blocks.scopes env.view c ≡ Some o)
   label_value c h =
-      there_is (constant_value env.state.blocks.scopes env.view c) (broken_constant env.state.blocks.scopes env.view c) (constant_uses_faulty env.state.blocks.scopes env.view c)
+      there_is (constant_value env.state.blocks.scopes env.view c) (broken_constant env.state.blocks.scopes env.view c)
+      (constant_uses_faulty env.state.blocks.scopes env.view c)
       ((written_exactly env.state env.view main.constants).constants c) h (constant_unused env.state.blocks.scopes env.view main.names c)
 
   labels_have : (t : Option TypeId) (cs : List Constant) → IsClean (broken_labels env t cs) → HaveValues env cs
@@ -77,12 +80,18 @@ module _ (env : Env) (main : IsMain env) where
   labels_have t (c ∷ cs) h = (label_value c h.0.0, labels_have t cs h.1)
 
   -- the value of a `case` is of the type of a label
-  case_number : (e : ExprTree) (arms : ArmTrees) (next : ℕ) → HasLawfulArms (forget_arms arms) → IsClean (broken_expr env e) → IsClean (broken_arms env next (expr_type env e) arms) → IsNumber env e
+  case_number : (e : ExprTree) (arms : ArmTrees) (next : ℕ) → HasLawfulArms (forget_arms arms) → IsClean (broken_expr env e) →
+      IsClean (broken_arms env next (expr_type env e) arms) → IsNumber env e
   case_number e no_arms next lawful h k = absurd lawful
   case_number e (more_arms (arm [] s) arms) next lawful h k = absurd lawful.0.0
   case_number e (more_arms (arm (c ∷ cs) s) arms) next lawful h k =
       let t = expr_typed env main e h in
-      record { t = t.0; typed = t.1; simple = label_simple (expr_type env e) (constant_type (constant_value env.state.blocks.scopes env.view c)) t.0 (constant_place c) t.1 k.0.0.0.1 }
+      record {
+        t = t.0;
+        typed = t.1;
+        simple =
+            label_simple (expr_type env e) (constant_type (constant_value env.state.blocks.scopes env.view c)) t.0 (constant_place c) t.1 k.0.0.0.1;
+      }
 
   -- ## Assignments
 
@@ -94,7 +103,8 @@ module _ (env : Env) (main : IsMain env) where
   assign_typed d e p h =
       let target = target_typed d h.0 in
       let value = expr_typed env main e h.1.0 in
-      let same = agree_same (target_type env d) (expr_type env e) target.0 value.0 target.1 value.1 (so (may_agree (target_type env d) (expr_type env e)) p 312 h.1.1.0) in
+      let same = agree_same (target_type env d) (expr_type env e) target.0 value.0 target.1 value.1
+      (so (may_agree (target_type env d) (expr_type env e)) p 312 h.1.1.0) in
       by target.0 target.2 (value.1 ∙ ap Some (sym same)) (is_simple target.0) refl
     where
       by : (t : TypeId) → desig_type env d ≡ Some t → expr_type env e ≡ Some t → (b : Bool) → is_simple t ≡ b → IsAssignment env d e
@@ -103,7 +113,8 @@ module _ (env : Env) (main : IsMain env) where
 
   -- ## For
 
-  number_alike : (e : ExprTree) (o : Option TypeId) (t : TypeId) → o ≡ Some t → is_simple t ≡ true → IsClean (broken_expr env e) → may_agree o (expr_type env e) ≡ true → IsNumber env e
+  number_alike : (e : ExprTree) (o : Option TypeId) (t : TypeId) → o ≡ Some t → is_simple t ≡ true → IsClean (broken_expr env e) →
+      may_agree o (expr_type env e) ≡ true → IsNumber env e
   number_alike e o t is simple h fits =
       let u = expr_typed env main e h in
       record { t = u.0; typed = u.1; simple = ap is_simple (sym (agree_same o (expr_type env e) t u.0 is u.1 fits)) ∙ simple }
@@ -161,11 +172,13 @@ module _ (env : Env) (main : IsMain env) where
     stmts_typed no_stmts next lawful h = tt
     stmts_typed (more_stmts s ss) next lawful h = (stmt_typed s next lawful.0 h.0, stmts_typed ss (next + scopes_in s) lawful.1 h.1)
 
-    pub arms_typed : (arms : ArmTrees) (next : ℕ) (t : Option TypeId) → AreLawfulArms (forget_arms arms) → IsClean (broken_arms env next t arms) → AreArmsTyped env arms
+    pub arms_typed : (arms : ArmTrees) (next : ℕ) (t : Option TypeId) → AreLawfulArms (forget_arms arms) →
+        IsClean (broken_arms env next t arms) → AreArmsTyped env arms
     arms_typed no_arms next t lawful h = tt
     arms_typed (more_arms (arm cs s) arms) next t lawful h =
         (labels_have t cs h.0.0, stmt_typed s next lawful.0.2 h.0.1, arms_typed arms (next + scopes_in s) t lawful.1 h.1)
 
   -- the statements of a body
-  pub body_typed : (ss : StmtTrees) (first last : Place) (next : ℕ) → IsLawfulBody (forget_body (body ss first last)) → IsClean (broken_body env next (body ss first last)) → AreTyped env ss
+  pub body_typed : (ss : StmtTrees) (first last : Place) (next : ℕ) → IsLawfulBody (forget_body (body ss first last)) →
+      IsClean (broken_body env next (body ss first last)) → AreTyped env ss
   body_typed ss first last next lawful h = stmts_typed ss next (some_lawful ss lawful) h

@@ -44,7 +44,8 @@ mutual
   module_even (the_module x es qs b) = search (evens, flat (exports_tokens es), parts_even qs, ending_even b) depth 14
 
   pub process_even : (x : ProcessShape) → length (process_depths x) ≡ length (process_tokens x)
-  process_even (process b x gs ns qs b') = search (evens, flat (many_tokens b), flat (formals_tokens gs), flat (entries_tokens ns), parts_even qs, body_even b') depth 20
+  process_even (process b x gs ns qs b') =
+      search (evens, flat (many_tokens b), flat (formals_tokens gs), flat (entries_tokens ns), parts_even qs, body_even b') depth 20
 
 pub program_even : (t : ProgramShape) → length (depths_of t) ≡ length (tokens_of t)
 program_even t = search (evens, flat (params_tokens t.params), parts_even t.parts, body_even t.body) depth 14

@@ -36,7 +36,8 @@ ending_passed : (b : Option BodyTree) (p : Place) → passed (ending_trace b p) 
 ending_passed None p = refl
 ending_passed (Some (body ss first last)) p = search (passing, stmts_passed ss) depth 14
 
-heading_passed : (x : Text) (gs : List GroupTree) (k : KindTree) (p : Place) → passed (heading_trace gs k p) ≡ length (heading_tokens x (map forget_group gs) (forget_kind k))
+heading_passed : (x : Text) (gs : List GroupTree) (k : KindTree) (p : Place) →
+    passed (heading_trace gs k p) ≡ length (heading_tokens x (map forget_group gs) (forget_kind k))
 heading_passed x gs procedure p = search (passing, formals_passed gs) depth 14
 heading_passed x gs (function t q) p = search (passing, formals_passed gs) depth 14
 heading_passed x gs (guarded e q) p = search (passing, formals_passed gs, expr_passed e) depth 14

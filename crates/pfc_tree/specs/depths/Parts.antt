@@ -43,7 +43,8 @@ abbrev mutual
   module_depths (the_module x es qs b) = 0 ∷ 0 ∷ level (exports_tokens es) ++ parts_depths qs ++ ending_depths b ++ 0 ∷ []
 
   pub process_depths : ProcessShape → List ℕ
-  process_depths (process many x gs ns qs b) = deeper (0 ∷ level (many_tokens many) ++ 0 ∷ level (formals_tokens gs) ++ 0 ∷ level (entries_tokens ns) ++ parts_depths qs ++ body_depths b ++ 0 ∷ [])
+  process_depths (process many x gs ns qs b) =
+      deeper (0 ∷ level (many_tokens many) ++ 0 ∷ level (formals_tokens gs) ++ 0 ∷ level (entries_tokens ns) ++ parts_depths qs ++ body_depths b ++ 0 ∷ [])
 
 -- the depth of each token of a program, in the order of its tokens
 abbrev pub depths_of : ProgramShape → List ℕ

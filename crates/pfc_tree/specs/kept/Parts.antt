@@ -51,7 +51,8 @@ abbrev mutual
   module_trace (the_module x es qs b last p) = at p ++ next ∷ exports_trace es ++ parts_trace qs ++ ending_trace b last ++ next ∷ []
 
   pub process_trace : ProcessTree → List Step
-  process_trace (process many x gs ns qs b p) = next ∷ flag_trace many ++ here p ∷ next ∷ formals_trace gs ++ next ∷ entries_trace ns ++ parts_trace qs ++ body_trace b ++ next ∷ []
+  process_trace (process many x gs ns qs b p) =
+      next ∷ flag_trace many ++ here p ∷ next ∷ formals_trace gs ++ next ∷ entries_trace ns ++ parts_trace qs ++ body_trace b ++ next ∷ []
 
 abbrev pub params_trace : List (Text × Place) → List Step
 params_trace [] = []

@@ -69,7 +69,9 @@ abbrev mutual
 
   -- process = "process" ["type"] name [formals] ";" {entry} {part} body ";"
   pub process_tokens : ProcessShape → List Symbol
-  process_tokens (process many x gs ns qs b) = Word PROCESS ∷ many_tokens many ++ Name x ∷ formals_tokens gs ++ Sign SEMICOLON ∷ entries_tokens ns ++ parts_tokens qs ++ body_tokens b ++ Sign SEMICOLON ∷ []
+  process_tokens (process many x gs ns qs b) =
+      Word PROCESS ∷ many_tokens many ++ Name x ∷ formals_tokens gs ++ Sign SEMICOLON ∷ entries_tokens ns ++ parts_tokens qs
+      ++ body_tokens b ++ Sign SEMICOLON ∷ []
 
 -- ["(" name {"," name} ")"]
 abbrev pub params_tokens : List Text → List Symbol

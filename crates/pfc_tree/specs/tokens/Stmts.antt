@@ -55,7 +55,8 @@ abbrev mutual
   stmt_tokens (while_do e s) = Word WHILE ∷ expr_tokens e ++ Word DO ∷ stmt_tokens s
   stmt_tokens (repeat_until ss e) = Word REPEAT ∷ stmts_tokens ss ++ Word UNTIL ∷ expr_tokens e
   stmt_tokens (repeat_forever ss) = Word REPEAT ∷ stmts_tokens ss ++ Word FOREVER ∷ []
-  stmt_tokens (for_do x from down to s) = Word FOR ∷ Name x ∷ Sign BECOMES ∷ expr_tokens from ++ direction_symbol down ∷ expr_tokens to ++ Word DO ∷ stmt_tokens s
+  stmt_tokens (for_do x from down to s) =
+      Word FOR ∷ Name x ∷ Sign BECOMES ∷ expr_tokens from ++ direction_symbol down ∷ expr_tokens to ++ Word DO ∷ stmt_tokens s
   stmt_tokens (cobegin ss) = Word COBEGIN ∷ stmts_tokens ss ++ Word COEND ∷ []
   stmt_tokens (accepting a) = Word ACCEPT ∷ accept_tokens a
   stmt_tokens (requeue x args) = Word REQUEUE ∷ Name x ∷ actuals_tokens args

@@ -75,25 +75,32 @@ term_step t = product t.first (multipliers_of t.rest.items)
 
 -- the readings
 abbrev pub factor_view : Factor → FactorTree
-factor_view = fold-Factor FactorTree SelectorTree ActualTree DesigTree ExprTree SimpleTree TermTree factor_step selector_step actual_step desig_step expr_step simple_step term_step
+factor_view = fold-Factor FactorTree SelectorTree ActualTree DesigTree ExprTree SimpleTree TermTree factor_step selector_step actual_step
+    desig_step expr_step simple_step term_step
 
 abbrev pub selector_view : Selector → SelectorTree
-selector_view = fold-Selector FactorTree SelectorTree ActualTree DesigTree ExprTree SimpleTree TermTree factor_step selector_step actual_step desig_step expr_step simple_step term_step
+selector_view = fold-Selector FactorTree SelectorTree ActualTree DesigTree ExprTree SimpleTree TermTree factor_step selector_step actual_step
+    desig_step expr_step simple_step term_step
 
 abbrev pub actual_view : Actual → ActualTree
-actual_view = fold-Actual FactorTree SelectorTree ActualTree DesigTree ExprTree SimpleTree TermTree factor_step selector_step actual_step desig_step expr_step simple_step term_step
+actual_view = fold-Actual FactorTree SelectorTree ActualTree DesigTree ExprTree SimpleTree TermTree factor_step selector_step actual_step
+    desig_step expr_step simple_step term_step
 
 abbrev pub desig_view : Desig → DesigTree
-desig_view = fold-Desig FactorTree SelectorTree ActualTree DesigTree ExprTree SimpleTree TermTree factor_step selector_step actual_step desig_step expr_step simple_step term_step
+desig_view = fold-Desig FactorTree SelectorTree ActualTree DesigTree ExprTree SimpleTree TermTree factor_step selector_step actual_step
+    desig_step expr_step simple_step term_step
 
 abbrev pub expr_view : Expr → ExprTree
-expr_view = fold-Expr FactorTree SelectorTree ActualTree DesigTree ExprTree SimpleTree TermTree factor_step selector_step actual_step desig_step expr_step simple_step term_step
+expr_view = fold-Expr FactorTree SelectorTree ActualTree DesigTree ExprTree SimpleTree TermTree factor_step selector_step actual_step
+    desig_step expr_step simple_step term_step
 
 abbrev pub simple_view : Simple → SimpleTree
-simple_view = fold-Simple FactorTree SelectorTree ActualTree DesigTree ExprTree SimpleTree TermTree factor_step selector_step actual_step desig_step expr_step simple_step term_step
+simple_view = fold-Simple FactorTree SelectorTree ActualTree DesigTree ExprTree SimpleTree TermTree factor_step selector_step actual_step
+    desig_step expr_step simple_step term_step
 
 abbrev pub term_view : Term → TermTree
-term_view = fold-Term FactorTree SelectorTree ActualTree DesigTree ExprTree SimpleTree TermTree factor_step selector_step actual_step desig_step expr_step simple_step term_step
+term_view = fold-Term FactorTree SelectorTree ActualTree DesigTree ExprTree SimpleTree TermTree factor_step selector_step actual_step
+    desig_step expr_step simple_step term_step
 
 abbrev pub summands_view : List ((AddOp × Place) × Term) → SummandTrees
 summands_view us = summands_of (map (λ u. (u.0, term_view u.1)) us)

@@ -25,7 +25,8 @@ impl Writer {
 
     /// `for i := 1 to 9 do`
     fn for_head(&mut self, x: &Name, from: &Expr, down: bool, to: &Expr) -> Result<(), Memory>
-        ensures { OnOk result (Adds self.old.kinds.items self.new.kinds.items (token.Word words.FOR ∷ token.Name x.now ∷ token.Sign signs.BECOMES ∷ expr_tokens (expr_shape from.now) ++ direction_symbol down ∷ expr_tokens (expr_shape to.now) ++ token.Word words.DO ∷ [])) }
+        ensures { OnOk result (Adds self.old.kinds.items self.new.kinds.items (token.Word words.FOR ∷ token.Name x.now ∷ token.Sign signs.BECOMES ∷ expr_tokens
+            (expr_shape from.now) ++ direction_symbol down ∷ expr_tokens (expr_shape to.now) ++ token.Word words.DO ∷ [])) }
     {
         self.word(word::FOR)?;
         self.name(x)?;
@@ -51,7 +52,8 @@ impl Writer {
 
     /// A designator, a sign and an expression, as in `x := 1`.
     fn with_expr(&mut self, d: &Desig, n: u8, e: &Expr) -> Result<(), Memory>
-        ensures { OnOk result (Adds self.old.kinds.items self.new.kinds.items (desig_tokens (desig_shape d.now) ++ token.Sign n ∷ expr_tokens (expr_shape e.now))) }
+        ensures { OnOk result (Adds self.old.kinds.items self.new.kinds.items
+            (desig_tokens (desig_shape d.now) ++ token.Sign n ∷ expr_tokens (expr_shape e.now))) }
     {
         self.desig(d)?;
         self.sign(n)?;
@@ -60,7 +62,8 @@ impl Writer {
 
     /// `c ? x`
     fn receive(&mut self, d: &Desig, variable: &Desig) -> Result<(), Memory>
-        ensures { OnOk result (Adds self.old.kinds.items self.new.kinds.items (desig_tokens (desig_shape d.now) ++ token.Sign signs.RECEIVE ∷ desig_tokens (desig_shape variable.now))) }
+        ensures { OnOk result (Adds self.old.kinds.items self.new.kinds.items
+            (desig_tokens (desig_shape d.now) ++ token.Sign signs.RECEIVE ∷ desig_tokens (desig_shape variable.now))) }
     {
         self.desig(d)?;
         self.sign(sign::RECEIVE)?;
@@ -69,7 +72,8 @@ impl Writer {
 
     /// `requeue p (1)`
     fn requeue(&mut self, x: &Name, args: &[Actual]) -> Result<(), Memory>
-        ensures { OnOk result (Adds self.old.kinds.items self.new.kinds.items (token.Word words.REQUEUE ∷ token.Name x.now ∷ actuals_tokens (actuals_shape args.now))) }
+        ensures { OnOk result (Adds self.old.kinds.items self.new.kinds.items
+            (token.Word words.REQUEUE ∷ token.Name x.now ∷ actuals_tokens (actuals_shape args.now))) }
     {
         self.word(word::REQUEUE)?;
         self.name(x)?;

@@ -13,7 +13,8 @@ passed : (g : Program) (c : Config) (p : ℕ) → Passes g c p → (owner entry 
     → ArePassed g owner entry values
 passed g c p passes owner entry values about =
     subst (λ (n : ℕ). ArePassed g n entry values) (sym about.owned)
-    (subst (λ (vs : List Value). ArePassed g (number_for g c p about.spot) entry vs) (sym about.passed) (passes about.context about.spot entry about.behind about.given about.next))
+    (subst (λ (vs : List Value). ArePassed g (number_for g c p about.spot) entry vs) (sym about.passed)
+    (passes about.context about.spot entry about.behind about.given about.next))
 
 located : (g : Program) (c : Config) (p : ℕ) (given : List Argument) (k : ℕ) (v : Spot) → slice_get given k ≡ Some (by_reference v)
     → get_or (all_passed g c p given) k (ordinal (pos 0)) ≡ points (location_for g c p v)

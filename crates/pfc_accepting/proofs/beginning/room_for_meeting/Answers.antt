@@ -9,5 +9,6 @@ returns-clause-other c =
 
 pub returns-clause-own : goal.returns-clause-own
 returns-clause-own c =
-    own_room_so c.args.state.now _ c.args.q c.index_mut.result.now c.make_room.new.activity c.index_mut.ensures.value c.make_room.ensures.same c.make_room.ensures.doing
+    own_room_so c.args.state.now _ c.args.q c.index_mut.result.now c.make_room.new.activity c.index_mut.ensures.value
+    c.make_room.ensures.same c.make_room.ensures.doing
     refl refl

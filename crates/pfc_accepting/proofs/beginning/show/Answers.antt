@@ -15,7 +15,8 @@ returns c =
     let kept = c.end_action.ensures.kept in
     shown_so c.args.state.now c.end_action.new.self c.args.p c.args.hand found z (set c.args.state.now.activities.items c.args.p z) c.line_of-line.result
     c.index_mut-activity.ensures.value
-    (λ (t : Tables). ap (λ (h : Hand). (let r : Shown = record (activity_shown t (at_work found at.Rest)) { hand = h } in r)) (hand_still t found.doing at.Rest c.args.hand))
+    (λ (t : Tables). ap (λ (h : Hand). (let r : Shown = record (activity_shown t (at_work found at.Rest)) { hand = h } in r))
+    (hand_still t found.doing at.Rest c.args.hand))
     refl c.line_of-line.ensures c.end_action.ensures.activity
     (record {
       semaphores = kept.semaphores;

@@ -13,4 +13,5 @@ pub returns-in-Err-clause-err : goal.returns-in-Err-clause-err
 returns-in-Err-clause-err c = λ c' before.
     c.put_back.ensures c.args.source.now c'
     (subst (λ (x : Deed). IsBeforeDeed c.args.source.now c.perform.new.state c' c.args.p x) (sym c.in-Err.ensures.given)
-    (still_before c.args.source.now c.next.new.state c.perform.new.state c' c.args.p c.in_ok-deed.deed (c.in_ok-deed.ensures.ok c' before) c.in-Err.ensures.err))
+    (still_before c.args.source.now c.next.new.state c.perform.new.state c' c.args.p c.in_ok-deed.deed
+    (c.in_ok-deed.ensures.ok c' before) c.in-Err.ensures.err))

@@ -8,5 +8,6 @@ use Rattle.pfc_acts_tests.proofs.programs.message.Goals as goal
 
 pub run_of-requires-clause-may : goal.run_of-requires-clause-may
 run_of-requires-clause-may c =
-    subst (λ (image : PlainImage). may_run image (0 ∷ 0 ∷ 0 ∷ 1 ∷ 2 ∷ 2 ∷ 1 ∷ 1 ∷ 1 ∷ 0 ∷ []) (by_turn 0) (start_machine image [] 1) ≡ true) (sym c.in_ok-image.ensures)
+    subst (λ (image : PlainImage). may_run image (0 ∷ 0 ∷ 0 ∷ 1 ∷ 2 ∷ 2 ∷ 1 ∷ 1 ∷ 1 ∷ 0 ∷ []) (by_turn 0)
+    (start_machine image [] 1) ≡ true) (sym c.in_ok-image.ensures)
     message_runs

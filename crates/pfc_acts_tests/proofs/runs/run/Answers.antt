@@ -12,5 +12,6 @@ loop-p-preserved c =
     let picks : List ℕ = c.args.picks.now in
     let k : ℕ = c.loop-p.p-index in
     subst (λ (m : Machine). may_run image (drop (k + 1) picks) c.turn.new.picker m ≡ true) (sym c.in_ok-end.ensures.machine)
-    (subst (λ (x : Picking). may_run image (drop (k + 1) picks) x (next_machine image c.loop-p.picker (get_or picks k 0) c.loop-p.machine) ≡ true) (sym c.in_ok-end.ensures.picker)
+    (subst (λ (x : Picking). may_run image (drop (k + 1) picks) x (next_machine image c.loop-p.picker (get_or picks k 0) c.loop-p.machine) ≡ true)
+    (sym c.in_ok-end.ensures.picker)
     (other_turns image picks k c.loop-p.picker c.loop-p.machine c.loop-p-test.true c.loop-p.invariant))

@@ -15,7 +15,8 @@ returns-clause-machine c =
     let m : Machine = c.args.machine.now in
     let start : Machine = record c.settle.new.machine { world = c.begin-r.new.self } in
     first_of _ _ c.act.result
-    (turned (plain_image c.args.image.now) c.args.picker.now c.act.new.picker c.args.p c.begin-r.result.number m start c.act.new.machine c.args.out.now c.act.new.out
+    (turned (plain_image c.args.image.now) c.args.picker.now c.act.new.picker c.args.p c.begin-r.result.number m start
+    c.act.new.machine c.args.out.now c.act.new.out
     c.act.result c.begin-r.ensures.number
     (begins c.args.p m c.settle.new.machine c.begin-r.new.self c.settle.ensures c.begin-r.ensures.world) c.requires c.act.ensures)
 
@@ -24,6 +25,7 @@ returns-clause-picker c =
     let m : Machine = c.args.machine.now in
     let start : Machine = record c.settle.new.machine { world = c.begin-r.new.self } in
     second_of _ _ c.act.result
-    (turned (plain_image c.args.image.now) c.args.picker.now c.act.new.picker c.args.p c.begin-r.result.number m start c.act.new.machine c.args.out.now c.act.new.out
+    (turned (plain_image c.args.image.now) c.args.picker.now c.act.new.picker c.args.p c.begin-r.result.number m start
+    c.act.new.machine c.args.out.now c.act.new.out
     c.act.result c.begin-r.ensures.number
     (begins c.args.p m c.settle.new.machine c.begin-r.new.self c.settle.ensures c.begin-r.ensures.world) c.requires c.act.ensures)

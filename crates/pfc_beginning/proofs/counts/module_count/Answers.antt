@@ -17,10 +17,12 @@ loop-k-preserved c =
     elim c.if-is_of_kind.branch [
       | then-is_of_kind w ↦
           let yes = ap {B = ℕ} (λ (b : Bool). if b then 1 else 0) w.if-is_of_kind.true in
-          let whole : c.if-is_of_kind.count ≡ of_kind resource (take (c.loop-k.k + 1) modules) = omega (arith, next, one, yes, w.count-is, c.loop-k.invariant.0) in
+          let whole : c.if-is_of_kind.count ≡ of_kind resource (take (c.loop-k.k + 1) modules) =
+          omega (arith, next, one, yes, w.count-is, c.loop-k.invariant.0) in
           (whole, omega (arith, w.count-is, c.loop-k.invariant.1))
       | else-is_of_kind w ↦
           let no = ap {B = ℕ} (λ (b : Bool). if b then 1 else 0) w.if-is_of_kind.false in
-          let whole : c.if-is_of_kind.count ≡ of_kind resource (take (c.loop-k.k + 1) modules) = omega (arith, next, one, no, w.count-is, c.loop-k.invariant.0) in
+          let whole : c.if-is_of_kind.count ≡ of_kind resource (take (c.loop-k.k + 1) modules) =
+          omega (arith, next, one, no, w.count-is, c.loop-k.invariant.0) in
           (whole, omega (arith, w.count-is, c.loop-k.invariant.1))
     ]

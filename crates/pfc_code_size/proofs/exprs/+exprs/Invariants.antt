@@ -8,19 +8,23 @@ use Rattle.pfc_code_size.proofs.exprs.+exprs.Given as goal
 
 abbrev pub invariant-summands-loop-u : goal.invariant-summands-loop-u
 invariant-summands-loop-u l =
-    l.n + summands_size l.env.scopes.now (env_view l.env) (summands_view (drop l.u-index l.us)) ≡ l.fn.count + summands_size l.env.scopes.now (env_view l.env) (summands_view l.us)
+    l.n + summands_size l.env.scopes.now (env_view l.env) (summands_view (drop l.u-index l.us)) ≡ l.fn.count +
+    summands_size l.env.scopes.now (env_view l.env) (summands_view l.us)
 
 abbrev pub invariant-multipliers-loop-f : goal.invariant-multipliers-loop-f
 invariant-multipliers-loop-f l =
-    l.n + multipliers_size l.env.scopes.now (env_view l.env) (multipliers_view (drop l.f-index l.ms)) ≡ l.fn.count + multipliers_size l.env.scopes.now (env_view l.env) (multipliers_view l.ms)
+    l.n + multipliers_size l.env.scopes.now (env_view l.env) (multipliers_view (drop l.f-index l.ms)) ≡ l.fn.count + multipliers_size l.env.scopes.now
+    (env_view l.env) (multipliers_view l.ms)
 
 abbrev pub invariant-selectors-loop-s : goal.invariant-selectors-loop-s
 invariant-selectors-loop-s l =
-    l.n + selectors_size l.env.scopes.now (env_view l.env) (selectors_view (drop l.s-index l.ss)) ≡ l.fn.count + selectors_size l.env.scopes.now (env_view l.env) (selectors_view l.ss)
+    l.n + selectors_size l.env.scopes.now (env_view l.env) (selectors_view (drop l.s-index l.ss)) ≡ l.fn.count +
+    selectors_size l.env.scopes.now (env_view l.env) (selectors_view l.ss)
 
 abbrev pub invariant-indices-loop-e : goal.invariant-indices-loop-e
 invariant-indices-loop-e l =
-    l.n + indices_size l.env.scopes.now (env_view l.env) (exprs_view (drop l.e-index l.es)) ≡ l.fn.count + indices_size l.env.scopes.now (env_view l.env) (exprs_view l.es)
+    l.n + indices_size l.env.scopes.now (env_view l.env) (exprs_view (drop l.e-index l.es)) ≡ l.fn.count +
+    indices_size l.env.scopes.now (env_view l.env) (exprs_view l.es)
 
 abbrev pub invariant-arguments-loop-a : goal.invariant-arguments-loop-a
 invariant-arguments-loop-a l =

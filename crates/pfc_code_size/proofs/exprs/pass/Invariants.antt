@@ -7,4 +7,5 @@ use Rattle.pfc_code_size.proofs.exprs.pass.Given as goal
 
 abbrev pub invariant-loop-a : goal.invariant-loop-a
 invariant-loop-a l =
-    l.n + args_size l.env.scopes.now (env_view l.env) l.left (actuals_view (drop l.a-index l.args)) ≡ l.fn.count + args_size l.env.scopes.now (env_view l.env) l.fn.formals (actuals_view l.args)
+    l.n + args_size l.env.scopes.now (env_view l.env) l.left (actuals_view (drop l.a-index l.args)) ≡ l.fn.count + args_size l.env.scopes.now
+    (env_view l.env) l.fn.formals (actuals_view l.args)

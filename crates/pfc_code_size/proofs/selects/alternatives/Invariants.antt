@@ -6,4 +6,5 @@ use Rattle.pfc_code_size.proofs.selects.alternatives.Given as goal
 
 abbrev pub invariant-loop-a : goal.invariant-loop-a
 invariant-loop-a l =
-    l.n + alternatives_size l.env.scopes.now (env_view l.env) (alts_view (drop l.a-index l.alts)) ≡ l.fn.count + alternatives_size l.env.scopes.now (env_view l.env) (alts_view l.alts)
+    l.n + alternatives_size l.env.scopes.now (env_view l.env) (alts_view (drop l.a-index l.alts)) ≡ l.fn.count +
+    alternatives_size l.env.scopes.now (env_view l.env) (alts_view l.alts)

@@ -10,7 +10,8 @@ go_otherwise-requires-clause-unmatched c =
 pub returns-then-matched-eq0-clause-ok : goal.returns-then-matched-eq0-clause-ok
 returns-then-matched-eq0-clause-ok c =
     otherwise_chosen c.args.source.now c.args.state.now c.go_otherwise.new.state c.args.picker.now c.args.p c.args.select c.args.arms.now c.go_otherwise.result
-    c.requires.arms (none_matched (matched c.args.state.now.world.rows c.args.p c.args.arms.now) c.matches-matched.result c.matches-matched.ensures c.if-matched-eq0.true)
+    c.requires.arms (none_matched (matched c.args.state.now.world.rows c.args.p c.args.arms.now) c.matches-matched.result
+    c.matches-matched.ensures c.if-matched-eq0.true)
     (c.go_otherwise.ensures c.args.source.now)
 
 pub returns-in-Ok-clause-ok : goal.returns-in-Ok-clause-ok

@@ -11,12 +11,14 @@ take_way-requires-clause-room c =
 
 pub pass-requires-clause-may : goal.pass-requires-clause-may
 pass-requires-clause-may c =
-    may_alike c.room_at.new.state c.take_way.new.state c.args.p (may_act_still c.args.state.now c.room_at.new.state c.args.p c.args.q c.requires.may c.room_at.ensures.same)
+    may_alike c.room_at.new.state c.take_way.new.state c.args.p
+    (may_act_still c.args.state.now c.room_at.new.state c.args.p c.args.q c.requires.may c.room_at.ensures.same)
     c.take_way.ensures.alike
 
 pub pass-requires-clause-waits : goal.pass-requires-clause-waits
 pass-requires-clause-waits c =
-    waits_under c.args.state.now c.room_at.new.state c.take_way.new.state c.args.p c.args.q c.args.way c.room_at.ensures.same c.take_way.ensures c.requires.waits
+    waits_under c.args.state.now c.room_at.new.state c.take_way.new.state c.args.p c.args.q c.args.way
+    c.room_at.ensures.same c.take_way.ensures c.requires.waits
 
 pub pass-requires-clause-room : goal.pass-requires-clause-room
 pass-requires-clause-room c =

@@ -17,6 +17,9 @@ returns-in-Ok c =
 pub returns-in-Err : goal.returns-in-Err
 returns-in-Err c =
     let same = to_z-of_z w64 c.args.n c.ranges.n in
-    draws_stop c.args.state.now (record c.args.state.now { draws = c.draw.new.self }) c.end_in_fault.new.self c.args.p c.args.n c.in-Err.fault c.end_in_fault.result
+    draws_stop c.args.state.now (record c.args.state.now {
+      draws =
+          c.draw.new.self;
+    }) c.end_in_fault.new.self c.args.p c.args.n c.in-Err.fault c.end_in_fault.result
     refl refl refl (c.in-Err.ensures.answer ∙ ap (λ (z : ℤ). drawn c.args.state.now.draws z) same)
     (c.in-Err.ensures.words ∙ ap (λ (z : ℤ). after_draw c.args.state.now.draws z) same) c.end_in_fault.ensures

@@ -13,7 +13,8 @@ abbrev pub invariant-loop-next : goal.invariant-loop-next
 invariant-loop-next l = record {
   main : l.r.number ≡ 0;
   some : (g : Program) × (values : List Value) × (n : Next) × IsProgram g (plain_image l.image) × IsChecked g × IsBefore g l.store values n;
-  all : (g : Program) (values : List Value) (n : Next) → IsProgram g (plain_image l.image) → IsChecked g → IsBefore g l.fn.store values n → IsBefore g l.store values n;
+  all : (g : Program) (values : List Value) (n : Next) → IsProgram g (plain_image l.image) → IsChecked g →
+      IsBefore g l.fn.store values n → IsBefore g l.store values n;
 }
 
 abbrev pub decreases-loop-next : goal.decreases-loop-next

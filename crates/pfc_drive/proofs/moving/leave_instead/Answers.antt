@@ -7,5 +7,6 @@ use Rattle.pfc_drive.proofs.moving.leave_instead.Goals as goal
 
 pub returns : goal.returns
 returns c =
-    instead_is c.args.store.now c.cut.new.self c.leave_more.new.store c.args.p c.args.v (drop 1 (operands_of c.args.store.now c.args.p)) c.requires.process c.cut.ensures.cut
+    instead_is c.args.store.now c.cut.new.self c.leave_more.new.store c.args.p c.args.v
+    (drop 1 (operands_of c.args.store.now c.args.p)) c.requires.process c.cut.ensures.cut
     (c.leave_more.ensures ∙ ap (λ (x : ℤ). passed c.cut.new.self c.args.p (x ∷ operands_of c.cut.new.self c.args.p)) (to_z-of_z w64 c.args.v c.ranges.v))

@@ -11,19 +11,22 @@ returns-in-Reads c =
 pub returns-in-Writes : goal.returns-in-Writes
 returns-in-Writes c =
     IfOk-weaker c.touch_for-in-Writes.result _ _
-    (λ accesses told. writes_so c.args.state.now c.args.p c.args.deed.now c.args.picker.now c.in-Writes.spot c.in-Writes.field-1 accesses.items c.in-Writes.is told)
+    (λ accesses told. writes_so c.args.state.now c.args.p c.args.deed.now c.args.picker.now c.in-Writes.spot
+    c.in-Writes.field-1 accesses.items c.in-Writes.is told)
     c.touch_for-in-Writes.ensures
 
 pub returns-in-Inputs : goal.returns-in-Inputs
 returns-in-Inputs c =
     IfOk-weaker c.touch_for-in-Inputs.result _ _
-    (λ accesses told. inputs_so c.args.state.now c.args.p c.args.deed.now c.args.picker.now c.in-Inputs.field-0 c.in-Inputs.spot accesses.items c.in-Inputs.is told)
+    (λ accesses told. inputs_so c.args.state.now c.args.p c.args.deed.now c.args.picker.now c.in-Inputs.field-0
+    c.in-Inputs.spot accesses.items c.in-Inputs.is told)
     c.touch_for-in-Inputs.ensures
 
 pub returns-in-Calls : goal.returns-in-Calls
 returns-in-Calls c =
     IfOk-weaker c.callee_writes.result _ _
-    (λ accesses told. calls_so c.args.state.now c.args.p c.args.deed.now c.args.picker.now c.in-Calls.callee c.in-Calls.args c.deref.result.now accesses.items c.in-Calls.is c.deref.ensures.value told)
+    (λ accesses told. calls_so c.args.state.now c.args.p c.args.deed.now c.args.picker.now c.in-Calls.callee c.in-Calls.args c.deref.result.now accesses.items
+    c.in-Calls.is c.deref.ensures.value told)
     c.callee_writes.ensures
 
 pub returns-in-Meets : goal.returns-in-Meets

@@ -12,7 +12,8 @@ use Rattle.pfc_events.proofs.choosing.taken.Goals as goal
 
 pub returns-in-Some : goal.returns-in-Some
 returns-in-Some c =
-    taken_so c.args.state.now c.args.p c.index.result.now c.args.select.now c.in_ok-arms.arms.items c.args.picker.now (Some c.in-Some.place) c.communication_at.result
+    taken_so c.args.state.now c.args.p c.index.result.now c.args.select.now c.in_ok-arms.arms.items c.args.picker.now
+    (Some c.in-Some.place) c.communication_at.result
     c.index.ensures
     (c.in_ok-arms.ensures ∙ ap (λ (l : List Open). arms_in (store_view c.args.state.now.store) c.index.result.now.display (opens_view l)) c.deref.ensures.value)
     (sym c.in-Some.is ∙ c.place_of.ensures

@@ -6,7 +6,8 @@ use Rattle.pfc_events.proofs.sides.call_writes.Goals as goal
 
 pub returns-then-not-is_accepting : goal.returns-then-not-is_accepting
 returns-then-not-is_accepting c =
-    called_apart c.args.state.now c.args.p c.in_ok-q.q c.args.entry c.index-own.result.now c.args.spot.now c.args.args.now c.new.result.items c.index-own.ensures
+    called_apart c.args.state.now c.args.p c.in_ok-q.q c.args.entry c.index-own.result.now c.args.spot.now
+    c.args.args.now c.new.result.items c.index-own.ensures
     c.in_ok-q.ensures (sym c.if-not-is_accepting.true ∙ c.is_accepting.ensures.answer) c.new.ensures.items
 
 pub returns : goal.returns

@@ -12,7 +12,8 @@ pub returns : goal.returns
 returns c =
     IfOk-weaker c.writes_between.result _ _
     (λ accesses written.
-    written_with c.args.state.now c.args.p c.in-Some-partner_of.q c.index-own.result.now c.index-partner.result.now c.args.offer.now c.in-Some.arm accesses.items
+    written_with c.args.state.now c.args.p c.in-Some-partner_of.q c.index-own.result.now c.index-partner.result.now
+    c.args.offer.now c.in-Some.arm accesses.items
     c.index-own.ensures (omega arith) c.index-partner.ensures c.requires.ready c.in-Some-partner_of.ensures.waits (sym c.in-Some.is ∙ c.in_ok-arm.ensures)
     (sym c.in-Some-partner_of.is ∙ c.partner_of.ensures.partner) written)
     c.writes_between.ensures

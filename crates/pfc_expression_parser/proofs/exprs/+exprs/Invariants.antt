@@ -84,7 +84,8 @@ decreases-wide l = 40 * l.levels + 11
 abbrev pub invariant-some_summands-loop-op : goal.invariant-some_summands-loop-op
 invariant-some_summands-loop-op l = record {
   shorter : length l.rest ≤ length l.tokens;
-  turning : Turning as_add_op (summand_behind (factor_at l.levels)) (map (λ u. (u.0, term_view u.1)) l.summands.items) l.rest (many as_add_op (summand_behind (factor_at l.levels)) l.tokens);
+  turning : Turning as_add_op (summand_behind (factor_at l.levels)) (map (λ u. (u.0, term_view u.1)) l.summands.items) l.rest
+      (many as_add_op (summand_behind (factor_at l.levels)) l.tokens);
 }
 
 abbrev pub decreases-some_summands-loop-op : goal.decreases-some_summands-loop-op
@@ -93,7 +94,8 @@ decreases-some_summands-loop-op l = length l.rest
 abbrev pub invariant-some_multipliers-loop-op : goal.invariant-some_multipliers-loop-op
 invariant-some_multipliers-loop-op l = record {
   shorter : length l.rest ≤ length l.tokens;
-  turning : Turning as_mul_op (multiplier_behind (factor_at l.levels)) (map (λ m. (m.0, factor_view m.1)) l.multipliers.items) l.rest (many as_mul_op (multiplier_behind (factor_at l.levels)) l.tokens);
+  turning : Turning as_mul_op (multiplier_behind (factor_at l.levels)) (map (λ m. (m.0, factor_view m.1)) l.multipliers.items) l.rest
+      (many as_mul_op (multiplier_behind (factor_at l.levels)) l.tokens);
 }
 
 abbrev pub decreases-some_multipliers-loop-op : goal.decreases-some_multipliers-loop-op
@@ -102,7 +104,8 @@ decreases-some_multipliers-loop-op l = length l.rest
 abbrev pub invariant-some_selectors-loop-index : goal.invariant-some_selectors-loop-index
 invariant-some_selectors-loop-index l = record {
   shorter : length l.rest ≤ length l.tokens;
-  turning : Turning as_selector (λ o. selector_behind (expr_at l.levels) o.0 o.1) (map selector_view l.selectors.items) l.rest (many as_selector (λ o. selector_behind (expr_at l.levels) o.0 o.1) l.tokens);
+  turning : Turning as_selector (λ o. selector_behind (expr_at l.levels) o.0 o.1) (map selector_view l.selectors.items) l.rest
+      (many as_selector (λ o. selector_behind (expr_at l.levels) o.0 o.1) l.tokens);
 }
 
 abbrev pub decreases-some_selectors-loop-index : goal.decreases-some_selectors-loop-index
@@ -111,7 +114,8 @@ decreases-some_selectors-loop-index l = length l.rest
 abbrev pub invariant-exprs_behind-loop-behind : goal.invariant-exprs_behind-loop-behind
 invariant-exprs_behind-loop-behind l = record {
   shorter : length l.rest ≤ length l.tokens;
-  turning : Turning (as_sign COMMA) (λ t. expr_at l.levels) (map expr_view l.exprs.items) l.rest (many_onto (expr_view l.fn.first ∷ []) (as_sign COMMA) (λ t. expr_at l.levels) l.tokens);
+  turning : Turning (as_sign COMMA) (λ t. expr_at l.levels) (map expr_view l.exprs.items) l.rest
+      (many_onto (expr_view l.fn.first ∷ []) (as_sign COMMA) (λ t. expr_at l.levels) l.tokens);
 }
 
 abbrev pub decreases-exprs_behind-loop-behind : goal.decreases-exprs_behind-loop-behind
@@ -120,7 +124,8 @@ decreases-exprs_behind-loop-behind l = length l.rest
 abbrev pub invariant-actuals_behind-loop-behind : goal.invariant-actuals_behind-loop-behind
 invariant-actuals_behind-loop-behind l = record {
   shorter : length l.rest ≤ length l.tokens;
-  turning : Turning (as_sign COMMA) (λ t. actual_with (expr_at l.levels)) (map actual_view l.args.items) l.rest (many_onto (actual_view l.fn.first ∷ []) (as_sign COMMA) (λ t. actual_with (expr_at l.levels)) l.tokens);
+  turning : Turning (as_sign COMMA) (λ t. actual_with (expr_at l.levels)) (map actual_view l.args.items) l.rest (many_onto (actual_view l.fn.first ∷ [])
+      (as_sign COMMA) (λ t. actual_with (expr_at l.levels)) l.tokens);
 }
 
 abbrev pub decreases-actuals_behind-loop-behind : goal.decreases-actuals_behind-loop-behind

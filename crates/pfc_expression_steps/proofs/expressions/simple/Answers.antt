@@ -13,4 +13,5 @@ returns-in-None c = λ t line w.
 pub returns-in-Some : goal.returns-in-Some
 returns-in-Some c = λ t line w.
     let here = context (env_view c.args.site.env) line in
-    c.signed.ensures t here w ∙ simple_as here c.args.s.now (Some c.in-Some.sign) c.as_slice-in-Some.result.now (awaits_of w) c.in-Some.is c.as_slice-in-Some.ensures.value
+    c.signed.ensures t here w ∙ simple_as here c.args.s.now (Some c.in-Some.sign) c.as_slice-in-Some.result.now
+    (awaits_of w) c.in-Some.is c.as_slice-in-Some.ensures.value

@@ -9,4 +9,5 @@ use Rattle.pfc_expression_steps.proofs.factors.evaluated.Goals as goal
 pub returns-in-len1-up : goal.returns-in-len1-up
 returns-in-len1-up c = λ s here w.
     let u = apply (function_view c.args.f) c.args.t (awaits_of w) in
-    first_evaluated here c.args.args.now c.first-item.result u (from_value here u) (expr_view c.expression.result.now) c.in-len1-up.len_at_least c.first-item.is c.expression.ensures
+    first_evaluated here c.args.args.now c.first-item.result u (from_value here u)
+    (expr_view c.expression.result.now) c.in-len1-up.len_at_least c.first-item.is c.expression.ensures

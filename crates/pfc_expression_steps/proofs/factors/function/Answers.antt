@@ -11,4 +11,5 @@ pub returns-in-Abs : goal.returns-in-Abs
 returns-in-Abs c = λ t line w.
     let here = context (env_view c.args.site.env) line in
     c.evaluated.ensures t here w
-    ∙ evaluated_step here (function_view c.args.f) (actuals_view c.args.args.now) (awaits_of w) c.first_type.result c.first_type.ensures (evaluated_kind c.args.f c.in-Abs.is)
+    ∙ evaluated_step here (function_view c.args.f) (actuals_view c.args.args.now)
+    (awaits_of w) c.first_type.result c.first_type.ensures (evaluated_kind c.args.f c.in-Abs.is)

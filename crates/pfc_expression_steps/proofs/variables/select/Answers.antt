@@ -14,5 +14,6 @@ pub returns-in-len1-up-clause-next : goal.returns-in-len1-up-clause-next
 returns-in-len1-up-clause-next c = λ t line w.
     let here = context (env_view c.args.site.env) line in
     let over = goal_over w c.args.goal in
-    subst (λ (ss : SelectorTrees). reached_ahead t here w ss c.enter.result ≡ from_selectors here (typed_spot_view c.args.spot) ss over (from_location here over))
+    subst (λ (ss : SelectorTrees). reached_ahead t here w ss c.enter.result ≡ from_selectors here
+    (typed_spot_view c.args.spot) ss over (from_location here over))
     (selectors_first c.args.ss.now c.first-item.result c.in-len1-up.len_at_least c.first-item.is) (c.enter.ensures.next t line w)

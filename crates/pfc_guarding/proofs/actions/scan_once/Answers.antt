@@ -13,7 +13,8 @@ returns-in-Some-clause-ok c =
 pub returns-in-Some-own-clause-ok : goal.returns-in-Some-own-clause-ok
 returns-in-Some-own-clause-ok c =
     if_ok c.go_under-in-Some-own.result _ _
-    (λ d. tries_own c.args.state.now c.go_under-in-Some-own.new.state c.args.p c.args.scan c.in-Some-own.bar d c.requires.ready (subst (IsNext c.args.state.now c.args.scan.resource c.args.scan.after) c.in-None.is c.next_tried.ensures)
+    (λ d. tries_own c.args.state.now c.go_under-in-Some-own.new.state c.args.p c.args.scan c.in-Some-own.bar d c.requires.ready
+    (subst (IsNext c.args.state.now c.args.scan.resource c.args.scan.after) c.in-None.is c.next_tried.ensures)
     c.in-Some-own.is)
     c.go_under-in-Some-own.ensures.ok
 

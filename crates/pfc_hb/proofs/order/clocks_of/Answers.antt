@@ -22,7 +22,8 @@ loop-place-preserved c =
     let before = c.loop-place.lasts.places.entries in
     let after = c.put.new.self.places.entries in
     let puts : PutsIn (λ other. has_thing other (event_at events place)) place before after =
-    subst (λ (things : List Thing). PutsIn (λ other. list_any (is_same_thing other) things) place before after) (c.as_slice.ensures ∙ ap (λ e. e.things) it) c.in_ok-put.ensures in
+    subst (λ (things : List Thing). PutsIn (λ other. list_any (is_same_thing other) things) place before after) (c.as_slice.ensures ∙
+    ap (λ e. e.things) it) c.in_ok-put.ensures in
     record {
       each = rw more (length_push clocks new ∙ ap (λ n. n + 1) long);
       clocks = below_more _ _

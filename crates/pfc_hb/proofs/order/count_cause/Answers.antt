@@ -17,7 +17,8 @@ returns-then-count-earlier c =
     let known = subst (λ v. IsClock events slots.of_events.items slots.width i v) (sym its) (c.requires.clocks i c.requires.earlier) in
     let greater = c.join.ensures.greater in
     record {
-      gathered = gathers-joined events slots.of_events.items slots.width c.args.place i clock other joint c.requires.before c.requires.behind known c.join.ensures.wide greater;
+      gathered = gathers-joined events slots.of_events.items slots.width c.args.place i clock other joint c.requires.before
+          c.requires.behind known c.join.ensures.wide greater;
       kept = joins-kept events slots.of_events.items slots.width clock other joint greater;
       counted = joins-counted events slots.of_events.items slots.width i clock other joint known greater;
     }

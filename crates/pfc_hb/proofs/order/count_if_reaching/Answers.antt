@@ -9,5 +9,6 @@ count_cause-requires-clause-before c =
     let slots = c.args.slots.now in
     let i = c.args.earlier in
     let j = c.args.place in
-    let told = test-read reaches events i j c.index-events-earlier.result c.index-events-place.result c.reaches_process.result (omega arith) c.requires.place c.index-events-earlier.is c.index-events-place.is c.reaches_process.ensures in
+    let told = test-read reaches events i j c.index-events-earlier.result c.index-events-place.result c.reaches_process.result
+    (omega arith) c.requires.place c.index-events-earlier.is c.index-events-place.is c.reaches_process.ensures in
     reaches-before events slots.of_events.items slots.width i j c.requires.earlier c.requires.place (sym told ∙ c.if-reaches_process.true)

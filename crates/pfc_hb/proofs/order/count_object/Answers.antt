@@ -22,4 +22,5 @@ returns-in-Some-clause-counted c =
     let j = c.args.place in
     let last : IsLastWith events thing j c.in-Some.earlier =
     subst (λ o. MatchOption o (NoneWith events thing 0 j) (IsLastWith events thing j)) (sym c.of.ensures ∙ c.in-Some.is) (c.requires.lasts thing) in
-    object-counted events slots.of_events.items slots.width thing j c.in-Some.earlier c.count_cause.new.clock c.requires.place last c.count_cause.ensures.gathered c.count_cause.ensures.counted
+    object-counted events slots.of_events.items slots.width thing j c.in-Some.earlier c.count_cause.new.clock c.requires.place last
+    c.count_cause.ensures.gathered c.count_cause.ensures.counted

@@ -8,5 +8,6 @@ abbrev pub invariant-loop-thing : goal.invariant-loop-thing
 invariant-loop-thing l = record {
   gathered : Gathers l.events l.slots.of_events.items l.slots.width l.place l.clock;
   kept : Keeps l.slots.of_events.items l.initial.clock l.clock;
-  so_far : (m : ℕ) → m < l.thing-index → (k : ℕ) → k < l.place → has_thing (get_or l.thing-items m (Semaphore 0)) (event_at l.events k) ≡ true → Has l.slots.of_events.items l.clock k;
+  so_far : (m : ℕ) → m < l.thing-index → (k : ℕ) → k < l.place →
+      has_thing (get_or l.thing-items m (Semaphore 0)) (event_at l.events k) ≡ true → Has l.slots.of_events.items l.clock k;
 }

@@ -10,5 +10,6 @@ returns-then-is_empty c =
     let i = c.args.first in
     let it = get_or_read events i c.index-rows-first.result c.requires.first c.index-rows-first.is no_event in
     let none : c.as_slice.result.now ≡ [] = nil_from_length c.as_slice.result.now (eqb-true _ _ (sym c.is_empty.ensures ∙ c.if-is_empty.true)) in
-    let alone : (event_at events i).accesses ≡ [] = ap (λ e. e.accesses) (sym it) ∙ ap (λ e. e.accesses) c.index-rows-first.is ∙ sym c.as_slice.ensures ∙ none in
+    let alone : (event_at events i).accesses ≡ [] = ap (λ e. e.accesses) (sym it) ∙
+    ap (λ e. e.accesses) c.index-rows-first.is ∙ sym c.as_slice.ensures ∙ none in
     rw (races_with-no_accesses events i (length events) alone) (sym (append-nil c.args.races.now.items))

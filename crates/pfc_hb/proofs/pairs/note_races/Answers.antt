@@ -31,6 +31,7 @@ loop-second-preserved c =
     record {
       room = length-set races end (race_at i j) ∙ c.loop-second.invariant.room;
       few = omega (arith, one-at-most marked n is);
-      noted = races_with-step events i j (take c.args.start c.args.races.now) (take end races) (take (end + n) later) marked (omega arith) told c.loop-second.invariant.noted
+      noted = races_with-step events i j (take c.args.start c.args.races.now) (take end races) (take (end + n) later) marked
+          (omega arith) told c.loop-second.invariant.noted
           (note-step races end (race_at i j) marked n (omega arith) is);
     }

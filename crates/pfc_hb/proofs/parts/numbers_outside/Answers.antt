@@ -13,7 +13,8 @@ loop-depth-preserved c =
       | in-Some+in_ok-push w ↦ ap (λ v. v.items) w.numbers-is ∙ w.in_ok-push.ensures.items ∙ sym (ap (λ o. now ++ option_to_list o) w.in-Some.is)
       | in_default w ↦ ap (λ v. v.items) w.numbers-is ∙ sym (append-nil now) ∙ sym (ap (λ o. now ++ option_to_list o) w.in_default.is)
     ] in
-    fronts-more c.args.parts.now.keys c.args.spot.now c.loop-depth.depth found now c.match-number_at.numbers.items c.number_at.ensures c.loop-depth.invariant added
+    fronts-more c.args.parts.now.keys c.args.spot.now c.loop-depth.depth found now c.match-number_at.numbers.items
+    c.number_at.ensures c.loop-depth.invariant added
 
 pub returns : goal.returns
 returns c =

@@ -28,21 +28,26 @@ loop-access-preserved c =
     let lt : k < length accesses = omega (arith, ap length c.as_slice-access-items.ensures) in
     record {
       sizes_at = same_sizes-trans c.args.at.now c.loop-access.at c.put_own.new.users c.loop-access.invariant.sizes_at c.put_own.ensures.sizes;
-      sizes_within = same_sizes-trans c.args.within.now c.loop-access.within c.put_within.new.within c.loop-access.invariant.sizes_within c.in_ok-put_within.ensures.sizes;
+      sizes_within = same_sizes-trans c.args.within.now c.loop-access.within c.put_within.new.within
+          c.loop-access.invariant.sizes_within c.in_ok-put_within.ensures.sizes;
       at = adds_all-more parts is_same_spot c.args.place k accesses a c.args.at.now c.loop-access.at c.put_own.new.users lt c.loop-access.invariant.at
           (subst (λ (x : Access). Adds parts (is_same_spot x.spot) c.args.place x.write c.loop-access.at c.put_own.new.users) is put);
-      within = adds_all-more parts lies_in c.args.place k accesses a c.args.within.now c.loop-access.within c.put_within.new.within lt c.loop-access.invariant.within
-          (subst (λ (x : Access). Adds parts (lies_in x.spot) c.args.place x.write c.loop-access.within c.put_within.new.within) is c.in_ok-put_within.ensures.put);
+      within = adds_all-more parts lies_in c.args.place k accesses a c.args.within.now c.loop-access.within
+          c.put_within.new.within lt c.loop-access.invariant.within
+          (subst (λ (x : Access). Adds parts
+          (lies_in x.spot) c.args.place x.write c.loop-access.within c.put_within.new.within) is c.in_ok-put_within.ensures.put);
     }
 
 pub returns-clause-at : goal.returns-clause-at
 returns-clause-at c =
     let accesses = c.args.event.now.accesses in
-    let all : take c.loop-access.access-index accesses ≡ accesses = take_all c.loop-access.access-index accesses (omega (arith, ap length c.as_slice-access-items.ensures)) in
+    let all : take c.loop-access.access-index accesses ≡ accesses =
+    take_all c.loop-access.access-index accesses (omega (arith, ap length c.as_slice-access-items.ensures)) in
     subst (λ (l : List Access). AddsAll c.args.parts.now.keys is_same_spot c.args.place l c.args.at.now c.loop-access.at) all c.loop-access.invariant.at
 
 pub returns-clause-within : goal.returns-clause-within
 returns-clause-within c =
     let accesses = c.args.event.now.accesses in
-    let all : take c.loop-access.access-index accesses ≡ accesses = take_all c.loop-access.access-index accesses (omega (arith, ap length c.as_slice-access-items.ensures)) in
+    let all : take c.loop-access.access-index accesses ≡ accesses =
+    take_all c.loop-access.access-index accesses (omega (arith, ap length c.as_slice-access-items.ensures)) in
     subst (λ (l : List Access). AddsAll c.args.parts.now.keys lies_in c.args.place l c.args.within.now c.loop-access.within) all c.loop-access.invariant.within

@@ -9,4 +9,5 @@ pub returns-clause-functions : goal.returns-clause-functions
 returns-clause-functions c = function_ends
 
 pub returns-clause-resources : goal.returns-clause-resources
-returns-clause-resources c = λ facts m config p choice r level n ends entered acting arrived. resource_left facts m config p choice r level n ends entered acting arrived
+returns-clause-resources c =
+    λ facts m config p choice r level n ends entered acting arrived. resource_left facts m config p choice r level n ends entered acting arrived

@@ -20,9 +20,11 @@ decreases-add_fields l = 3 * l.whole.place + 1
 abbrev pub invariant-add_elements-loop-k : goal.invariant-add_elements-loop-k
 invariant-add_elements-loop-k l =
     let f = labelled_before (all_labelled (take l.whole.place l.program.tables.types.now)) l.element in
-    l.all.items ++ infos l.program (elements_labelled (l.count - l.k) (l.low +ℤ pos l.k) f l.label) ≡ l.fn.all.items ++ infos l.program (elements_labelled l.count l.low f l.label)
+    l.all.items ++ infos l.program (elements_labelled (l.count - l.k) (l.low +ℤ pos l.k) f l.label) ≡ l.fn.all.items ++ infos l.program
+    (elements_labelled l.count l.low f l.label)
 
 abbrev pub invariant-add_fields-loop-i : goal.invariant-add_fields-loop-i
 invariant-add_fields-loop-i l =
     let before = all_labelled (take l.whole.place l.program.tables.types.now) in
-    l.all.items ++ infos l.program (fields_labelled before (drop l.i l.fields) l.label) ≡ l.fn.all.items ++ infos l.program (fields_labelled before l.fields l.label)
+    l.all.items ++ infos l.program (fields_labelled before (drop l.i l.fields) l.label) ≡ l.fn.all.items ++ infos l.program
+    (fields_labelled before l.fields l.label)

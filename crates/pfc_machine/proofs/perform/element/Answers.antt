@@ -34,7 +34,8 @@ word_fits w a = omega (arith, ints, a.0, a.1)
 
 pub overflow_add-result : goal.overflow_add-result
 overflow_add-result c =
-    rw (reckoned c.from-2.result c.from-3.result c.args.i c.args.array (steps c)) (word_fits (c.args.array +ℤ (c.args.i -ℤ c.from-2.result) *ℤ c.from-3.result) (address c))
+    rw (reckoned c.from-2.result c.from-3.result c.args.i c.args.array (steps c))
+    (word_fits (c.args.array +ℤ (c.args.i -ℤ c.from-2.result) *ℤ c.from-3.result) (address c))
 
 found : (low high : ℤ) (z : ℕ) (i array : ℤ) → is_within low high i ≡ true → Ok (element_word low z i array) ≡ element_at low high z i array
 found low high z i array h = rw h refl

@@ -28,7 +28,8 @@ returns-in-MCALL-clause-taken c =
     let p : ℕ = c.args.r.number in
     let can = subst (λ (i : Instr). CanActivate image i c.args.choice p m) c.in-MCALL.is c.requires.can in
     subst (λ (i : Instr). IsTaken (calls_by image i c.args.choice p m) m c.call_monitor.result c.call_monitor.new.machine) (sym c.in-MCALL.is)
-    (granted_with image.blocks c.in-MCALL.k (λ b. calls_monitor c.in-MCALL.m c.in-MCALL.k b p m) m c.call_monitor.new.machine c.call_monitor.result can.can.block c.call_monitor.ensures)
+    (granted_with image.blocks c.in-MCALL.k (λ b. calls_monitor c.in-MCALL.m c.in-MCALL.k b p m) m c.call_monitor.new.machine
+    c.call_monitor.result can.can.block c.call_monitor.ensures)
 
 pub returns-in-RCALL-clause-taken : goal.returns-in-RCALL-clause-taken
 returns-in-RCALL-clause-taken c =
@@ -37,7 +38,8 @@ returns-in-RCALL-clause-taken c =
     let p : ℕ = c.args.r.number in
     let can = subst (λ (i : Instr). CanActivate image i c.args.choice p m) c.in-RCALL.is c.requires.can in
     subst (λ (i : Instr). IsTaken (calls_by image i c.args.choice p m) m c.call_resource.result c.call_resource.new.machine) (sym c.in-RCALL.is)
-    (granted_with image.blocks c.in-RCALL.k (λ b. calls_resource c.in-RCALL.g c.in-RCALL.k b p m) m c.call_resource.new.machine c.call_resource.result can.can.block c.call_resource.ensures)
+    (granted_with image.blocks c.in-RCALL.k (λ b. calls_resource c.in-RCALL.g c.in-RCALL.k b p m) m c.call_resource.new.machine
+    c.call_resource.result can.can.block c.call_resource.ensures)
 
 pub returns-in-REQ-clause-taken : goal.returns-in-REQ-clause-taken
 returns-in-REQ-clause-taken c =
@@ -46,7 +48,8 @@ returns-in-REQ-clause-taken c =
     let p : ℕ = c.args.r.number in
     let can = subst (λ (i : Instr). CanActivate image i c.args.choice p m) c.in-REQ.is c.requires.can in
     subst (λ (i : Instr). IsTaken (calls_by image i c.args.choice p m) m c.requeue.result c.requeue.new.machine) (sym c.in-REQ.is)
-    (granted_with image.blocks c.in-REQ.k (λ b. requeues (get_or image.scans c.in-REQ.g 0) c.in-REQ.k b p m) m c.requeue.new.machine c.requeue.result can.block c.requeue.ensures)
+    (granted_with image.blocks c.in-REQ.k (λ b. requeues (get_or image.scans c.in-REQ.g 0) c.in-REQ.k b p m) m c.requeue.new.machine
+    c.requeue.result can.block c.requeue.ensures)
 
 pub returns-in-NEW-clause-taken : goal.returns-in-NEW-clause-taken
 returns-in-NEW-clause-taken c =

@@ -19,7 +19,8 @@ end-requires-in-Acted-clause-acts c =
     let i : Instr = c.requires.instr in
     let choice : ℕ = choice_among c.args.picker.now (choices_for i p m) in
     let reached = c.advance-at.ensures.reached c.requires.count m i (subst (λ (x : Machine). IsNext image p x c.requires.count m i) taken c.requires.next) in
-    (acted_may_end image i p m c.advance-at.new.machine c.advance-at.result.1 c.advance-at.ensures.process reached.1 choice c.in-Acted.r c.in-Acted.is c.requires.can).acts
+    (acted_may_end image i p m c.advance-at.new.machine c.advance-at.result.1 c.advance-at.ensures.process reached.1 choice
+    c.in-Acted.r c.in-Acted.is c.requires.can).acts
 
 pub end-requires-in-Acted-clause-done : goal.end-requires-in-Acted-clause-done
 end-requires-in-Acted-clause-done c =
@@ -31,7 +32,8 @@ end-requires-in-Acted-clause-done c =
     let i : Instr = c.requires.instr in
     let choice : ℕ = choice_among c.args.picker.now (choices_for i p m) in
     let reached = c.advance-at.ensures.reached c.requires.count m i (subst (λ (x : Machine). IsNext image p x c.requires.count m i) taken c.requires.next) in
-    (acted_may_end image i p m c.advance-at.new.machine c.advance-at.result.1 c.advance-at.ensures.process reached.1 choice c.in-Acted.r c.in-Acted.is c.requires.can).done
+    (acted_may_end image i p m c.advance-at.new.machine c.advance-at.result.1 c.advance-at.ensures.process reached.1 choice
+    c.in-Acted.r c.in-Acted.is c.requires.can).done
 
 pub end-requires-in-Acted-clause-moment : goal.end-requires-in-Acted-clause-moment
 end-requires-in-Acted-clause-moment c =
@@ -43,7 +45,8 @@ end-requires-in-Acted-clause-moment c =
     let i : Instr = c.requires.instr in
     let choice : ℕ = choice_among c.args.picker.now (choices_for i p m) in
     let reached = c.advance-at.ensures.reached c.requires.count m i (subst (λ (x : Machine). IsNext image p x c.requires.count m i) taken c.requires.next) in
-    (acted_may_end image i p m c.advance-at.new.machine c.advance-at.result.1 c.advance-at.ensures.process reached.1 choice c.in-Acted.r c.in-Acted.is c.requires.can).moment
+    (acted_may_end image i p m c.advance-at.new.machine c.advance-at.result.1 c.advance-at.ensures.process reached.1 choice
+    c.in-Acted.r c.in-Acted.is c.requires.can).moment
 
 pub end-requires-in-Faulted-clause-acts : goal.end-requires-in-Faulted-clause-acts
 end-requires-in-Faulted-clause-acts c =
@@ -55,7 +58,8 @@ end-requires-in-Faulted-clause-acts c =
     let i : Instr = c.requires.instr in
     let choice : ℕ = choice_among c.args.picker.now (choices_for i p m) in
     let reached = c.advance-at.ensures.reached c.requires.count m i (subst (λ (x : Machine). IsNext image p x c.requires.count m i) taken c.requires.next) in
-    (faulted_may_end image i p m c.advance-at.new.machine c.advance-at.result.1 c.advance-at.ensures.process reached.1 choice c.in-Faulted.r c.in-Faulted.fault c.in-Faulted.is c.requires.can).acts
+    (faulted_may_end image i p m c.advance-at.new.machine c.advance-at.result.1 c.advance-at.ensures.process reached.1 choice c.in-Faulted.r
+    c.in-Faulted.fault c.in-Faulted.is c.requires.can).acts
 
 pub end-requires-in-Faulted-clause-done : goal.end-requires-in-Faulted-clause-done
 end-requires-in-Faulted-clause-done c =
@@ -67,7 +71,8 @@ end-requires-in-Faulted-clause-done c =
     let i : Instr = c.requires.instr in
     let choice : ℕ = choice_among c.args.picker.now (choices_for i p m) in
     let reached = c.advance-at.ensures.reached c.requires.count m i (subst (λ (x : Machine). IsNext image p x c.requires.count m i) taken c.requires.next) in
-    (faulted_may_end image i p m c.advance-at.new.machine c.advance-at.result.1 c.advance-at.ensures.process reached.1 choice c.in-Faulted.r c.in-Faulted.fault c.in-Faulted.is c.requires.can).done
+    (faulted_may_end image i p m c.advance-at.new.machine c.advance-at.result.1 c.advance-at.ensures.process reached.1 choice c.in-Faulted.r
+    c.in-Faulted.fault c.in-Faulted.is c.requires.can).done
 
 pub end-requires-in-Faulted-clause-moment : goal.end-requires-in-Faulted-clause-moment
 end-requires-in-Faulted-clause-moment c =
@@ -79,7 +84,8 @@ end-requires-in-Faulted-clause-moment c =
     let i : Instr = c.requires.instr in
     let choice : ℕ = choice_among c.args.picker.now (choices_for i p m) in
     let reached = c.advance-at.ensures.reached c.requires.count m i (subst (λ (x : Machine). IsNext image p x c.requires.count m i) taken c.requires.next) in
-    (faulted_may_end image i p m c.advance-at.new.machine c.advance-at.result.1 c.advance-at.ensures.process reached.1 choice c.in-Faulted.r c.in-Faulted.fault c.in-Faulted.is c.requires.can).moment
+    (faulted_may_end image i p m c.advance-at.new.machine c.advance-at.result.1 c.advance-at.ensures.process reached.1 choice c.in-Faulted.r
+    c.in-Faulted.fault c.in-Faulted.is c.requires.can).moment
 
 pub carry_out-requires : goal.carry_out-requires
 carry_out-requires c =
@@ -124,4 +130,5 @@ returns-in-Stands c = λ n m i next.
     let reached = c.advance-at.ensures.reached n m i (subst (λ (x : Machine). IsNext image p x n m i) taken next) in
     let at_line : c.line_at-line.result ≡ line_of image p m = c.line_at-line.ensures ∙ ap (λ (a : ℕ). get_or image.lines a 0) reached.0 in
     stands_is image i p m c.advance-at.new.machine c.advance-at.result.1 c.advance-at.ensures.process reached.1 c.args.picker.now c.carry_out.new.picker
-    c.args.out.now c.carry_out.new.out c.in-Stands.r c.in-Stands.i c.line_at-line.result c.carry_out.result c.carry_out.new.machine c.in-Stands.is at_line c.carry_out.ensures
+    c.args.out.now c.carry_out.new.out c.in-Stands.r c.in-Stands.i c.line_at-line.result c.carry_out.result c.carry_out.new.machine
+    c.in-Stands.is at_line c.carry_out.ensures

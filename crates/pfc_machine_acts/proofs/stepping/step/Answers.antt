@@ -40,7 +40,16 @@ try_quiet-requires c =
     let same : i ≡ j = same_instr i j (sym is ∙ c.next_instr-i.ensures) in
     record {
       short = c.requires.short;
-      next = (i, is, can_try image i c.args.r.number m (subst (λ (x : Instr). IsOther x) (sym same) (record { call = c.in_default.not-CALL; ret = c.in_default.not-RET; retf = c.in_default.not-RETF })) can);
+      next = (
+        i,
+        is,
+        can_try image i c.args.r.number m (subst (λ (x : Instr). IsOther x) (sym same) (record {
+          call = c.in_default.not-CALL;
+          ret =
+              c.in_default.not-RET;
+          retf = c.in_default.not-RETF;
+        })) can,
+      );
       other = λ k l e. c.in_default.not-CALL k l (same_instr j _ (sym c.next_instr-i.ensures ∙ e));
     }
 
@@ -53,6 +62,11 @@ returns-in_default c =
       process = c.try_quiet.ensures.process;
       stepped = λ i is.
           let same : j ≡ i = same_instr j i (sym c.next_instr-i.ensures ∙ is) in
-          stepped_so image i c.args.r.number m c.try_quiet.new.machine (subst (λ (x : Instr). IsOther x) same (record { call = c.in_default.not-CALL; ret = c.in_default.not-RET; retf = c.in_default.not-RETF })) c.try_quiet.result
+          stepped_so image i c.args.r.number m c.try_quiet.new.machine (subst (λ (x : Instr). IsOther x) same (record {
+            call = c.in_default.not-CALL;
+            ret =
+                c.in_default.not-RET;
+            retf = c.in_default.not-RETF;
+          })) c.try_quiet.result
           (c.try_quiet.ensures.tried i is);
     }

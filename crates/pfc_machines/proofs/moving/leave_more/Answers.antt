@@ -7,4 +7,5 @@ use Rattle.pfc_machines.proofs.moving.leave_more.Goals as goal
 pub returns : goal.returns
 returns c =
     leave_is c.args.stacks.now c.push.new.self c.pass.new.stacks c.args.p (c.args.v ∷ operands_of c.args.stacks.now c.args.p) c.requires.process
-    (c.push.ensures ∙ ap (λ (x : ℤ). with_operands c.args.stacks.now c.args.p (x ∷ operands_of c.args.stacks.now c.args.p)) (to_z-of_z w64 c.args.v c.ranges.v)) c.pass.ensures
+    (c.push.ensures ∙ ap (λ (x : ℤ). with_operands c.args.stacks.now c.args.p (x ∷ operands_of c.args.stacks.now c.args.p))
+    (to_z-of_z w64 c.args.v c.ranges.v)) c.pass.ensures

@@ -12,7 +12,8 @@ returns c =
     let ops : List ℤ = operands_of c.args.stacks.now c.args.p in
     let to : c.of-to.result ≡ ref_of (operand ops 0) =
     c.of-to.ensures.of ∙ ap ref_of (to_z-of_z w64 c.top.result (record { sfits = c.top.type_inv }) ∙ c.top.ensures) in
-    written_is c.args.stacks.now c.cut.new.self c.push.new.self c.copy_out.new.self c.leave.new.stacks c.args.p c.of-to.result c.args.v (drop 1 ops) c.requires.process
+    written_is c.args.stacks.now c.cut.new.self c.push.new.self c.copy_out.new.self c.leave.new.stacks c.args.p c.of-to.result
+    c.args.v (drop 1 ops) c.requires.process
     c.cut.ensures.cut
     (c.push.ensures ∙ ap (λ (x : ℤ). with_operands c.cut.new.self c.args.p (x ∷ operands_of c.cut.new.self c.args.p)) (to_z-of_z w64 c.args.v c.ranges.v))
     c.copy_out.ensures c.leave.ensures

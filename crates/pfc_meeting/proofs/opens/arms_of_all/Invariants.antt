@@ -6,4 +6,5 @@ use Rattle.pfc_meeting.proofs.opens.arms_of_all.Given as goal
 
 abbrev pub invariant-loop-open : goal.invariant-loop-open
 invariant-loop-open l =
-    l.arms.items ++ arms_in (store_view l.store) l.display (opens_view (drop l.open-index l.opens)) ≡ arms_in (store_view l.store) l.display (opens_view l.opens)
+    l.arms.items ++ arms_in (store_view l.store) l.display (opens_view (drop l.open-index l.opens)) ≡ arms_in
+    (store_view l.store) l.display (opens_view l.opens)

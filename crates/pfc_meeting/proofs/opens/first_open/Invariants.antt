@@ -6,4 +6,5 @@ use Rattle.pfc_meeting.proofs.opens.first_open.Given as goal
 
 abbrev pub invariant-loop-open : goal.invariant-loop-open
 invariant-loop-open l =
-    first_met (store_view l.store) l.display l.arm (opens_view (drop l.open-index l.opens)) ≡ first_met (store_view l.store) l.display l.arm (opens_view l.opens)
+    first_met (store_view l.store) l.display l.arm (opens_view (drop l.open-index l.opens)) ≡ first_met
+    (store_view l.store) l.display l.arm (opens_view l.opens)

@@ -13,5 +13,9 @@ go_on_with-requires-clause-other c = another c.args.state.now.world.rows c.args.
 
 pub returns : goal.returns
 returns c =
-    passed_so c.args.state.now (record c.args.state.now { store = c.put_into.new.store; world = c.wake.new.self }) c.go_on_with.new.state c.args.p c.args.q c.args.into
+    passed_so c.args.state.now (record c.args.state.now {
+      store = c.put_into.new.store;
+      world =
+          c.wake.new.self;
+    }) c.go_on_with.new.state c.args.p c.args.q c.args.into
     c.args.value c.args.way c.go_on_with.result refl c.put_into.ensures c.wake.ensures.world c.wake.ensures.fresh c.go_on_with.ensures

@@ -4,7 +4,8 @@ use Rattle.pfc_messages.proofs.messages.receives.Goals as goal
 
 pub returns-in-Ok-receives_from-clause-ok : goal.returns-in-Ok-receives_from-clause-ok
 returns-in-Ok-receives_from-clause-ok c =
-    receives_met c.args.state.now c.receives_from.new.state c.args.p c.in-Some.partner.process c.in-Ok.number c.args.channel c.args.target c.index.result.now c.in-Some.partner
+    receives_met c.args.state.now c.receives_from.new.state c.args.p c.in-Some.partner.process c.in-Ok.number c.args.channel
+    c.args.target c.index.result.now c.in-Some.partner
     c.in-Ok-receives_from.done c.index.ensures c.in-Ok.ensures (sym c.in-Some.is ∙ c.first_open_to.ensures.partner) refl c.in-Ok-receives_from.ensures.ok
 
 pub returns-clause-ok : goal.returns-clause-ok

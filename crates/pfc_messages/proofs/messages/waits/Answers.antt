@@ -21,7 +21,8 @@ returns-clause-ok c =
       draws = kept.draws;
     } in
     shows_so c.args.state.now (record c.args.state.now { world = c.block.new.self }) c.end_action.new.self c.args.p c.args.why c.args.offer c.in-Ok.opens.items
-    (set c.args.state.now.activities.items c.args.p c.show.new.activity) c.index_mut.result.now c.show.new.activity c.line_of-line.result c.begin-r.result.number
+    (set c.args.state.now.activities.items c.args.p c.show.new.activity) c.index_mut.result.now c.show.new.activity
+    c.line_of-line.result c.begin-r.result.number
     c.index_mut.ensures.value c.show.ensures c.in-Ok.ensures.ok c.line_of-line.ensures c.begin-r.ensures.number refl refl
     (c.block.ensures ∙ ap (λ (w : Table). blocked w c.begin-r.result.number c.args.why []) c.begin-r.ensures.world) refl c.end_action.ensures.activity
     as_kept c.end_action.ensures.world c.end_action.ensures.fresh

@@ -13,10 +13,14 @@ returns-in_default c =
     subst (λ n. IsParted (passes (λ p moment. is_sooner (due moment p) c.args.other) c.args.moments.now) c.args.sorted.now.items n) (sym (c.len.ensures ∙ long))
     (elim c.in_default.branch [
       | in_default-via-in-Some+else-not-comes_before w ↦
-          all-pass (passes (λ p moment. is_sooner (due moment p) c.args.other) c.args.moments.now) c.args.sorted.now.items w.in-Some.last.now (parted-before c.args.sorted.now.items c.args.moments.now c.args.other c.requires)
-          (ap (λ n. passes (λ p moment. is_sooner (due moment p) c.args.other) c.args.moments.now (get_or c.args.sorted.now.items (n - 1) w.in-Some.last.now)) (sym long)
-          ∙ ap (passes (λ p moment. is_sooner (due moment p) c.args.other) c.args.moments.now) (sym w.in-Some.ensures.lookup) ∙ sym w.comes_before.ensures ∙ w.if-not-comes_before.false)
+          all-pass (passes (λ p moment. is_sooner (due moment p) c.args.other) c.args.moments.now) c.args.sorted.now.items w.in-Some.last.now
+          (parted-before c.args.sorted.now.items c.args.moments.now c.args.other c.requires)
+          (ap (λ n. passes (λ p moment. is_sooner (due moment p) c.args.other) c.args.moments.now (get_or c.args.sorted.now.items (n - 1) w.in-Some.last.now))
+          (sym long)
+          ∙ ap (passes (λ p moment. is_sooner (due moment p) c.args.other) c.args.moments.now) (sym w.in-Some.ensures.lookup) ∙
+          sym w.comes_before.ensures ∙ w.if-not-comes_before.false)
       | in_default-via-in_default w ↦
           let none : length c.args.sorted.now.items ≤ 0 = w.in_default.ensures.item.3 in
-          nobody-parted (passes (λ p moment. is_sooner (due moment p) c.args.other) c.args.moments.now) c.args.sorted.now.items (length c.args.sorted.now.items) none (omega arith)
+          nobody-parted (passes (λ p moment. is_sooner (due moment p) c.args.other) c.args.moments.now) c.args.sorted.now.items
+          (length c.args.sorted.now.items) none (omega arith)
     ])

@@ -22,7 +22,8 @@ same c = let fits : FitsSigned w32 c.args.rank = search rules in to_z-of_z w32 c
 
 pub returns-clause-table : goal.returns-clause-table
 returns-clause-table c =
-    delays (held_in c.args.world.now c.args.mons.now.holders) (held_in c.hand_over-next.new.world c.hand_over-next.new.mons.holders) c.block.new.self _ _ _ _ c.args.rank _
+    delays (held_in c.args.world.now c.args.mons.now.holders)
+    (held_in c.hand_over-next.new.world c.hand_over-next.new.mons.holders) c.block.new.self _ _ _ _ c.args.rank _
     c.hand_over-next.ensures.table c.monitor_of-m.ensures.monitor c.block.ensures (same c)
 
 pub returns-clause-next : goal.returns-clause-next

@@ -10,7 +10,8 @@ returns-in_err-command c = search rules
 
 pub returns-in-Ok-clause-options : goal.returns-in-Ok-clause-options
 returns-in-Ok-clause-options c =
-    c.walk_options_in.ensures.options ∙ taken_words walk_command walk_simple walk_free (λ rows. walk_asked_by rows) (app_of c.in_ok-command.command) (texts_of c.args.words.now) (rows_of (found_of c.in-Ok.matches))
+    c.walk_options_in.ensures.options ∙ taken_words walk_command walk_simple walk_free (λ rows. walk_asked_by rows) (app_of c.in_ok-command.command)
+    (texts_of c.args.words.now) (rows_of (found_of c.in-Ok.matches))
     c.in_ok-command.ensures (λ e. (c.in-Ok.ensures.matches e).0) c.in-Ok.ensures.kinds
 
 pub returns-in-Ok-clause-shown : goal.returns-in-Ok-clause-shown
@@ -25,7 +26,8 @@ returns-in_err-refused_for_words-in-Err c = search rules
 
 pub returns-in_ok-refused_for_words-in-Err-clause-options : goal.returns-in_ok-refused_for_words-in-Err-clause-options
 returns-in_ok-refused_for_words-in-Err-clause-options c =
-    refused_words walk_command walk_simple walk_free (λ rows. walk_asked_by rows) (app_of c.in_ok-command.command) (texts_of c.args.words.now) c.in-Err.error c.in_ok-command.ensures
+    refused_words walk_command walk_simple walk_free (λ rows. walk_asked_by rows) (app_of c.in_ok-command.command)
+    (texts_of c.args.words.now) c.in-Err.error c.in_ok-command.ensures
     c.in_ok-refused_for_words-in-Err.ensures c.in-Err.ensures.kinds
 
 pub returns-in-Ok-clause-within : goal.returns-in-Ok-clause-within

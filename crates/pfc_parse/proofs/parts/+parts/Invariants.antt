@@ -29,7 +29,8 @@ decreases-process_behind l = 10 * l.levels + 4
 abbrev pub invariant-parts-loop-home : goal.invariant-parts-loop-home
 invariant-parts-loop-home l = record {
   shorter : length l.rest ≤ length l.tokens;
-  whiling : Whiling (begins_part (home_view l.home)) (part_with (type_at l.levels) (block_at l.levels (home_view l.home))) (map part_view l.parts.items) l.rest (parts_at l.levels (home_view l.home) l.tokens);
+  whiling : Whiling (begins_part (home_view l.home)) (part_with (type_at l.levels) (block_at l.levels (home_view l.home))) (map part_view l.parts.items) l.rest
+      (parts_at l.levels (home_view l.home) l.tokens);
 }
 
 abbrev pub decreases-parts-loop-home : goal.decreases-parts-loop-home

@@ -7,12 +7,15 @@ use Rattle.pfc_parse.proofs.Whole.{whole_is, finished, unfinished}
 use Rattle.pfc_parse.proofs.program.whole.Goals as goal
 
 pub returns-in_err-tree : goal.returns-in_err-tree
-returns-in_err-tree c = let p = err_from_is_err_and c.from_residual.result c.from_residual.ensures.1 in rw (p.1, p.2, whole_is c.args.tokens.now) (bind_halts _ _ _ _ c.in_err-tree.ensures)
+returns-in_err-tree c = let p = err_from_is_err_and c.from_residual.result c.from_residual.ensures.1 in rw (p.1, p.2, whole_is c.args.tokens.now)
+    (bind_halts _ _ _ _ c.in_err-tree.ensures)
 
 pub returns-then-is_empty : goal.returns-then-is_empty
 unfolding bind
-returns-then-is_empty c = rw (whole_is c.args.tokens.now, c.in_ok-tree.ensures) (finished (tree_view c.in_ok-tree.tree) c.in_ok-tree.rest.now (search (rules, c.if-is_empty.ensures)))
+returns-then-is_empty c = rw (whole_is c.args.tokens.now, c.in_ok-tree.ensures) (finished (tree_view c.in_ok-tree.tree) c.in_ok-tree.rest.now
+    (search (rules, c.if-is_empty.ensures)))
 
 pub returns-else-is_empty : goal.returns-else-is_empty
 unfolding bind
-returns-else-is_empty c = rw (whole_is c.args.tokens.now, c.in_ok-tree.ensures) (unfinished (tree_view c.in_ok-tree.tree) c.in_ok-tree.rest.now (search (rules, c.if-is_empty.ensures)))
+returns-else-is_empty c = rw (whole_is c.args.tokens.now, c.in_ok-tree.ensures) (unfinished (tree_view c.in_ok-tree.tree) c.in_ok-tree.rest.now
+    (search (rules, c.if-is_empty.ensures)))

@@ -5,8 +5,10 @@ use Rattle.pfc_performing.proofs.Performed.{done_so, given_so}
 use Rattle.pfc_performing.proofs.calls.call_entry.Goals as goal
 
 pub returns-in-Ok : goal.returns-in-Ok
-returns-in-Ok c = done_so c.args.source.now c.args.state.now c.enters.new.state c.args.p (deed.Calls (callee.Entry c.args.spot c.args.entry) c.args.args) c.in-Ok.done c.in-Ok.ensures.ok
+returns-in-Ok c = done_so c.args.source.now c.args.state.now c.enters.new.state c.args.p
+    (deed.Calls (callee.Entry c.args.spot c.args.entry) c.args.args) c.in-Ok.done c.in-Ok.ensures.ok
 
 pub returns-in-Err : goal.returns-in-Err
-returns-in-Err c = given_so c.args.source.now c.args.state.now c.enters.new.state c.args.p (deed.Calls (callee.Entry c.args.spot c.args.entry) c.args.args) _ c.in-Err.ensures.err
+returns-in-Err c = given_so c.args.source.now c.args.state.now c.enters.new.state c.args.p
+    (deed.Calls (callee.Entry c.args.spot c.args.entry) c.args.args) _ c.in-Err.ensures.err
     (ap (λ v. deed.Calls (callee.Entry v.0 c.args.entry) v.1) c.in-Err.ensures.given)

@@ -5,8 +5,10 @@ use Rattle.pfc_performing.proofs.Performed.{done_so, given_so}
 use Rattle.pfc_performing.proofs.calls.requeue.Goals as goal
 
 pub returns-in-Ok : goal.returns-in-Ok
-returns-in-Ok c = done_so c.args.source.now c.args.state.now c.requeues.new.state c.args.p (deed.Calls (callee.Requeue c.args.scope) c.args.args) c.in-Ok.done c.in-Ok.ensures.ok
+returns-in-Ok c = done_so c.args.source.now c.args.state.now c.requeues.new.state c.args.p
+    (deed.Calls (callee.Requeue c.args.scope) c.args.args) c.in-Ok.done c.in-Ok.ensures.ok
 
 pub returns-in-Err : goal.returns-in-Err
-returns-in-Err c = given_so c.args.source.now c.args.state.now c.requeues.new.state c.args.p (deed.Calls (callee.Requeue c.args.scope) c.args.args) _ c.in-Err.ensures.err
+returns-in-Err c = given_so c.args.source.now c.args.state.now c.requeues.new.state c.args.p
+    (deed.Calls (callee.Requeue c.args.scope) c.args.args) _ c.in-Err.ensures.err
     (ap (deed.Calls (callee.Requeue c.args.scope)) c.in-Err.ensures.given)

@@ -5,7 +5,8 @@ use Rattle.pfc_performing.proofs.Performed.{done_so, given_so}
 use Rattle.pfc_performing.proofs.meetings.accept.Goals as goal
 
 pub returns-in-Ok : goal.returns-in-Ok
-returns-in-Ok c = done_so c.args.source.now c.args.state.now c.accepts.new.state c.args.p (deed.Meets (offer.Accept c.args.accepting)) c.in-Ok.done c.in-Ok.ensures.ok
+returns-in-Ok c = done_so c.args.source.now c.args.state.now c.accepts.new.state c.args.p
+    (deed.Meets (offer.Accept c.args.accepting)) c.in-Ok.done c.in-Ok.ensures.ok
 
 pub returns-in-Err : goal.returns-in-Err
 returns-in-Err c = given_so c.args.source.now c.args.state.now c.accepts.new.state c.args.p (deed.Meets (offer.Accept c.args.accepting)) _ c.in-Err.ensures.err

@@ -19,4 +19,5 @@ returns-in-Accept c =
     (ap deed.Meets c.in-Accept.is) c.accept.ensures
 
 pub returns-in_default : goal.returns-in_default
-returns-in_default c = given_so c.args.source.now c.args.state.now c.args.state.now c.args.p _ _ (stays_same c.args.state.now c.args.state.now c.args.p refl) refl
+returns-in_default c = given_so c.args.source.now c.args.state.now c.args.state.now c.args.p _ _
+    (stays_same c.args.state.now c.args.state.now c.args.p refl) refl

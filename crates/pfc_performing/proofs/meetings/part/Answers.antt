@@ -10,5 +10,6 @@ returns-in-Ok c = λ source.
 
 pub returns-in-Err : goal.returns-in-Err
 returns-in-Err c = λ source.
-    given_so source c.args.state.now c.parts.new.state c.args.p (deed.Parts c.args.caller) _ (stays_same c.args.state.now c.parts.new.state c.args.p c.in-Err.ensures.err)
+    given_so source c.args.state.now c.parts.new.state c.args.p (deed.Parts c.args.caller) _
+    (stays_same c.args.state.now c.parts.new.state c.args.p c.in-Err.ensures.err)
     (refl)

@@ -10,5 +10,6 @@ returns-in-Ok c = λ source.
 
 pub returns-in-Err : goal.returns-in-Err
 returns-in-Err c = λ source.
-    given_so source c.args.state.now c.resumes.new.state c.args.p (deed.Resumes c.args.spot) _ (stays_same c.args.state.now c.resumes.new.state c.args.p c.in-Err.ensures.err)
+    given_so source c.args.state.now c.resumes.new.state c.args.p (deed.Resumes c.args.spot) _
+    (stays_same c.args.state.now c.resumes.new.state c.args.p c.in-Err.ensures.err)
     (ap deed.Resumes c.in-Err.ensures.given)

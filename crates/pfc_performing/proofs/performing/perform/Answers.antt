@@ -6,7 +6,8 @@ use Rattle.pfc_performing.proofs.performing.perform.Goals as goal
 
 pub returns-in_default-clause-ok : goal.returns-in_default-clause-ok
 returns-in_default-clause-ok c =
-    tried_done c.args.source.now c.args.state.now c.perform_plain.new.state c.args.p c.args.deed c.perform_plain.result c.args.picker.now c.args.out.now c.perform_plain.ensures
+    tried_done c.args.source.now c.args.state.now c.perform_plain.new.state c.args.p c.args.deed c.perform_plain.result
+    c.args.picker.now c.args.out.now c.perform_plain.ensures
     (not_choosing c.args.deed c.in_default.not-Decides)
 
 pub returns-in_default-clause-err : goal.returns-in_default-clause-err
@@ -20,7 +21,8 @@ returns-in_default-clause-kept c = in_any c.perform_plain.result _ refl
 
 pub returns-in-Decides-clause-ok : goal.returns-in-Decides-clause-ok
 returns-in-Decides-clause-ok c =
-    subst (λ x. IfOk c.decide.result (λ d. IsDone c.args.source.now c.args.state.now c.decide.new.state c.args.p x c.args.picker.now c.decide.new.picker c.args.out.now c.args.out.now d))
+    subst (λ x. IfOk c.decide.result
+    (λ d. IsDone c.args.source.now c.args.state.now c.decide.new.state c.args.p x c.args.picker.now c.decide.new.picker c.args.out.now c.args.out.now d))
     (sym c.in-Decides.is) (c.decide.ensures.ok c.args.out.now)
 
 pub returns-in-Decides-clause-err : goal.returns-in-Decides-clause-err

@@ -61,13 +61,15 @@ pub returns-in-Initials : goal.returns-in-Initials
 returns-in-Initials c =
     let fits : SFits w64 c.in-Initials.n = search rules in
     tried_at c.args.source.now c.args.state.now c.initial.new.state c.args.p c.args.deed _ c.initial.result c.in-Initials.is
-    (subst (λ (m : ℤ). IsTried c.args.source.now c.args.state.now c.initial.new.state c.args.p (deed.Initials c.in-Initials.spot m) c.initial.result) (to_z-of_z w64 c.in-Initials.n fits) (c.initial.ensures c.args.source.now))
+    (subst (λ (m : ℤ). IsTried c.args.source.now c.args.state.now c.initial.new.state c.args.p (deed.Initials c.in-Initials.spot m) c.initial.result)
+    (to_z-of_z w64 c.in-Initials.n fits) (c.initial.ensures c.args.source.now))
 
 pub returns-in-Delays : goal.returns-in-Delays
 returns-in-Delays c =
     let fits : SFits w64 c.in-Delays.rank = search rules in
     tried_at c.args.source.now c.args.state.now c.delay.new.state c.args.p c.args.deed _ c.delay.result c.in-Delays.is
-    (subst (λ (m : ℤ). IsTried c.args.source.now c.args.state.now c.delay.new.state c.args.p (deed.Delays c.in-Delays.spot m) c.delay.result) (to_z-of_z w64 c.in-Delays.rank fits) (c.delay.ensures c.args.source.now))
+    (subst (λ (m : ℤ). IsTried c.args.source.now c.args.state.now c.delay.new.state c.args.p (deed.Delays c.in-Delays.spot m) c.delay.result)
+    (to_z-of_z w64 c.in-Delays.rank fits) (c.delay.ensures c.args.source.now))
 
 pub returns-in-Turns : goal.returns-in-Turns
 returns-in-Turns c =
@@ -102,21 +104,24 @@ returns-in-Joins c =
 pub returns-in-Faults : goal.returns-in-Faults
 returns-in-Faults c =
     tried_at c.args.source.now c.args.state.now c.faults.new.state c.args.p c.args.deed _ (Ok c.faults.result) c.in-Faults.is
-    (done_so c.args.source.now c.args.state.now c.faults.new.state c.args.p (deed.Faults c.in-Faults.fault) c.faults.result (c.faults.ensures c.args.source.now))
+    (done_so c.args.source.now c.args.state.now c.faults.new.state c.args.p
+    (deed.Faults c.in-Faults.fault) c.faults.result (c.faults.ensures c.args.source.now))
 
 pub returns-in-Draws : goal.returns-in-Draws
 returns-in-Draws c =
     let fits : SFits w64 c.in-Draws.n = search rules in
     tried_at c.args.source.now c.args.state.now c.draws.new.state c.args.p c.args.deed _ (Ok c.draws.result) c.in-Draws.is
     (done_so c.args.source.now c.args.state.now c.draws.new.state c.args.p (deed.Draws c.in-Draws.n) c.draws.result
-    (subst (λ (m : ℤ). Performs c.args.source.now c.args.state.now c.draws.new.state c.args.p (deed.Draws m) [] c.draws.result) (to_z-of_z w64 c.in-Draws.n fits) (c.draws.ensures c.args.source.now)))
+    (subst (λ (m : ℤ). Performs c.args.source.now c.args.state.now c.draws.new.state c.args.p (deed.Draws m) [] c.draws.result)
+    (to_z-of_z w64 c.in-Draws.n fits) (c.draws.ensures c.args.source.now)))
 
 pub returns-in-Sleeps : goal.returns-in-Sleeps
 returns-in-Sleeps c =
     let fits : SFits w64 c.in-Sleeps.n = search rules in
     tried_at c.args.source.now c.args.state.now c.sleeps.new.state c.args.p c.args.deed _ (Ok c.sleeps.result) c.in-Sleeps.is
     (done_so c.args.source.now c.args.state.now c.sleeps.new.state c.args.p (deed.Sleeps c.in-Sleeps.n) c.sleeps.result
-    (subst (λ (m : ℤ). Performs c.args.source.now c.args.state.now c.sleeps.new.state c.args.p (deed.Sleeps m) [] c.sleeps.result) (to_z-of_z w64 c.in-Sleeps.n fits) (c.sleeps.ensures c.args.source.now)))
+    (subst (λ (m : ℤ). Performs c.args.source.now c.args.state.now c.sleeps.new.state c.args.p (deed.Sleeps m) [] c.sleeps.result)
+    (to_z-of_z w64 c.in-Sleeps.n fits) (c.sleeps.ensures c.args.source.now)))
 
 pub returns-in-Scans : goal.returns-in-Scans
 returns-in-Scans c =

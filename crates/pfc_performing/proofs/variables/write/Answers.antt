@@ -10,5 +10,6 @@ returns-in-Ok c = λ source.
 
 pub returns-in-Err : goal.returns-in-Err
 returns-in-Err c = λ source.
-    given_so source c.args.state.now c.writes.new.state c.args.p (deed.Writes c.args.spot c.args.value) _ (stays_same c.args.state.now c.writes.new.state c.args.p c.in-Err.ensures.err)
+    given_so source c.args.state.now c.writes.new.state c.args.p (deed.Writes c.args.spot c.args.value) _
+    (stays_same c.args.state.now c.writes.new.state c.args.p c.in-Err.ensures.err)
     (ap (λ v. deed.Writes v.0 v.1) c.in-Err.ensures.given)

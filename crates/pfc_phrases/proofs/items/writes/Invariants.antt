@@ -8,4 +8,5 @@ use Rattle.pfc_phrases.proofs.items.writes.Given as goal
 
 abbrev pub invariant-loop-a : goal.invariant-loop-a
 invariant-loop-a l =
-    noted l.best (broken_writes (env_view l.env) (actuals_view (drop l.a-index l.args))) ≡ noted l.initial.best (broken_writes (env_view l.env) (actuals_view l.args))
+    noted l.best (broken_writes (env_view l.env) (actuals_view (drop l.a-index l.args))) ≡ noted l.initial.best
+    (broken_writes (env_view l.env) (actuals_view l.args))

@@ -14,5 +14,6 @@ loop-i-preserved c =
     let own = laid_names (scope_at scopes i) in
     let rest = accepts_laid (take (to - (i + 1)) (drop (i + 1) scopes)) in
     let more : to - i ≡ suc (to - (i + 1)) = omega arith in
-    let step : accepts_laid (take (to - i) (drop i scopes)) ≡ own ++ rest = ap (λ n. accepts_laid (take n (drop i scopes))) more ∙ accepts_next scopes i (to - (i + 1)) in
+    let step : accepts_laid (take (to - i) (drop i scopes)) ≡ own ++ rest = ap (λ n. accepts_laid (take n (drop i scopes))) more ∙
+    accepts_next scopes i (to - (i + 1)) in
     ap (λ l. l ++ rest) c.in_ok-lay_from.ensures ∙ append_assoc before own rest ∙ ap (λ l. before ++ l) (sym step) ∙ c.loop-i.invariant

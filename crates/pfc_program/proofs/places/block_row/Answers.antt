@@ -21,7 +21,8 @@ loop-k-preserved c =
     let before = c.loop-k.row.items in
     let rest = block_places sub c.in_ok-n.n (k + 1) (drop (k + 1) names) in
     let is : (d : Text × Meaning) → m ≡ (get_or names k d).1 = λ d. c.meaning_at.ensures d ∙ ap (λ l. (get_or l k d).1) c.at.ensures in
-    let here : n + behind_result sub k ≡ place = sym (c.in_ok-added.ensures ∙ ap (λ j. n + j) (c.behind_result.ensures ∙ ap (λ o. behind_result o k) c.sub_with-sub.ensures)) in
+    let here : n + behind_result sub k ≡ place =
+    sym (c.in_ok-added.ensures ∙ ap (λ j. n + j) (c.behind_result.ensures ∙ ap (λ o. behind_result o k) c.sub_with-sub.ensures)) in
     let next : n + length (one_laid m) ≡ c.in_ok-n.n = ap (λ j. n + j) (sym c.size.ensures) ∙ sym c.in_ok-n.ensures in
     let step =
     block_places_next sub n k names k m is (omega arith)

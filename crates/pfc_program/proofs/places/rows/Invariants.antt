@@ -7,4 +7,5 @@ use Rattle.pfc_program.proofs.places.rows.Given as goal
 abbrev pub invariant-loop-i : goal.invariant-loop-i
 invariant-loop-i l =
     (length l.rows.items ≡ l.i)
-    × ((i k : ℕ) → i < l.i → k < length (scope_at l.lookups.scopes.now.scopes i) → get_or (get_or l.rows.items i []) k 0 ≡ variable_place l.lookups.scopes.now i k)
+    × ((i k : ℕ) → i < l.i → k < length (scope_at l.lookups.scopes.now.scopes i) →
+    get_or (get_or l.rows.items i []) k 0 ≡ variable_place l.lookups.scopes.now i k)

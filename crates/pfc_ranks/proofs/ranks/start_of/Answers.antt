@@ -12,5 +12,6 @@ returns-in-Some c =
 
 pub returns-in_default : goal.returns-in_default
 returns-in_default c =
-    none-pass (passes (λ p other. nat_lt other.object c.args.object) c.args.delays.now) c.args.sorted.now.items c.in-Some.first.now (parted-by-object c.args.sorted.now.items c.args.delays.now c.args.object c.requires)
+    none-pass (passes (λ p other. nat_lt other.object c.args.object) c.args.delays.now) c.args.sorted.now.items c.in-Some.first.now
+    (parted-by-object c.args.sorted.now.items c.args.delays.now c.args.object c.requires)
     (ap (passes (λ p other. nat_lt other.object c.args.object) c.args.delays.now) (sym c.in-Some.ensures.lookup) ∙ sym c.is_lower.ensures ∙ c.if-is_lower.false)

@@ -11,7 +11,8 @@ loop-end-preserved c = record {
   listed =
       ap (λ t. c.list_line.new.page ++ listing_from (c.loop-end.number + 1) t) (take_rest c.loop-end.rest.now (c.in-Some.end + 1))
       ∙ ap (λ t. t ++ listing_from (c.loop-end.number + 1) (drop (c.in-Some.end + 1) c.loop-end.rest.now)) c.in_ok-list_line.ensures
-      ∙ append_assoc c.loop-end.page (listed_line c.loop-end.number (take c.in-Some.end c.loop-end.rest.now)) (listing_from (c.loop-end.number + 1) (drop (c.in-Some.end + 1) c.loop-end.rest.now))
+      ∙ append_assoc c.loop-end.page (listed_line c.loop-end.number (take c.in-Some.end c.loop-end.rest.now))
+      (listing_from (c.loop-end.number + 1) (drop (c.in-Some.end + 1) c.loop-end.rest.now))
       ∙ ap (λ t. c.loop-end.page ++ t) (sym (listing_from-line c.loop-end.number c.loop-end.rest.now c.in-Some.end (sym c.in-Some.ensures)))
       ∙ c.loop-end.invariant.listed;
   counted =

@@ -24,5 +24,7 @@ returns-clause-ok c =
     gives_way_so c.args.source.now old new c.args.p c.args.block.now c.args.innermost.number c.args.cells (c.done-number.result + 1)
     (mark_view c.args.innermost.mark) c.args.doing c.args.args.now c.in_ok-beginning.beginning.display c.in_ok-beginning.beginning.values.items
     c.index.result.now c.index_mut.result.now c.replace.new.activity c.index.ensures c.index_mut.ensures.value c.requires.cells
-    (ap (λ n. n + 1) c.done-number.ensures.count) (ne_eqb (c.done-number.result + 1) c.args.innermost.number c.if-number-innermost.false) c.in_ok-beginning.ensures.display c.in_ok-beginning.ensures.values
-    (c.replace.ensures c.args.source.now.program.tables) refl refl (c.remove.ensures ∙ ap (λ (x : Store). without x c.args.innermost.number) c.in_ok-add.ensures.added)
+    (ap (λ n. n + 1) c.done-number.ensures.count) (ne_eqb (c.done-number.result + 1) c.args.innermost.number c.if-number-innermost.false)
+    c.in_ok-beginning.ensures.display c.in_ok-beginning.ensures.values
+    (c.replace.ensures c.args.source.now.program.tables) refl refl (c.remove.ensures ∙
+    ap (λ (x : Store). without x c.args.innermost.number) c.in_ok-add.ensures.added)

@@ -16,7 +16,9 @@ returns c = λ source g c' choice b is_at e.
     ends_process_so source g old mid _ c' c.args.p choice c.args.line b c.end_activity.new.activity is_at e refl
     (c.remove_rooms.ensures t
     ∙ ap (λ (xs : List Activation). without_all (store_view old.store) (activations_view t xs)) c.deref.ensures.value
-    ∙ ap (λ (x : Activity). without_all (store_view old.store) (activations_view t x.activations.items)) (c.index.ensures ∙ is_at.before.there.is c.index.result.now))
-    (finished_once old.world c.begin-r.new.self c.finish.new.self c.args.p c.begin-r.result.number c.begin-r.ensures.number c.begin-r.ensures.world c.finish.ensures)
+    ∙ ap (λ (x : Activity). without_all (store_view old.store) (activations_view t x.activations.items)) (c.index.ensures ∙
+    is_at.before.there.is c.index.result.now))
+    (finished_once old.world c.begin-r.new.self c.finish.new.self c.args.p c.begin-r.result.number c.begin-r.ensures.number
+    c.begin-r.ensures.world c.finish.ensures)
     (c.end_activity.ensures t) refl (record { semaphores = refl; monitors = refl; resources = refl; store = refl; input = refl; draws = refl })
     c.tick.ensures.world c.tick.ensures.fresh

@@ -7,4 +7,5 @@ use Rattle.pfc_rules.proofs.passing.passed_entries.Given as goal
 
 abbrev pub invariant-loop-e : goal.invariant-loop-e
 invariant-loop-e l =
-    passed_entries (scope_at l.scopes.scopes l.scope) l.n (map entry_view (drop l.e-index l.entries)) ≡ passed_entries (scope_at l.fn.scopes.scopes l.fn.scope) l.fn.count (map entry_view l.entries)
+    passed_entries (scope_at l.scopes.scopes l.scope) l.n (map entry_view (drop l.e-index l.entries)) ≡ passed_entries
+    (scope_at l.fn.scopes.scopes l.fn.scope) l.fn.count (map entry_view l.entries)

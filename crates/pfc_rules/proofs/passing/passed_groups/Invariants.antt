@@ -7,4 +7,5 @@ use Rattle.pfc_rules.proofs.passing.passed_groups.Given as goal
 
 abbrev pub invariant-loop-g : goal.invariant-loop-g
 invariant-loop-g l =
-    passed_groups (scope_at l.scopes.scopes l.scope) l.n (map group_view (drop l.g-index l.groups)) ≡ passed_groups (scope_at l.fn.scopes.scopes l.fn.scope) l.fn.count (map group_view l.groups)
+    passed_groups (scope_at l.scopes.scopes l.scope) l.n (map group_view (drop l.g-index l.groups)) ≡ passed_groups
+    (scope_at l.fn.scopes.scopes l.fn.scope) l.fn.count (map group_view l.groups)

@@ -7,4 +7,5 @@ use Rattle.pfc_rules.proofs.passing.passed_types.Given as goal
 
 abbrev pub invariant-loop-d : goal.invariant-loop-d
 invariant-loop-d l =
-    passed_types (scope_at l.scopes.scopes l.scope) l.n (map type_item_view (drop l.d-index l.items)) ≡ passed_types (scope_at l.fn.scopes.scopes l.fn.scope) l.fn.count (map type_item_view l.items)
+    passed_types (scope_at l.scopes.scopes l.scope) l.n (map type_item_view (drop l.d-index l.items)) ≡ passed_types
+    (scope_at l.fn.scopes.scopes l.fn.scope) l.fn.count (map type_item_view l.items)

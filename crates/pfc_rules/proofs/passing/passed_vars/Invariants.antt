@@ -7,4 +7,5 @@ use Rattle.pfc_rules.proofs.passing.passed_vars.Given as goal
 
 abbrev pub invariant-loop-v : goal.invariant-loop-v
 invariant-loop-v l =
-    passed_vars (scope_at l.scopes.scopes l.scope) l.n (vars_view (drop l.v-index l.items)) ≡ passed_vars (scope_at l.fn.scopes.scopes l.fn.scope) l.fn.count (vars_view l.items)
+    passed_vars (scope_at l.scopes.scopes l.scope) l.n (vars_view (drop l.v-index l.items)) ≡ passed_vars
+    (scope_at l.fn.scopes.scopes l.fn.scope) l.fn.count (vars_view l.items)

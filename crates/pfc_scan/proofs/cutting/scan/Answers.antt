@@ -37,9 +37,11 @@ loop-rest-preserved c =
     let columns : c.after-place.result.column ≤ c.loop-rest.place.column + n = omega (arith, c.after-place.ensures.columns, cut.front_len) in
     elim c.match-piece.branch [
       | in-Gap w ↦ rw (w.tokens-is, cut.back)
-          (cut_skipped c.args.text.now c.loop-rest.tokens.items c.loop-rest.place rest c.loop-rest.invariant n p.within c.after-place.result at lines columns (rw w.in-Gap.is at p.longest))
+          (cut_skipped c.args.text.now c.loop-rest.tokens.items c.loop-rest.place rest c.loop-rest.invariant n p.within c.after-place.result at
+          lines columns (rw w.in-Gap.is at p.longest))
       | in-Token+in_ok-push-in-Token w ↦ rw (w.tokens-is, w.in_ok-push-in-Token.ensures.items, w.in-Token.kind-is, cut.back)
-          (cut_taken c.args.text.now c.loop-rest.tokens.items c.loop-rest.place rest c.loop-rest.invariant n p.within c.after-place.result at lines columns w.in-Token.kind p.some (rw w.in-Token.is at p.longest))
+          (cut_taken c.args.text.now c.loop-rest.tokens.items c.loop-rest.place rest c.loop-rest.invariant n p.within c.after-place.result at lines columns
+          w.in-Token.kind p.some (rw w.in-Token.is at p.longest))
     ]
 
 pub returns-clause-ok : goal.returns-clause-ok

@@ -11,5 +11,6 @@ loop-at-preserved c =
     elim c.match-b.branch [
       | in-39 w ↦ rw (w.closed-is, w.is_after_quote-is) (searched_second _ _ _ _ c.loop-at-test.true c.loop-at.invariant w.if-is_after_quote.true w.in-39.is)
       | in-39-2 w ↦ rw (w.closed-is, w.is_after_quote-is) (searched_first _ _ _ _ c.loop-at-test.true c.loop-at.invariant w.if-is_after_quote.false w.in-39.is)
-      | in_default+else-is_after_quote-2 w ↦ rw (w.closed-is, w.is_after_quote-is) (searched_other _ _ _ _ c.loop-at-test.true c.loop-at.invariant w.if-is_after_quote-2.false (λ e. (omega arith)) (λ e. (omega arith)))
+      | in_default+else-is_after_quote-2 w ↦ rw (w.closed-is, w.is_after_quote-is)
+          (searched_other _ _ _ _ c.loop-at-test.true c.loop-at.invariant w.if-is_after_quote-2.false (λ e. (omega arith)) (λ e. (omega arith)))
     ]

@@ -11,7 +11,8 @@ use Rattle.pfc_scan.proofs.numbers.number.Goals as goal
 use Rattle.pfc_scan.proofs.numbers.number.Goals.{then-tail-eq0, else-tail-eq0}
 
 -- `number_next` at the numbers that the code has
-number_is : (text : List ℕ) (whole tail : ℕ) (r : Reading) → is_ascii_digit (slice_index text 0) ≡ true → whole ≡ prefix_len is_ascii_digit text → whole ≤ length text
+number_is : (text : List ℕ) (whole tail : ℕ) (r : Reading) → is_ascii_digit (slice_index text 0) ≡ true →
+    whole ≡ prefix_len is_ascii_digit text → whole ≤ length text
     → tail ≡ real_len (take (length text - whole) (drop whole text)) → tail ≤ length (take (length text - whole) (drop whole text))
     → (tail ≡ 0 → r ≡ number_reading (take whole text)) → (0 < tail → r ≡ Refused 105) → IsNextPiece text (record { length = whole + tail; reading = r })
 number_is text whole tail r first is within found fits plain other =
@@ -22,11 +23,13 @@ number_is text whole tail r first is within found fits plain other =
     (number_next text tail r first at (omega arith) (λ e. plain e ∙ ap (λ n. number_reading (take n text)) is) other)
 
 pub number_reading-reading-requires : goal.number_reading-reading-requires
-number_reading-reading-requires c = subst (λ n. IsNumber (take n c.args.text.now)) (sym c.digits_length-whole.ensures.value) (number_front c.args.text.now c.requires)
+number_reading-reading-requires c = subst (λ n. IsNumber (take n c.args.text.now)) (sym c.digits_length-whole.ensures.value)
+    (number_front c.args.text.now c.requires)
 
 pub returns : goal.returns
 returns c =
-    number_is c.args.text.now c.digits_length-whole.result c.real_length-tail.result c.if-tail-eq0.reading c.requires c.digits_length-whole.ensures.value c.digits_length-whole.ensures.within
+    number_is c.args.text.now c.digits_length-whole.result c.real_length-tail.result c.if-tail-eq0.reading c.requires
+    c.digits_length-whole.ensures.value c.digits_length-whole.ensures.within
     c.real_length-tail.ensures.value c.real_length-tail.ensures.within
     (λ e. elim c.if-tail-eq0.branch [ then-tail-eq0 w ↦ w.reading-is ∙ w.number_reading-reading.ensures | else-tail-eq0 w ↦ absurd (w.if-tail-eq0.false e) ])
     (λ h. elim c.if-tail-eq0.branch [ then-tail-eq0 w ↦ absurd (omega arith) | else-tail-eq0 w ↦ w.reading-is ])

@@ -7,7 +7,8 @@ returns-in-Some c = sign_double c.args.text.now c.in-Some.number c.requires.mark
 
 pub returns-in_default-sign_of_one : goal.returns-in_default-sign_of_one
 returns-in_default-sign_of_one c =
-    sign_none c.args.text.now c.requires.some c.requires.mark c.requires.closed (sym c.double_sign.ensures ∙ c.in_default.is) (sym c.sign_of_one.ensures ∙ c.in_default-sign_of_one.is)
+    sign_none c.args.text.now c.requires.some c.requires.mark c.requires.closed (sym c.double_sign.ensures ∙
+    c.in_default.is) (sym c.sign_of_one.ensures ∙ c.in_default-sign_of_one.is)
 
 pub returns : goal.returns
 returns c =

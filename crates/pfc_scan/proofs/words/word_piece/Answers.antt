@@ -11,4 +11,5 @@ pub returns : goal.returns
 returns c =
     let n = c.word_length-length.ensures in
     subst (λ k. IsNextPiece c.args.text.now (record { length = k; reading = c.in_ok-reading.reading })) (sym n.value)
-    (word_next c.args.text.now c.in_ok-reading.reading c.requires (rw n.value at n.within) (c.in_ok-reading.ensures ∙ ap (λ k. word_reading (take k c.args.text.now)) n.value))
+    (word_next c.args.text.now c.in_ok-reading.reading c.requires (rw n.value at n.within) (c.in_ok-reading.ensures ∙
+    ap (λ k. word_reading (take k c.args.text.now)) n.value))

@@ -8,6 +8,7 @@ returns-then-is_empty c = none_from c.args.bytes.now c.skip_white-items.result.n
 
 pub returns : goal.returns
 returns c =
-    cut_from c.args.bytes.now c.skip_white-items.result.now c.split_at.result.0.now c.split_at.result.1.now c.skip_white-items.ensures (grind (arith, nat_tests))
+    cut_from c.args.bytes.now c.skip_white-items.result.now c.split_at.result.0.now c.split_at.result.1.now c.skip_white-items.ensures
+    (grind (arith, nat_tests))
     (c.split_at.ensures.front ∙ ap (λ n. take n c.skip_white-items.result.now) c.item_length.ensures.count)
     (c.split_at.ensures.back ∙ ap (λ n. drop n c.skip_white-items.result.now) c.item_length.ensures.count)

@@ -34,18 +34,22 @@ initial_value-returns-in_ok-parts-in-Some-Record t c =
 
 pub initial_value-returns-in-Some-Channel : goal.initial_value-returns-in-Some-Channel
 initial_value-returns-in-Some-Channel t c =
-    number_view (pos 0) ∙ ap (λ v. seen v) (sym (initial_channel c.args.types.now c.args.t _ (sym c.form.ensures ∙ ap option_copied c.in-Some-Channel.is ∙ ap Some c.in-Some-Channel.field-0-is)))
+    number_view (pos 0) ∙ ap (λ v. seen v) (sym (initial_channel c.args.types.now c.args.t _ (sym c.form.ensures ∙ ap option_copied c.in-Some-Channel.is ∙
+    ap Some c.in-Some-Channel.field-0-is)))
 
 pub initial_value-returns-in-Some-Process : goal.initial_value-returns-in-Some-Process
 initial_value-returns-in-Some-Process t c =
-    number_view (pos 0) ∙ ap (λ v. seen v) (sym (initial_process c.args.types.now c.args.t _ (sym c.form.ensures ∙ ap option_copied c.in-Some-Process.is ∙ ap Some c.in-Some-Process.field-0-is)))
+    number_view (pos 0) ∙ ap (λ v. seen v) (sym (initial_process c.args.types.now c.args.t _ (sym c.form.ensures ∙ ap option_copied c.in-Some-Process.is ∙
+    ap Some c.in-Some-Process.field-0-is)))
 
 pub initial_value-returns-in-None : goal.initial_value-returns-in-None
 initial_value-returns-in-None t c =
     number_view (pos 0) ∙ ap (λ v. seen v) (sym (initial_none c.args.types.now c.args.t (sym c.form.ensures ∙ ap option_copied c.in-None.is)))
 
 pub part-returns-then-t-whole : goal.part-returns-then-t-whole
-part-returns-then-t-whole t c = subst (λ v. IfOk c.initial_value.result (λ r. value_view r ≡ seen v)) (part_before c.args.types.now c.args.whole c.args.t c.if-t-whole.true c.requires) c.initial_value.ensures
+part-returns-then-t-whole t c =
+    subst (λ v. IfOk c.initial_value.result (λ r. value_view r ≡ seen v))
+    (part_before c.args.types.now c.args.whole c.args.t c.if-t-whole.true c.requires) c.initial_value.ensures
 
 pub part-returns-else-t-whole : goal.part-returns-else-t-whole
 part-returns-else-t-whole t c = number_view (pos 0) ∙ sym (ap seen (part_past c.args.types.now c.args.whole c.args.t (omega arith)))
@@ -54,7 +58,8 @@ pub parts-loop-i-preserved : goal.parts-loop-i-preserved
 parts-loop-i-preserved t c =
     let before = all_first (take c.args.whole.place c.args.types.now) in
     ap (λ vs. map value_view vs) c.in_ok-push.ensures.items
-    ∙ fields_next before c.args.fields.now c.loop-i.i c.type_at.result c.loop-i.items.items c.in_ok-part.field-0 (subst (λ n. c.loop-i.i < n) c.len-i-end.ensures c.loop-i-test.true)
+    ∙ fields_next before c.args.fields.now c.loop-i.i c.type_at.result c.loop-i.items.items c.in_ok-part.field-0
+    (subst (λ n. c.loop-i.i < n) c.len-i-end.ensures c.loop-i-test.true)
     c.type_at.ensures c.loop-i.invariant c.in_ok-part.ensures
 
 pub parts-returns : goal.parts-returns

@@ -9,7 +9,8 @@ use Rattle.pfc_settling.proofs.children.end_children.Given as goal
 abbrev pub invariant-loop-p : goal.invariant-loop-p
 invariant-loop-p l = record {
   activities : (t : Tables)
-      → all_ended l.fn.state.world.rows (activities_shown t l.fn.state.activities.items) ≡ ended_from l.p l.fn.state.world.rows (activities_shown t l.state.activities.items);
+      → all_ended l.fn.state.world.rows (activities_shown t l.fn.state.activities.items) ≡ ended_from l.p l.fn.state.world.rows
+      (activities_shown t l.state.activities.items);
   store : (t : Tables)
       → all_left l.fn.state.world.rows (activities_shown t l.fn.state.activities.items) (store_view l.fn.state.store)
       ≡ left_from l.p l.fn.state.world.rows (activities_shown t l.state.activities.items) (store_view l.state.store);

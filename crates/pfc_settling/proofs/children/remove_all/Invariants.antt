@@ -8,4 +8,5 @@ use Rattle.pfc_settling.proofs.children.remove_all.Given as goal
 
 abbrev pub invariant-loop-i : goal.invariant-loop-i
 invariant-loop-i l =
-    (t : Tables) → without_all (store_view l.store) (activations_view t (take l.i l.activations)) ≡ without_all (store_view l.fn.store) (activations_view t l.activations)
+    (t : Tables) → without_all (store_view l.store) (activations_view t (take l.i l.activations)) ≡ without_all
+    (store_view l.fn.store) (activations_view t l.activations)

@@ -12,4 +12,5 @@ returns-in-Some c = λ t line w.
     let here = context (env_view c.args.site.env) line in
     let over = goal_over w c.args.goal in
     c.part.ensures t line w
-    ∙ lent_found here (actual_view c.args.first.now) over (from_location here over) (expr_view c.expression.result.now) (desig_view c.in-Some.d.now) c.expression.ensures c.in-Some.ensures
+    ∙ lent_found here (actual_view c.args.first.now) over (from_location here over) (expr_view c.expression.result.now)
+    (desig_view c.in-Some.d.now) c.expression.ensures c.in-Some.ensures

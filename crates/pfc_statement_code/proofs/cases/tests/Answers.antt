@@ -42,4 +42,11 @@ returns-clause-code c =
 
 pub returns-clause-address : goal.returns-clause-address
 returns-clause-address c =
-    omega (arith, c.here-first.ensures.address, c.in_ok-all_labels.ensures.code.size, c.in_ok-put.ensures.code.size, open_tests_size (site_view c.args.site) (arms_view c.args.all.now))
+    omega (
+      arith,
+      c.here-first.ensures.address,
+      c.in_ok-all_labels.ensures.code.size,
+      c.in_ok-put.ensures.code.size,
+      open_tests_size
+          (site_view c.args.site) (arms_view c.args.all.now),
+    )

@@ -48,7 +48,8 @@ pub if_then-lead_here-requires : goal.if_then-lead_here-requires
 if_then-lead_here-requires t c =
     let s = site_view c.args.from.site in
     later_has (stmt_code s c.args.from.next (stmt_view c.args.s.now)) c.test.new.code c.stmt.new.code c.in_ok-jump.jump c.in_ok-next.ensures.code
-    (last_has s (expr_code s (expr_view c.args.e.now)) (JF 0) c.args.code.now c.test.new.code c.in_ok-jump.jump c.in_ok-jump.ensures.code c.in_ok-jump.ensures.address refl)
+    (last_has s (expr_code s (expr_view c.args.e.now))
+    (JF 0) c.args.code.now c.test.new.code c.in_ok-jump.jump c.in_ok-jump.ensures.code c.in_ok-jump.ensures.address refl)
 
 pub if_then-returns-clause-code : goal.if_then-returns-clause-code
 if_then-returns-clause-code t c =
@@ -62,7 +63,8 @@ pub while_do-lead_past-requires : goal.while_do-lead_past-requires
 while_do-lead_past-requires t c =
     let s = site_view c.args.from.site in
     later_has (stmt_code s c.args.from.next (stmt_view c.args.s.now)) c.test.new.code c.stmt.new.code c.in_ok-jump.jump c.in_ok-next.ensures.code
-    (last_has s (expr_code s (expr_view c.args.e.now)) (JF 0) c.args.code.now c.test.new.code c.in_ok-jump.jump c.in_ok-jump.ensures.code c.in_ok-jump.ensures.address refl)
+    (last_has s (expr_code s (expr_view c.args.e.now))
+    (JF 0) c.args.code.now c.test.new.code c.in_ok-jump.jump c.in_ok-jump.ensures.code c.in_ok-jump.ensures.address refl)
 
 pub while_do-returns-clause-code : goal.while_do-returns-clause-code
 while_do-returns-clause-code t c =
@@ -89,28 +91,32 @@ pub if_then-returns-in_err-jump-clause-large : goal.if_then-returns-in_err-jump-
 if_then-returns-in_err-jump-clause-large t c =
     let s = site_view c.args.from.site in
     let n = c.args.from.next in
-    refused c.from_residual.result c.in_err-jump.field-0.0 (forms.if_then s (expr_view c.args.e.now) (stmt_code s n (stmt_view c.args.s.now))) c.args.code.now c.from_residual.ensures.1
+    refused c.from_residual.result c.in_err-jump.field-0.0 (forms.if_then s (expr_view c.args.e.now) (stmt_code s n (stmt_view c.args.s.now)))
+    c.args.code.now c.from_residual.ensures.1
     (λ full. omega (arith, c.in_err-jump.ensures.large full))
 
 pub if_then-returns-in_err-next-clause-large : goal.if_then-returns-in_err-next-clause-large
 if_then-returns-in_err-next-clause-large t c =
     let s = site_view c.args.from.site in
     let n = c.args.from.next in
-    refused c.from_residual-in_err-next.result c.in_err-next.field-0.0 (forms.if_then s (expr_view c.args.e.now) (stmt_code s n (stmt_view c.args.s.now))) c.args.code.now c.from_residual-in_err-next.ensures.1
+    refused c.from_residual-in_err-next.result c.in_err-next.field-0.0 (forms.if_then s (expr_view c.args.e.now) (stmt_code s n (stmt_view c.args.s.now)))
+    c.args.code.now c.from_residual-in_err-next.ensures.1
     (λ full. omega (arith, c.in_err-next.ensures.large full, c.in_ok-jump.ensures.code.size))
 
 pub otherwise-returns-in_err-jump-clause-large : goal.otherwise-returns-in_err-jump-clause-large
 otherwise-returns-in_err-jump-clause-large t c =
     let s = site_view c.args.from.site in
     let n = c.args.from.next in
-    refused c.from_residual.result c.in_err-jump.field-0.0 (over s JMP (stmt_code s n (stmt_view c.args.s.now)).size ⨾ stmt_code s n (stmt_view c.args.s.now)) c.args.code.now c.from_residual.ensures.1
+    refused c.from_residual.result c.in_err-jump.field-0.0 (over s JMP (stmt_code s n (stmt_view c.args.s.now)).size ⨾ stmt_code s n
+    (stmt_view c.args.s.now)) c.args.code.now c.from_residual.ensures.1
     (λ full. omega (arith, c.in_err-jump.ensures.large full))
 
 pub otherwise-returns-in_err-next-clause-large : goal.otherwise-returns-in_err-next-clause-large
 otherwise-returns-in_err-next-clause-large t c =
     let s = site_view c.args.from.site in
     let n = c.args.from.next in
-    refused c.from_residual-in_err-next.result c.in_err-next.field-0.0 (over s JMP (stmt_code s n (stmt_view c.args.s.now)).size ⨾ stmt_code s n (stmt_view c.args.s.now)) c.args.code.now c.from_residual-in_err-next.ensures.1
+    refused c.from_residual-in_err-next.result c.in_err-next.field-0.0 (over s JMP (stmt_code s n (stmt_view c.args.s.now)).size ⨾ stmt_code s n
+    (stmt_view c.args.s.now)) c.args.code.now c.from_residual-in_err-next.ensures.1
     (λ full. omega (arith, c.in_err-next.ensures.large full, c.in_ok-jump.ensures.code.size))
 
 pub otherwise-lead_here-requires : goal.otherwise-lead_here-requires
@@ -131,14 +137,16 @@ pub while_do-returns-in_err-jump-clause-large : goal.while_do-returns-in_err-jum
 while_do-returns-in_err-jump-clause-large t c =
     let s = site_view c.args.from.site in
     let n = c.args.from.next in
-    refused c.from_residual.result c.in_err-jump.field-0.0 (forms.while_do s (expr_view c.args.e.now) (stmt_code s n (stmt_view c.args.s.now))) c.args.code.now c.from_residual.ensures.1
+    refused c.from_residual.result c.in_err-jump.field-0.0 (forms.while_do s (expr_view c.args.e.now) (stmt_code s n (stmt_view c.args.s.now)))
+    c.args.code.now c.from_residual.ensures.1
     (λ full. omega (arith, c.in_err-jump.ensures.large full))
 
 pub while_do-returns-in_err-next-clause-large : goal.while_do-returns-in_err-next-clause-large
 while_do-returns-in_err-next-clause-large t c =
     let s = site_view c.args.from.site in
     let n = c.args.from.next in
-    refused c.from_residual-in_err-next.result c.in_err-next.field-0.0 (forms.while_do s (expr_view c.args.e.now) (stmt_code s n (stmt_view c.args.s.now))) c.args.code.now c.from_residual-in_err-next.ensures.1
+    refused c.from_residual-in_err-next.result c.in_err-next.field-0.0 (forms.while_do s (expr_view c.args.e.now) (stmt_code s n (stmt_view c.args.s.now)))
+    c.args.code.now c.from_residual-in_err-next.ensures.1
     (λ full. omega (arith, c.in_err-next.ensures.large full, c.in_ok-jump.ensures.code.size))
 
 pub while_do-returns-in_err-put-clause-large : goal.while_do-returns-in_err-put-clause-large
@@ -147,35 +155,40 @@ while_do-returns-in_err-put-clause-large t c =
     let n = c.args.from.next in
     let size : length c.lead_past.new.code.code ≡ length c.stmt.new.code.code =
     ap (λ (m : Made). length m.code) c.lead_past.ensures ∙ length-patched c.stmt.new.code.code c.in_ok-jump.jump (length c.stmt.new.code.code + 1) in
-    refused c.from_residual-in_err-put.result c.in_err-put.field-0.0 (forms.while_do s (expr_view c.args.e.now) (stmt_code s n (stmt_view c.args.s.now))) c.args.code.now c.from_residual-in_err-put.ensures.1
+    refused c.from_residual-in_err-put.result c.in_err-put.field-0.0 (forms.while_do s (expr_view c.args.e.now) (stmt_code s n (stmt_view c.args.s.now)))
+    c.args.code.now c.from_residual-in_err-put.ensures.1
     (λ full. omega (arith, c.in_err-put.ensures.large full, size, c.in_ok-jump.ensures.code.size, c.in_ok-next.ensures.code.size))
 
 pub repeat_forever-returns-in_err-next-clause-large : goal.repeat_forever-returns-in_err-next-clause-large
 repeat_forever-returns-in_err-next-clause-large t c =
     let s = site_view c.args.from.site in
     let n = c.args.from.next in
-    refused c.from_residual.result c.in_err-next.field-0.0 (forms.repeat_forever s (stmts_code s n (stmts_view c.args.ss.now))) c.args.code.now c.from_residual.ensures.1
+    refused c.from_residual.result c.in_err-next.field-0.0
+    (forms.repeat_forever s (stmts_code s n (stmts_view c.args.ss.now))) c.args.code.now c.from_residual.ensures.1
     (λ full. omega (arith, c.in_err-next.ensures.large full))
 
 pub repeat_forever-returns-in_err-put-clause-large : goal.repeat_forever-returns-in_err-put-clause-large
 repeat_forever-returns-in_err-put-clause-large t c =
     let s = site_view c.args.from.site in
     let n = c.args.from.next in
-    refused c.from_residual-in_err-put.result c.in_err-put.field-0.0 (forms.repeat_forever s (stmts_code s n (stmts_view c.args.ss.now))) c.args.code.now c.from_residual-in_err-put.ensures.1
+    refused c.from_residual-in_err-put.result c.in_err-put.field-0.0
+    (forms.repeat_forever s (stmts_code s n (stmts_view c.args.ss.now))) c.args.code.now c.from_residual-in_err-put.ensures.1
     (λ full. omega (arith, c.in_err-put.ensures.large full, c.in_ok-next.ensures.code.size))
 
 pub repeat_until-returns-in_err-next-clause-large : goal.repeat_until-returns-in_err-next-clause-large
 repeat_until-returns-in_err-next-clause-large t c =
     let s = site_view c.args.from.site in
     let n = c.args.from.next in
-    refused c.from_residual.result c.in_err-next.field-0.0 (forms.repeat_until s (stmts_code s n (stmts_view c.args.ss.now)) (expr_view c.args.e.now)) c.args.code.now c.from_residual.ensures.1
+    refused c.from_residual.result c.in_err-next.field-0.0 (forms.repeat_until s (stmts_code s n (stmts_view c.args.ss.now))
+    (expr_view c.args.e.now)) c.args.code.now c.from_residual.ensures.1
     (λ full. omega (arith, c.in_err-next.ensures.large full))
 
 pub repeat_until-returns-in_err-turn_until-clause-large : goal.repeat_until-returns-in_err-turn_until-clause-large
 repeat_until-returns-in_err-turn_until-clause-large t c =
     let s = site_view c.args.from.site in
     let n = c.args.from.next in
-    refused c.from_residual-in_err-turn_until.result c.in_err-turn_until.field-0.0 (forms.repeat_until s (stmts_code s n (stmts_view c.args.ss.now)) (expr_view c.args.e.now)) c.args.code.now c.from_residual-in_err-turn_until.ensures.1
+    refused c.from_residual-in_err-turn_until.result c.in_err-turn_until.field-0.0 (forms.repeat_until s (stmts_code s n (stmts_view c.args.ss.now))
+    (expr_view c.args.e.now)) c.args.code.now c.from_residual-in_err-turn_until.ensures.1
     (λ full. omega (arith, c.in_err-turn_until.ensures.large full, c.in_ok-next.ensures.code.size))
 
 pub repeat_until-returns-clause-code : goal.repeat_until-returns-clause-code
@@ -189,21 +202,24 @@ pub for_do-returns-in_err-begun-clause-large : goal.for_do-returns-in_err-begun-
 for_do-returns-in_err-begun-clause-large t c =
     let s = site_view c.args.from.site in
     let n = c.args.from.next in
-    refused c.from_residual.result c.in_err-begun.field-0.0 (forms.for_do s c.args.name.now (expr_view c.args.low.now) c.args.down (expr_view c.args.high.now) (stmt_code s n (stmt_view c.args.s.now))) c.args.code.now c.from_residual.ensures.1
+    refused c.from_residual.result c.in_err-begun.field-0.0 (forms.for_do s c.args.name.now (expr_view c.args.low.now) c.args.down (expr_view c.args.high.now)
+    (stmt_code s n (stmt_view c.args.s.now))) c.args.code.now c.from_residual.ensures.1
     (λ full. omega (arith, c.in_err-begun.ensures.large full))
 
 pub for_do-returns-in_err-put-clause-large : goal.for_do-returns-in_err-put-clause-large
 for_do-returns-in_err-put-clause-large t c =
     let s = site_view c.args.from.site in
     let n = c.args.from.next in
-    refused c.from_residual-in_err-put.result c.in_err-put.field-0.0 (forms.for_do s c.args.name.now (expr_view c.args.low.now) c.args.down (expr_view c.args.high.now) (stmt_code s n (stmt_view c.args.s.now))) c.args.code.now c.from_residual-in_err-put.ensures.1
+    refused c.from_residual-in_err-put.result c.in_err-put.field-0.0 (forms.for_do s c.args.name.now (expr_view c.args.low.now) c.args.down
+    (expr_view c.args.high.now) (stmt_code s n (stmt_view c.args.s.now))) c.args.code.now c.from_residual-in_err-put.ensures.1
     (λ full. omega (arith, c.in_err-put.ensures.large full, c.in_ok-begun.ensures.code.size))
 
 pub for_do-returns-in_err-next-clause-large : goal.for_do-returns-in_err-next-clause-large
 for_do-returns-in_err-next-clause-large t c =
     let s = site_view c.args.from.site in
     let n = c.args.from.next in
-    refused c.from_residual-in_err-next.result c.in_err-next.field-0.0 (forms.for_do s c.args.name.now (expr_view c.args.low.now) c.args.down (expr_view c.args.high.now) (stmt_code s n (stmt_view c.args.s.now))) c.args.code.now c.from_residual-in_err-next.ensures.1
+    refused c.from_residual-in_err-next.result c.in_err-next.field-0.0 (forms.for_do s c.args.name.now (expr_view c.args.low.now) c.args.down
+    (expr_view c.args.high.now) (stmt_code s n (stmt_view c.args.s.now))) c.args.code.now c.from_residual-in_err-next.ensures.1
     (λ full. omega (arith, c.in_err-next.ensures.large full, c.in_ok-begun.ensures.code.size, c.in_ok-put.ensures.code.size))
 
 pub for_do-returns-in_err-put-2-clause-large : goal.for_do-returns-in_err-put-2-clause-large
@@ -212,8 +228,16 @@ for_do-returns-in_err-put-2-clause-large t c =
     let n = c.args.from.next in
     let size : length c.lead_past.new.code.code ≡ length c.stmt.new.code.code =
     ap (λ (m : Made). length m.code) c.lead_past.ensures ∙ length-patched c.stmt.new.code.code c.in_ok-begun.begun (length c.stmt.new.code.code + 1) in
-    refused c.from_residual-in_err-put-2.result c.in_err-put-2.field-0.0 (forms.for_do s c.args.name.now (expr_view c.args.low.now) c.args.down (expr_view c.args.high.now) (stmt_code s n (stmt_view c.args.s.now))) c.args.code.now c.from_residual-in_err-put-2.ensures.1
-    (λ full. omega (arith, c.in_err-put-2.ensures.large full, size, c.in_ok-begun.ensures.code.size, c.in_ok-put.ensures.code.size, c.in_ok-next.ensures.code.size))
+    refused c.from_residual-in_err-put-2.result c.in_err-put-2.field-0.0 (forms.for_do s c.args.name.now (expr_view c.args.low.now) c.args.down
+    (expr_view c.args.high.now) (stmt_code s n (stmt_view c.args.s.now))) c.args.code.now c.from_residual-in_err-put-2.ensures.1
+    (λ full. omega (
+      arith,
+      c.in_err-put-2.ensures.large full,
+      size,
+      c.in_ok-begun.ensures.code.size,
+      c.in_ok-put.ensures.code.size,
+      c.in_ok-next.ensures.code.size,
+    ))
 
 pub for_do-lead_past-requires : goal.for_do-lead_past-requires
 for_do-lead_past-requires t c =
@@ -231,7 +255,10 @@ for_do-returns-clause-code t c =
     for_made s (forms.direction c.args.down) (base_code s (spot_of s.env (find s.env c.args.name.now)).spot) (expr_code s (expr_view c.args.low.now))
     (expr_code s (expr_view c.args.high.now)) inner begun c.args.code.now c.begin.new.code c.put.new.self c.stmt.new.code c.put-2.new.self
     c.in_ok-begun.ensures.code c.in_ok-begun.ensures.address c.in_ok-put.ensures.code c.in_ok-next.ensures.code
-    (subst (λ d. IsMade (one s (FORT d (begun + 1))) (record c.stmt.new.code { code = patched c.stmt.new.code.code begun (length c.stmt.new.code.code + 1) }) c.put-2.new.self)
+    (subst (λ d. IsMade (one s (FORT d (begun + 1))) (record c.stmt.new.code {
+      code =
+          patched c.stmt.new.code.code begun (length c.stmt.new.code.code + 1);
+    }) c.put-2.new.self)
     c.direction.ensures
     (subst (λ (m : Made). IsMade (one s (FORT c.direction.result (begun + 1))) m c.put-2.new.self) c.lead_past.ensures c.in_ok-put-2.ensures.code))
 
@@ -239,14 +266,16 @@ pub cobegin-returns-in_err-next-clause-large : goal.cobegin-returns-in_err-next-
 cobegin-returns-in_err-next-clause-large t c =
     let s = site_view c.args.from.site in
     let n = c.args.from.next in
-    refused c.from_residual.result c.in_err-next.field-0.0 (stmts_code s n (stmts_view c.args.ss.now) ⨾ one (at_line s c.args.last.line) COEND) c.args.code.now c.from_residual.ensures.1
+    refused c.from_residual.result c.in_err-next.field-0.0 (stmts_code s n (stmts_view c.args.ss.now) ⨾ one (at_line s c.args.last.line) COEND)
+    c.args.code.now c.from_residual.ensures.1
     (λ full. omega (arith, c.in_err-next.ensures.large full))
 
 pub cobegin-returns-in_err-put-clause-large : goal.cobegin-returns-in_err-put-clause-large
 cobegin-returns-in_err-put-clause-large t c =
     let s = site_view c.args.from.site in
     let n = c.args.from.next in
-    refused c.from_residual-in_err-put.result c.in_err-put.field-0.0 (stmts_code s n (stmts_view c.args.ss.now) ⨾ one (at_line s c.args.last.line) COEND) c.args.code.now c.from_residual-in_err-put.ensures.1
+    refused c.from_residual-in_err-put.result c.in_err-put.field-0.0 (stmts_code s n (stmts_view c.args.ss.now) ⨾ one (at_line s c.args.last.line) COEND)
+    c.args.code.now c.from_residual-in_err-put.ensures.1
     (λ full. omega (arith, c.in_err-put.ensures.large full, c.in_ok-next.ensures.code.size))
 
 pub first_choice-returns-in_err-jump-clause-large : goal.first_choice-returns-in_err-jump-clause-large
@@ -367,7 +396,8 @@ stmt-returns-in-For-clause-code t c =
     subst (λ v. OnOk c.for_do.result (IsMade (stmt_code s n v) x z)) (sym seen)
     (subst (λ k. OnOk c.for_do.result (IsMade (forms.for_do (at_line s p.line) c.in-For.name a c.in-For.down b (stmt_code (at_line s p.line) k one)) x z))
     c.at-in-For.ensures.next
-    (subst (λ q. OnOk c.for_do.result (IsMade (forms.for_do q c.in-For.name a c.in-For.down b (stmt_code q c.at-in-For.result.next one)) x z)) c.at-in-For.ensures.site
+    (subst (λ q. OnOk c.for_do.result
+    (IsMade (forms.for_do q c.in-For.name a c.in-For.down b (stmt_code q c.at-in-For.result.next one)) x z)) c.at-in-For.ensures.site
     c.for_do.ensures.code))
 
 pub stmt-returns-in-Accept-clause-code : goal.stmt-returns-in-Accept-clause-code
@@ -470,7 +500,8 @@ arms-loop-a-preserved t c =
     let rest = arms_view (drop (i + 1) list) in
     let marks = c.loop-a.marks in
     let old = c.args.marks.now in
-    let go = subst (λ (x : ArmTrees). ArmsGo s n x c.loop-a.code marks.starts.items marks.ends.items c.args.from.next (arms_view list) c.args.code.now old.starts.items old.ends.items) here c.loop-a.invariant in
+    let go = subst (λ (x : ArmTrees). ArmsGo s n x c.loop-a.code marks.starts.items marks.ends.items c.args.from.next
+    (arms_view list) c.args.code.now old.starts.items old.ends.items) here c.loop-a.invariant in
     arms_next s n a.labels.items (stmt_view o) rest c.loop-a.code marks.starts.items marks.ends.items c.args.from.next (arms_view list) c.args.code.now
     old.starts.items old.ends.items c.arm.new.code c.arm.new.marks.starts.items c.arm.new.marks.ends.items _ go c.in_ok-next.ensures.code
     c.in_ok-next.ensures.starts c.in_ok-next.ensures.ends c.in_ok-next.ensures.next
@@ -488,7 +519,8 @@ arms-returns-in_err-next-clause-large t c =
     let rest = arms_view (drop (i + 1) list) in
     let marks = c.loop-a.marks in
     let old = c.args.marks.now in
-    let go = subst (λ (x : ArmTrees). ArmsGo s n x c.loop-a.code marks.starts.items marks.ends.items c.args.from.next (arms_view list) c.args.code.now old.starts.items old.ends.items) here c.loop-a.invariant in
+    let go = subst (λ (x : ArmTrees). ArmsGo s n x c.loop-a.code marks.starts.items marks.ends.items c.args.from.next
+    (arms_view list) c.args.code.now old.starts.items old.ends.items) here c.loop-a.invariant in
     refused c.from_residual.result c.in_err-next.field-0.0 (arms_code s c.args.from.next (arms_view list)) c.args.code.now c.from_residual.ensures.1
     (λ full. arms_large s n a.labels.items (stmt_view o) rest c.loop-a.code marks.starts.items marks.ends.items c.args.from.next (arms_view list)
     c.args.code.now old.starts.items old.ends.items go (c.in_err-next.ensures.large full))
@@ -500,7 +532,8 @@ arms-returns-clause-code t c =
     let past : length list ≤ c.loop-a.a-index = omega arith in
     let marks = c.loop-a.marks in
     let old = c.args.marks.now in
-    let go = subst (λ (x : ArmTrees). ArmsGo s c.loop-a.next x c.loop-a.code marks.starts.items marks.ends.items c.args.from.next (arms_view list) c.args.code.now old.starts.items old.ends.items) (arms_end list c.loop-a.a-index past) c.loop-a.invariant in
+    let go = subst (λ (x : ArmTrees). ArmsGo s c.loop-a.next x c.loop-a.code marks.starts.items marks.ends.items c.args.from.next
+    (arms_view list) c.args.code.now old.starts.items old.ends.items) (arms_end list c.loop-a.a-index past) c.loop-a.invariant in
     go.made c.loop-a.code refl
 
 pub arms-returns-clause-starts : goal.arms-returns-clause-starts
@@ -510,7 +543,8 @@ arms-returns-clause-starts t c =
     let past : length list ≤ c.loop-a.a-index = omega arith in
     let marks = c.loop-a.marks in
     let old = c.args.marks.now in
-    let go = subst (λ (x : ArmTrees). ArmsGo s c.loop-a.next x c.loop-a.code marks.starts.items marks.ends.items c.args.from.next (arms_view list) c.args.code.now old.starts.items old.ends.items) (arms_end list c.loop-a.a-index past) c.loop-a.invariant in
+    let go = subst (λ (x : ArmTrees). ArmsGo s c.loop-a.next x c.loop-a.code marks.starts.items marks.ends.items c.args.from.next
+    (arms_view list) c.args.code.now old.starts.items old.ends.items) (arms_end list c.loop-a.a-index past) c.loop-a.invariant in
     sym (append-nil marks.starts.items) ∙ go.starting
 
 pub arms-returns-clause-ends : goal.arms-returns-clause-ends
@@ -520,7 +554,8 @@ arms-returns-clause-ends t c =
     let past : length list ≤ c.loop-a.a-index = omega arith in
     let marks = c.loop-a.marks in
     let old = c.args.marks.now in
-    let go = subst (λ (x : ArmTrees). ArmsGo s c.loop-a.next x c.loop-a.code marks.starts.items marks.ends.items c.args.from.next (arms_view list) c.args.code.now old.starts.items old.ends.items) (arms_end list c.loop-a.a-index past) c.loop-a.invariant in
+    let go = subst (λ (x : ArmTrees). ArmsGo s c.loop-a.next x c.loop-a.code marks.starts.items marks.ends.items c.args.from.next
+    (arms_view list) c.args.code.now old.starts.items old.ends.items) (arms_end list c.loop-a.a-index past) c.loop-a.invariant in
     sym (append-nil marks.ends.items) ∙ go.ending
 
 pub arms-returns-clause-next : goal.arms-returns-clause-next
@@ -530,21 +565,24 @@ arms-returns-clause-next t c =
     let past : length list ≤ c.loop-a.a-index = omega arith in
     let marks = c.loop-a.marks in
     let old = c.args.marks.now in
-    let go = subst (λ (x : ArmTrees). ArmsGo s c.loop-a.next x c.loop-a.code marks.starts.items marks.ends.items c.args.from.next (arms_view list) c.args.code.now old.starts.items old.ends.items) (arms_end list c.loop-a.a-index past) c.loop-a.invariant in
+    let go = subst (λ (x : ArmTrees). ArmsGo s c.loop-a.next x c.loop-a.code marks.starts.items marks.ends.items c.args.from.next
+    (arms_view list) c.args.code.now old.starts.items old.ends.items) (arms_end list c.loop-a.a-index past) c.loop-a.invariant in
     omega (arith, go.next)
 
 pub arm-returns-in_err-next-clause-large : goal.arm-returns-in_err-next-clause-large
 arm-returns-in_err-next-clause-large t c =
     let s = site_view c.args.from.site in
     let n = c.args.from.next in
-    refused c.from_residual-in_err-next.result c.in_err-next.field-0.0 (stmt_code s n (stmt_view c.args.s.now) ⨾ one s (JMP 0)) c.args.code.now c.from_residual-in_err-next.ensures.1
+    refused c.from_residual-in_err-next.result c.in_err-next.field-0.0 (stmt_code s n (stmt_view c.args.s.now) ⨾ one s
+    (JMP 0)) c.args.code.now c.from_residual-in_err-next.ensures.1
     (λ full. omega (arith, c.in_err-next.ensures.large full))
 
 pub arm-returns-in_err-end-clause-large : goal.arm-returns-in_err-end-clause-large
 arm-returns-in_err-end-clause-large t c =
     let s = site_view c.args.from.site in
     let n = c.args.from.next in
-    refused c.from_residual-in_err-end.result c.in_err-end.field-0.0 (stmt_code s n (stmt_view c.args.s.now) ⨾ one s (JMP 0)) c.args.code.now c.from_residual-in_err-end.ensures.1
+    refused c.from_residual-in_err-end.result c.in_err-end.field-0.0 (stmt_code s n (stmt_view c.args.s.now) ⨾ one s
+    (JMP 0)) c.args.code.now c.from_residual-in_err-end.ensures.1
     (λ full. omega (arith, c.in_err-end.ensures.large full, c.in_ok-next.ensures.code.size))
 
 pub arm-returns-clause-code : goal.arm-returns-clause-code
@@ -566,15 +604,24 @@ pub case_of-returns-in_err-first-clause-large : goal.case_of-returns-in_err-firs
 case_of-returns-in_err-first-clause-large t c =
     let s = site_view c.args.from.site in
     let n = c.args.from.next in
-    refused c.from_residual.result c.in_err-first.field-0.0 (forms.case_of s n (expr_view c.args.e.now) (arms_view c.args.all.now)) c.args.code.now c.from_residual.ensures.1
+    refused c.from_residual.result c.in_err-first.field-0.0 (forms.case_of s n (expr_view c.args.e.now)
+    (arms_view c.args.all.now)) c.args.code.now c.from_residual.ensures.1
     (λ full. omega (arith, c.in_err-first.ensures.large full, open_tests_size s (arms_view c.args.all.now), tests_size s n 0 (arms_view c.args.all.now)))
 
 pub case_of-returns-in_err-next-clause-large : goal.case_of-returns-in_err-next-clause-large
 case_of-returns-in_err-next-clause-large t c =
     let s = site_view c.args.from.site in
     let n = c.args.from.next in
-    refused c.from_residual-in_err-next.result c.in_err-next.field-0.0 (forms.case_of s n (expr_view c.args.e.now) (arms_view c.args.all.now)) c.args.code.now c.from_residual-in_err-next.ensures.1
-    (λ full. omega (arith, c.in_err-next.ensures.large full, c.in_ok-first.ensures.code.size, open_tests_size s (arms_view c.args.all.now), tests_size s n 0 (arms_view c.args.all.now)))
+    refused c.from_residual-in_err-next.result c.in_err-next.field-0.0 (forms.case_of s n (expr_view c.args.e.now)
+    (arms_view c.args.all.now)) c.args.code.now c.from_residual-in_err-next.ensures.1
+    (λ full. omega (
+      arith,
+      c.in_err-next.ensures.large full,
+      c.in_ok-first.ensures.code.size,
+      open_tests_size s
+          (arms_view c.args.all.now),
+      tests_size s n 0 (arms_view c.args.all.now),
+    ))
 
 pub case_of-lead_arms-requires-clause-tests : goal.case_of-lead_arms-requires-clause-tests
 case_of-lead_arms-requires-clause-tests t c =
@@ -637,14 +684,16 @@ pub meeting-returns-in_err-next-clause-large : goal.meeting-returns-in_err-next-
 meeting-returns-in_err-next-clause-large t c =
     let s = site_view c.args.from.site in
     let n = c.args.from.next in
-    refused c.from_residual.result c.in_err-next.field-0.0 (accepted_code s n (accept_view c.args.a.now) ⨾ one (site_view c.args.end) EACC) c.args.code.now c.from_residual.ensures.1
+    refused c.from_residual.result c.in_err-next.field-0.0 (accepted_code s n (accept_view c.args.a.now) ⨾ one
+    (site_view c.args.end) EACC) c.args.code.now c.from_residual.ensures.1
     (λ full. omega (arith, c.in_err-next.ensures.large full))
 
 pub meeting-returns-in_err-put-clause-large : goal.meeting-returns-in_err-put-clause-large
 meeting-returns-in_err-put-clause-large t c =
     let s = site_view c.args.from.site in
     let n = c.args.from.next in
-    refused c.from_residual-in_err-put.result c.in_err-put.field-0.0 (accepted_code s n (accept_view c.args.a.now) ⨾ one (site_view c.args.end) EACC) c.args.code.now c.from_residual-in_err-put.ensures.1
+    refused c.from_residual-in_err-put.result c.in_err-put.field-0.0 (accepted_code s n (accept_view c.args.a.now) ⨾ one
+    (site_view c.args.end) EACC) c.args.code.now c.from_residual-in_err-put.ensures.1
     (λ full. omega (arith, c.in_err-put.ensures.large full, c.in_ok-next.ensures.code.size))
 
 pub meeting-returns-clause-code : goal.meeting-returns-clause-code
@@ -672,7 +721,8 @@ branches-loop-a-preserved t c =
     let rest = alts_view (drop (i + 1) list) in
     let marks = c.loop-a.marks in
     let old = c.args.marks.now in
-    let go = subst (λ (x : AltTrees). BranchesGo s n x c.loop-a.code marks.starts.items marks.ends.items c.args.from.next (alts_view list) c.args.code.now old.starts.items old.ends.items) here c.loop-a.invariant in
+    let go = subst (λ (x : AltTrees). BranchesGo s n x c.loop-a.code marks.starts.items marks.ends.items c.args.from.next
+    (alts_view list) c.args.code.now old.starts.items old.ends.items) here c.loop-a.invariant in
     branches_next s n (alt_view a) rest c.loop-a.code marks.starts.items marks.ends.items c.args.from.next (alts_view list) c.args.code.now
     old.starts.items old.ends.items c.branch-a.new.code c.branch-a.new.marks.starts.items c.branch-a.new.marks.ends.items _ go c.in_ok-next.ensures.code
     c.in_ok-next.ensures.starts c.in_ok-next.ensures.ends c.in_ok-next.ensures.next
@@ -689,7 +739,8 @@ branches-returns-in_err-next-clause-large t c =
     let rest = alts_view (drop (i + 1) list) in
     let marks = c.loop-a.marks in
     let old = c.args.marks.now in
-    let go = subst (λ (x : AltTrees). BranchesGo s n x c.loop-a.code marks.starts.items marks.ends.items c.args.from.next (alts_view list) c.args.code.now old.starts.items old.ends.items) here c.loop-a.invariant in
+    let go = subst (λ (x : AltTrees). BranchesGo s n x c.loop-a.code marks.starts.items marks.ends.items c.args.from.next
+    (alts_view list) c.args.code.now old.starts.items old.ends.items) here c.loop-a.invariant in
     refused c.from_residual.result c.in_err-next.field-0.0 (branches_code s c.args.from.next (alts_view list) 0) c.args.code.now c.from_residual.ensures.1
     (λ full. branches_large s n (alt_view a) rest c.loop-a.code marks.starts.items marks.ends.items c.args.from.next (alts_view list)
     c.args.code.now old.starts.items old.ends.items go (c.in_err-next.ensures.large full))
@@ -701,7 +752,8 @@ branches-returns-clause-code t c =
     let past : length list ≤ c.loop-a.a-index = omega arith in
     let marks = c.loop-a.marks in
     let old = c.args.marks.now in
-    let go = subst (λ (x : AltTrees). BranchesGo s c.loop-a.next x c.loop-a.code marks.starts.items marks.ends.items c.args.from.next (alts_view list) c.args.code.now old.starts.items old.ends.items) (alts_end list c.loop-a.a-index past) c.loop-a.invariant in
+    let go = subst (λ (x : AltTrees). BranchesGo s c.loop-a.next x c.loop-a.code marks.starts.items marks.ends.items c.args.from.next
+    (alts_view list) c.args.code.now old.starts.items old.ends.items) (alts_end list c.loop-a.a-index past) c.loop-a.invariant in
     go.made c.loop-a.code refl
 
 pub branches-returns-clause-starts : goal.branches-returns-clause-starts
@@ -711,7 +763,8 @@ branches-returns-clause-starts t c =
     let past : length list ≤ c.loop-a.a-index = omega arith in
     let marks = c.loop-a.marks in
     let old = c.args.marks.now in
-    let go = subst (λ (x : AltTrees). BranchesGo s c.loop-a.next x c.loop-a.code marks.starts.items marks.ends.items c.args.from.next (alts_view list) c.args.code.now old.starts.items old.ends.items) (alts_end list c.loop-a.a-index past) c.loop-a.invariant in
+    let go = subst (λ (x : AltTrees). BranchesGo s c.loop-a.next x c.loop-a.code marks.starts.items marks.ends.items c.args.from.next
+    (alts_view list) c.args.code.now old.starts.items old.ends.items) (alts_end list c.loop-a.a-index past) c.loop-a.invariant in
     sym (append-nil marks.starts.items) ∙ go.starting
 
 pub branches-returns-clause-ends : goal.branches-returns-clause-ends
@@ -721,7 +774,8 @@ branches-returns-clause-ends t c =
     let past : length list ≤ c.loop-a.a-index = omega arith in
     let marks = c.loop-a.marks in
     let old = c.args.marks.now in
-    let go = subst (λ (x : AltTrees). BranchesGo s c.loop-a.next x c.loop-a.code marks.starts.items marks.ends.items c.args.from.next (alts_view list) c.args.code.now old.starts.items old.ends.items) (alts_end list c.loop-a.a-index past) c.loop-a.invariant in
+    let go = subst (λ (x : AltTrees). BranchesGo s c.loop-a.next x c.loop-a.code marks.starts.items marks.ends.items c.args.from.next
+    (alts_view list) c.args.code.now old.starts.items old.ends.items) (alts_end list c.loop-a.a-index past) c.loop-a.invariant in
     sym (append-nil marks.ends.items) ∙ go.ending
 
 pub branches-returns-clause-next : goal.branches-returns-clause-next
@@ -731,7 +785,8 @@ branches-returns-clause-next t c =
     let past : length list ≤ c.loop-a.a-index = omega arith in
     let marks = c.loop-a.marks in
     let old = c.args.marks.now in
-    let go = subst (λ (x : AltTrees). BranchesGo s c.loop-a.next x c.loop-a.code marks.starts.items marks.ends.items c.args.from.next (alts_view list) c.args.code.now old.starts.items old.ends.items) (alts_end list c.loop-a.a-index past) c.loop-a.invariant in
+    let go = subst (λ (x : AltTrees). BranchesGo s c.loop-a.next x c.loop-a.code marks.starts.items marks.ends.items c.args.from.next
+    (alts_view list) c.args.code.now old.starts.items old.ends.items) (alts_end list c.loop-a.a-index past) c.loop-a.invariant in
     omega (arith, go.next)
 
 -- ## One branch
@@ -749,7 +804,8 @@ branch-returns-in_err-choose-clause-large t c =
     let view : alt_view a ≡ alt a.spread guard comm ss = alt_view-out a in
     let is : is_terminate comm ≡ false = sym c.is_terminate.ensures ∙ c.if-is_terminate.false in
     let same = ap (λ v. open_branch s n v) view ∙ plain_branch s n a.spread guard ss comm is in
-    refused c.from_residual-in_err-choose.result c.in_err-choose.field-0.0 (open_branch s n (alt_view a)) c.args.code.now c.from_residual-in_err-choose.ensures.1
+    refused c.from_residual-in_err-choose.result c.in_err-choose.field-0.0
+    (open_branch s n (alt_view a)) c.args.code.now c.from_residual-in_err-choose.ensures.1
     (λ full. subst (λ (o : Code). IsTooLarge o c.args.code.now) (sym same) (omega (arith, c.in_err-choose.ensures.large full)))
 
 pub branch-returns-in_err-next-clause-large : goal.branch-returns-in_err-next-clause-large
@@ -779,9 +835,16 @@ branch-returns-in_err-next-2-clause-large t c =
     alt_view-out a ∙ ap (λ l. alt a.spread guard comm (stmts_view l)) (sym c.deref-2.ensures.value) in
     let is : is_terminate comm ≡ false = sym c.is_terminate.ensures ∙ c.if-is_terminate.false in
     let same = ap (λ v. open_branch s n v) view ∙ plain_branch s n a.spread guard ss comm is in
-    refused c.from_residual-in_err-next-2.result c.in_err-next-2.field-0.0 (open_branch s n (alt_view a)) c.args.code.now c.from_residual-in_err-next-2.ensures.1
+    refused c.from_residual-in_err-next-2.result c.in_err-next-2.field-0.0
+    (open_branch s n (alt_view a)) c.args.code.now c.from_residual-in_err-next-2.ensures.1
     (λ full. subst (λ (o : Code). IsTooLarge o c.args.code.now) (sym same)
-    (omega (arith, subst (λ k. IsTooLarge (stmts_code s k ss) c.met.new.code) c.in_ok-next.ensures.next (c.in_err-next-2.ensures.large full), c.in_ok-choose.ensures.code.size, c.in_ok-next.ensures.code.size)))
+    (omega (
+      arith,
+      subst (λ k. IsTooLarge (stmts_code s k ss) c.met.new.code) c.in_ok-next.ensures.next
+          (c.in_err-next-2.ensures.large full),
+      c.in_ok-choose.ensures.code.size,
+      c.in_ok-next.ensures.code.size,
+    )))
 
 pub branch-returns-in_err-end-clause-large : goal.branch-returns-in_err-end-clause-large
 branch-returns-in_err-end-clause-large t c =
@@ -880,7 +943,13 @@ select-returns-in_err-decide-clause-large t c =
     let alts = alts_view c.args.alts.now in
     refused c.from_residual-in_err-decide.result c.in_err-decide.field-0.0 (forms.select s n c.args.pri alts) c.args.code.now
     c.from_residual-in_err-decide.ensures.1
-    (λ full. omega (arith, c.in_err-decide.ensures.large full, c.in_ok-places.ensures.code.size, alternatives_size s (alternatives (context_of s) n alts) (distances s n 0 alts)))
+    (λ full. omega (
+      arith,
+      c.in_err-decide.ensures.large full,
+      c.in_ok-places.ensures.code.size,
+      alternatives_size s
+          (alternatives (context_of s) n alts) (distances s n 0 alts),
+    ))
 
 pub select-returns-in_err-next-clause-large : goal.select-returns-in_err-next-clause-large
 select-returns-in_err-next-clause-large t c =
@@ -889,7 +958,14 @@ select-returns-in_err-next-clause-large t c =
     let alts = alts_view c.args.alts.now in
     refused c.from_residual-in_err-next.result c.in_err-next.field-0.0 (forms.select s n c.args.pri alts) c.args.code.now
     c.from_residual-in_err-next.ensures.1
-    (λ full. omega (arith, c.in_err-next.ensures.large full, c.in_ok-places.ensures.code.size, c.in_ok-decide.ensures.code.size, alternatives_size s (alternatives (context_of s) n alts) (distances s n 0 alts)))
+    (λ full. omega (
+      arith,
+      c.in_err-next.ensures.large full,
+      c.in_ok-places.ensures.code.size,
+      c.in_ok-decide.ensures.code.size,
+      alternatives_size s
+          (alternatives (context_of s) n alts) (distances s n 0 alts),
+    ))
 
 pub select-lead_all-requires : goal.select-lead_all-requires
 select-lead_all-requires t c =
@@ -967,14 +1043,18 @@ select_else-returns-in_err-places-in-Some-clause-large t c =
     let alts = alts_view list in
     let all = alternatives (context_of s) n alts in
     let x = c.args.code.now in
-    let seen = stmt_view-else c.args.s.now pri c.in-Select.alts c.in-Select.other c.in-Some.otherwise c.in-Select.place _ list c.in-Some.otherwise.0.items c.in-Select.is
+    let seen = stmt_view-else c.args.s.now pri c.in-Select.alts c.in-Select.other c.in-Some.otherwise c.in-Select.place _ list
+    c.in-Some.otherwise.0.items c.in-Select.is
     c.in-Some.is c.as_slice-alts.ensures.value refl in
-    let lift : IsTooLarge (forms.select_else s n pri alts (stmts_view c.in-Some.otherwise.0.items)) x → IsTooLarge (stmt_code (site_view c.args.from.site) c.args.from.next (stmt_view c.args.s.now)) x =
+    let lift : IsTooLarge (forms.select_else s n pri alts (stmts_view c.in-Some.otherwise.0.items)) x →
+    IsTooLarge (stmt_code (site_view c.args.from.site) c.args.from.next (stmt_view c.args.s.now)) x =
     λ large. subst (λ v. IsTooLarge (stmt_code (site_view c.args.from.site) c.args.from.next v) x) (sym seen)
-    (subst (λ k. IsTooLarge (forms.select_else (at_line (site_view c.args.from.site) c.in-Select.place.line) k pri alts (stmts_view c.in-Some.otherwise.0.items)) x) c.at-from.ensures.next
+    (subst (λ k. IsTooLarge (forms.select_else (at_line (site_view c.args.from.site) c.in-Select.place.line) k pri alts
+    (stmts_view c.in-Some.otherwise.0.items)) x) c.at-from.ensures.next
     (subst (λ q. IsTooLarge (forms.select_else q n pri alts (stmts_view c.in-Some.otherwise.0.items)) x) c.at-from.ensures.site large)) in
     let o = stmts_code s (n + alts_scopes alts) (stmts_view c.in-Some.otherwise.0.items) in
-    refused c.from_residual.result c.in_err-places-in-Some.field-0.0 (stmt_code (site_view c.args.from.site) c.args.from.next (stmt_view c.args.s.now)) x c.from_residual.ensures.1
+    refused c.from_residual.result c.in_err-places-in-Some.field-0.0 (stmt_code (site_view c.args.from.site) c.args.from.next
+    (stmt_view c.args.s.now)) x c.from_residual.ensures.1
     (λ full. lift (omega (arith, c.in_err-places-in-Some.ensures.large full, branches_size s n alts 0 o.size, alternatives_size s all (distances s n 0 alts))))
 
 pub select_else-returns-in_err-decided-in-Some-clause-large : goal.select_else-returns-in_err-decided-in-Some-clause-large
@@ -987,15 +1067,25 @@ select_else-returns-in_err-decided-in-Some-clause-large t c =
     let alts = alts_view list in
     let all = alternatives (context_of s) n alts in
     let x = c.args.code.now in
-    let seen = stmt_view-else c.args.s.now pri c.in-Select.alts c.in-Select.other c.in-Some.otherwise c.in-Select.place _ list c.in-Some.otherwise.0.items c.in-Select.is
+    let seen = stmt_view-else c.args.s.now pri c.in-Select.alts c.in-Select.other c.in-Some.otherwise c.in-Select.place _ list
+    c.in-Some.otherwise.0.items c.in-Select.is
     c.in-Some.is c.as_slice-alts.ensures.value refl in
-    let lift : IsTooLarge (forms.select_else s n pri alts (stmts_view c.in-Some.otherwise.0.items)) x → IsTooLarge (stmt_code (site_view c.args.from.site) c.args.from.next (stmt_view c.args.s.now)) x =
+    let lift : IsTooLarge (forms.select_else s n pri alts (stmts_view c.in-Some.otherwise.0.items)) x →
+    IsTooLarge (stmt_code (site_view c.args.from.site) c.args.from.next (stmt_view c.args.s.now)) x =
     λ large. subst (λ v. IsTooLarge (stmt_code (site_view c.args.from.site) c.args.from.next v) x) (sym seen)
-    (subst (λ k. IsTooLarge (forms.select_else (at_line (site_view c.args.from.site) c.in-Select.place.line) k pri alts (stmts_view c.in-Some.otherwise.0.items)) x) c.at-from.ensures.next
+    (subst (λ k. IsTooLarge (forms.select_else (at_line (site_view c.args.from.site) c.in-Select.place.line) k pri alts
+    (stmts_view c.in-Some.otherwise.0.items)) x) c.at-from.ensures.next
     (subst (λ q. IsTooLarge (forms.select_else q n pri alts (stmts_view c.in-Some.otherwise.0.items)) x) c.at-from.ensures.site large)) in
     let o = stmts_code s (n + alts_scopes alts) (stmts_view c.in-Some.otherwise.0.items) in
-    refused c.from_residual-in_err-decided-in-Some.result c.in_err-decided-in-Some.field-0.0 (stmt_code (site_view c.args.from.site) c.args.from.next (stmt_view c.args.s.now)) x c.from_residual-in_err-decided-in-Some.ensures.1
-    (λ full. lift (omega (arith, c.in_err-decided-in-Some.ensures.large full, c.in_ok-places-in-Some.ensures.code.size, branches_size s n alts 0 o.size, alternatives_size s all (distances s n 0 alts))))
+    refused c.from_residual-in_err-decided-in-Some.result c.in_err-decided-in-Some.field-0.0 (stmt_code (site_view c.args.from.site) c.args.from.next
+    (stmt_view c.args.s.now)) x c.from_residual-in_err-decided-in-Some.ensures.1
+    (λ full. lift (omega (
+      arith,
+      c.in_err-decided-in-Some.ensures.large full,
+      c.in_ok-places-in-Some.ensures.code.size,
+      branches_size s n alts 0 o.size,
+      alternatives_size s all (distances s n 0 alts),
+    )))
 
 pub select_else-returns-in_err-next-in-Some-clause-large : goal.select_else-returns-in_err-next-in-Some-clause-large
 select_else-returns-in_err-next-in-Some-clause-large t c =
@@ -1007,15 +1097,26 @@ select_else-returns-in_err-next-in-Some-clause-large t c =
     let alts = alts_view list in
     let all = alternatives (context_of s) n alts in
     let x = c.args.code.now in
-    let seen = stmt_view-else c.args.s.now pri c.in-Select.alts c.in-Select.other c.in-Some.otherwise c.in-Select.place _ list c.in-Some.otherwise.0.items c.in-Select.is
+    let seen = stmt_view-else c.args.s.now pri c.in-Select.alts c.in-Select.other c.in-Some.otherwise c.in-Select.place _ list
+    c.in-Some.otherwise.0.items c.in-Select.is
     c.in-Some.is c.as_slice-alts.ensures.value refl in
-    let lift : IsTooLarge (forms.select_else s n pri alts (stmts_view c.in-Some.otherwise.0.items)) x → IsTooLarge (stmt_code (site_view c.args.from.site) c.args.from.next (stmt_view c.args.s.now)) x =
+    let lift : IsTooLarge (forms.select_else s n pri alts (stmts_view c.in-Some.otherwise.0.items)) x →
+    IsTooLarge (stmt_code (site_view c.args.from.site) c.args.from.next (stmt_view c.args.s.now)) x =
     λ large. subst (λ v. IsTooLarge (stmt_code (site_view c.args.from.site) c.args.from.next v) x) (sym seen)
-    (subst (λ k. IsTooLarge (forms.select_else (at_line (site_view c.args.from.site) c.in-Select.place.line) k pri alts (stmts_view c.in-Some.otherwise.0.items)) x) c.at-from.ensures.next
+    (subst (λ k. IsTooLarge (forms.select_else (at_line (site_view c.args.from.site) c.in-Select.place.line) k pri alts
+    (stmts_view c.in-Some.otherwise.0.items)) x) c.at-from.ensures.next
     (subst (λ q. IsTooLarge (forms.select_else q n pri alts (stmts_view c.in-Some.otherwise.0.items)) x) c.at-from.ensures.site large)) in
     let o = stmts_code s (n + alts_scopes alts) (stmts_view c.in-Some.otherwise.0.items) in
-    refused c.from_residual-in_err-next-in-Some.result c.in_err-next-in-Some.field-0.0 (stmt_code (site_view c.args.from.site) c.args.from.next (stmt_view c.args.s.now)) x c.from_residual-in_err-next-in-Some.ensures.1
-    (λ full. lift (omega (arith, c.in_err-next-in-Some.ensures.large full, c.in_ok-places-in-Some.ensures.code.size, c.in_ok-decided-in-Some.ensures.code.size, branches_size s n alts 0 o.size, alternatives_size s all (distances s n 0 alts))))
+    refused c.from_residual-in_err-next-in-Some.result c.in_err-next-in-Some.field-0.0 (stmt_code (site_view c.args.from.site) c.args.from.next
+    (stmt_view c.args.s.now)) x c.from_residual-in_err-next-in-Some.ensures.1
+    (λ full. lift (omega (
+      arith,
+      c.in_err-next-in-Some.ensures.large full,
+      c.in_ok-places-in-Some.ensures.code.size,
+      c.in_ok-decided-in-Some.ensures.code.size,
+      branches_size s n alts 0 o.size,
+      alternatives_size s all (distances s n 0 alts),
+    )))
 
 pub select_else-returns-in_err-next-in-Some-2-clause-large : goal.select_else-returns-in_err-next-in-Some-2-clause-large
 select_else-returns-in_err-next-in-Some-2-clause-large t c =
@@ -1029,16 +1130,31 @@ select_else-returns-in_err-next-in-Some-2-clause-large t c =
     let x = c.args.code.now in
     let seen = stmt_view-else c.args.s.now pri c.in-Select.alts c.in-Select.other c.in-Some.otherwise c.in-Select.place _ list c.deref.result.now c.in-Select.is
     c.in-Some.is c.as_slice-alts.ensures.value c.deref.ensures.value in
-    let lift : IsTooLarge (forms.select_else s n pri alts (stmts_view c.deref.result.now)) x → IsTooLarge (stmt_code (site_view c.args.from.site) c.args.from.next (stmt_view c.args.s.now)) x =
+    let lift : IsTooLarge (forms.select_else s n pri alts (stmts_view c.deref.result.now)) x →
+    IsTooLarge (stmt_code (site_view c.args.from.site) c.args.from.next (stmt_view c.args.s.now)) x =
     λ large. subst (λ v. IsTooLarge (stmt_code (site_view c.args.from.site) c.args.from.next v) x) (sym seen)
-    (subst (λ k. IsTooLarge (forms.select_else (at_line (site_view c.args.from.site) c.in-Select.place.line) k pri alts (stmts_view c.deref.result.now)) x) c.at-from.ensures.next
+    (subst (λ k. IsTooLarge (forms.select_else (at_line (site_view c.args.from.site) c.in-Select.place.line) k pri alts
+    (stmts_view c.deref.result.now)) x) c.at-from.ensures.next
     (subst (λ q. IsTooLarge (forms.select_else q n pri alts (stmts_view c.deref.result.now)) x) c.at-from.ensures.site large)) in
     let o = stmts_code s (n + alts_scopes alts) (stmts_view c.deref.result.now) in
     let z = c.branches.new.code in
     let size : length c.lead_here.new.code.code ≡ length z.code =
     ap (λ (m : Made). length m.code) c.lead_here.ensures ∙ length-patched z.code c.in_ok-decided-in-Some.decided (length z.code) in
-    refused c.from_residual-in_err-next-in-Some-2.result c.in_err-next-in-Some-2.field-0.0 (stmt_code (site_view c.args.from.site) c.args.from.next (stmt_view c.args.s.now)) x c.from_residual-in_err-next-in-Some-2.ensures.1
-    (λ full. lift (omega (arith, subst (λ k. IsTooLarge (stmts_code s k (stmts_view c.deref.result.now)) c.lead_here.new.code) c.in_ok-next-in-Some.ensures.next (c.in_err-next-in-Some-2.ensures.large full), size, c.in_ok-places-in-Some.ensures.code.size, c.in_ok-decided-in-Some.ensures.code.size, branches_length s n alts o.size c.decide.new.made c.branches.new.code c.in_ok-next-in-Some.ensures.code, branches_size s n alts 0 o.size, alternatives_size s all (distances s n 0 alts))))
+    refused c.from_residual-in_err-next-in-Some-2.result c.in_err-next-in-Some-2.field-0.0 (stmt_code (site_view c.args.from.site) c.args.from.next
+    (stmt_view c.args.s.now)) x c.from_residual-in_err-next-in-Some-2.ensures.1
+    (λ full. lift (omega (
+      arith,
+      subst (λ k. IsTooLarge (stmts_code s k (stmts_view c.deref.result.now)) c.lead_here.new.code) c.in_ok-next-in-Some.ensures.next
+          (c.in_err-next-in-Some-2.ensures.large full),
+      size,
+      c.in_ok-places-in-Some.ensures.code.size,
+      c.in_ok-decided-in-Some.ensures.code.size,
+      branches_length
+          s n alts o.size c.decide.new.made c.branches.new.code c.in_ok-next-in-Some.ensures.code,
+      branches_size s n alts 0 o.size,
+      alternatives_size s all
+          (distances s n 0 alts),
+    )))
 
 pub select_else-lead_here-requires : goal.select_else-lead_here-requires
 select_else-lead_here-requires t c =

@@ -11,4 +11,5 @@ returns-in-Some-clause-gives c = rw (branch_taken _ _ _ _ _ _ c.in-Some.ensures.
 
 pub returns-in-Some-word-clause-gives : goal.returns-in-Some-word-clause-gives
 unfolding message_or_wait bind pure
-returns-in-Some-word-clause-gives c = rw (branch_not_taken _ _ _ _ c.in_default.ensures.taken, branch_taken _ _ _ _ _ _ c.in-Some-word.ensures.taken) (search (rules, the_lemmas))
+returns-in-Some-word-clause-gives c =
+    rw (branch_not_taken _ _ _ _ c.in_default.ensures.taken, branch_taken _ _ _ _ _ _ c.in-Some-word.ensures.taken) (search (rules, the_lemmas))

@@ -10,7 +10,8 @@ use Rattle.pfc_statement_parser.proofs.heads.constants_behind.Given as goal
 abbrev pub invariant-loop-behind : goal.invariant-loop-behind
 invariant-loop-behind l = record {
   shorter : length l.rest ≤ length l.tokens;
-  turning : Turning (as_sign COMMA) (λ t. constant_reader) l.constants.items l.rest (many_onto (l.fn.first ∷ []) (as_sign COMMA) (λ t. constant_reader) l.tokens);
+  turning : Turning (as_sign COMMA) (λ t. constant_reader) l.constants.items l.rest
+      (many_onto (l.fn.first ∷ []) (as_sign COMMA) (λ t. constant_reader) l.tokens);
 }
 
 abbrev pub decreases-loop-behind : goal.decreases-loop-behind

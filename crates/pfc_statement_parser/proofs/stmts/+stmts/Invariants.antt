@@ -83,7 +83,8 @@ decreases-cobegin_behind l = 30 * l.levels + 5
 abbrev pub invariant-stmts_onto-loop-behind : goal.invariant-stmts_onto-loop-behind
 invariant-stmts_onto-loop-behind l = record {
   shorter : length l.rest ≤ length l.tokens;
-  turning : Turning (as_sign SEMICOLON) (λ t. stmt_at l.levels) (map stmt_view l.stmts.items) l.rest (many_onto (map stmt_view l.fn.stmts.items) (as_sign SEMICOLON) (λ t. stmt_at l.levels) l.tokens);
+  turning : Turning (as_sign SEMICOLON) (λ t. stmt_at l.levels) (map stmt_view l.stmts.items) l.rest (many_onto (map stmt_view l.fn.stmts.items)
+      (as_sign SEMICOLON) (λ t. stmt_at l.levels) l.tokens);
 }
 
 abbrev pub decreases-stmts_onto-loop-behind : goal.decreases-stmts_onto-loop-behind
@@ -92,7 +93,8 @@ decreases-stmts_onto-loop-behind l = length l.rest
 abbrev pub invariant-arms_behind-loop-behind : goal.invariant-arms_behind-loop-behind
 invariant-arms_behind-loop-behind l = record {
   shorter : length l.rest ≤ length l.tokens;
-  ending : Ending (as_sign SEMICOLON) (is_word END) (arm_with (stmt_at l.levels)) (map arm_view l.arms.items) l.rest (end_onto (arm_view l.fn.first ∷ []) (as_sign SEMICOLON) (is_word END) (arm_with (stmt_at l.levels)) l.tokens);
+  ending : Ending (as_sign SEMICOLON) (is_word END) (arm_with (stmt_at l.levels)) (map arm_view l.arms.items) l.rest
+      (end_onto (arm_view l.fn.first ∷ []) (as_sign SEMICOLON) (is_word END) (arm_with (stmt_at l.levels)) l.tokens);
 }
 
 abbrev pub decreases-arms_behind-loop-behind : goal.decreases-arms_behind-loop-behind
@@ -101,7 +103,8 @@ decreases-arms_behind-loop-behind l = length l.rest
 abbrev pub invariant-alts_behind-loop-behind : goal.invariant-alts_behind-loop-behind
 invariant-alts_behind-loop-behind l = record {
   shorter : length l.rest ≤ length l.tokens;
-  turning : Turning (as_word OR) (λ t. alt_with (expr_at l.levels) (stmt_at l.levels)) (map alt_view l.alts.items) l.rest (many_onto (alt_view l.fn.first ∷ []) (as_word OR) (λ t. alt_with (expr_at l.levels) (stmt_at l.levels)) l.tokens);
+  turning : Turning (as_word OR) (λ t. alt_with (expr_at l.levels) (stmt_at l.levels)) (map alt_view l.alts.items) l.rest
+      (many_onto (alt_view l.fn.first ∷ []) (as_word OR) (λ t. alt_with (expr_at l.levels) (stmt_at l.levels)) l.tokens);
 }
 
 abbrev pub decreases-alts_behind-loop-behind : goal.decreases-alts_behind-loop-behind

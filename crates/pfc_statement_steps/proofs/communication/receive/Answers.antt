@@ -9,4 +9,5 @@ use Rattle.pfc_statement_steps.proofs.communication.receive.Goals as goal
 pub returns : goal.returns
 returns c = λ t line w.
     c.part.ensures t line w
-    ∙ receive_step (context (env_view c.args.site.env) line) (desig_view c.args.d.now) (desig_view c.args.v.now) (desig_given c.receiver_of.result) (remainder_of w) (c.receiver_of.ensures line)
+    ∙ receive_step (context (env_view c.args.site.env) line) (desig_view c.args.d.now) (desig_view c.args.v.now) (desig_given c.receiver_of.result)
+    (remainder_of w) (c.receiver_of.ensures line)

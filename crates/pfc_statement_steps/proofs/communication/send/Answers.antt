@@ -9,4 +9,5 @@ use Rattle.pfc_statement_steps.proofs.communication.send.Goals as goal
 pub returns : goal.returns
 returns c = λ t line w.
     c.part.ensures t line w
-    ∙ send_step (context (env_view c.args.site.env) line) (desig_view c.args.d.now) (expr_view c.args.e.now) (expr_given c.message_of.result) (remainder_of w) (c.message_of.ensures line)
+    ∙ send_step (context (env_view c.args.site.env) line) (desig_view c.args.d.now) (expr_view c.args.e.now) (expr_given c.message_of.result)
+    (remainder_of w) (c.message_of.ensures line)

@@ -13,5 +13,6 @@ use Rattle.pfc_statement_steps.proofs.lists.arm.Goals as goal
 pub returns : goal.returns
 returns c = λ t line w.
     let here = context (env_view c.args.env) line in
-    ap (λ (arms : List CaseArm). from_arms here c.loop-arm.next c.args.v (arms_view arms) (remainder_of w) (on_rest here w)) (sym (drop_of_length-le c.args.arms.now c.loop-arm-test.false))
+    ap (λ (arms : List CaseArm). from_arms here c.loop-arm.next c.args.v (arms_view arms) (remainder_of w) (on_rest here w))
+    (sym (drop_of_length-le c.args.arms.now c.loop-arm-test.false))
     ∙ (simp (to_z-of_z, c.ranges.v) at c.loop-arm.invariant line (remainder_of w) (on_rest here w))

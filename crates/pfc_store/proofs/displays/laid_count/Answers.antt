@@ -13,10 +13,12 @@ loop-k-preserved c =
     elim c.if-is_variable.branch [
       | then-is_variable w ↦
           let yes = ap {B = ℕ} (λ (b : Bool). if b then 1 else 0) w.if-is_variable.true in
-          let whole : c.if-is_variable.count ≡ length (laid_names (take (c.loop-k.k + 1) names)) = omega (arith, next, one, yes, w.count-is, c.loop-k.invariant.0) in
+          let whole : c.if-is_variable.count ≡ length (laid_names (take (c.loop-k.k + 1) names)) =
+          omega (arith, next, one, yes, w.count-is, c.loop-k.invariant.0) in
           (whole, omega (arith, w.count-is, c.loop-k.invariant.1))
       | else-is_variable w ↦
           let no = ap {B = ℕ} (λ (b : Bool). if b then 1 else 0) w.if-is_variable.false in
-          let whole : c.if-is_variable.count ≡ length (laid_names (take (c.loop-k.k + 1) names)) = omega (arith, next, one, no, w.count-is, c.loop-k.invariant.0) in
+          let whole : c.if-is_variable.count ≡ length (laid_names (take (c.loop-k.k + 1) names)) =
+          omega (arith, next, one, no, w.count-is, c.loop-k.invariant.0) in
           (whole, omega (arith, w.count-is, c.loop-k.invariant.1))
     ]

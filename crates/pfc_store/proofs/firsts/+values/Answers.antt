@@ -35,17 +35,21 @@ first_value-returns-in_ok-parts-in-Some-Record t c =
 
 pub first_value-returns-in-Some-Channel : goal.first_value-returns-in-Some-Channel
 first_value-returns-in-Some-Channel t c =
-    c.of.ensures ∙ sym (initial_channel c.args.types.now c.args.t _ (sym c.form.ensures ∙ ap option_copied c.in-Some-Channel.is ∙ ap Some c.in-Some-Channel.field-0-is))
+    c.of.ensures ∙ sym (initial_channel c.args.types.now c.args.t _ (sym c.form.ensures ∙
+    ap option_copied c.in-Some-Channel.is ∙ ap Some c.in-Some-Channel.field-0-is))
 
 pub first_value-returns-in-Some-Process : goal.first_value-returns-in-Some-Process
 first_value-returns-in-Some-Process t c =
-    c.of-in-Some-Process.ensures ∙ sym (initial_process c.args.types.now c.args.t _ (sym c.form.ensures ∙ ap option_copied c.in-Some-Process.is ∙ ap Some c.in-Some-Process.field-0-is))
+    c.of-in-Some-Process.ensures ∙
+    sym (initial_process c.args.types.now c.args.t _ (sym c.form.ensures ∙ ap option_copied c.in-Some-Process.is ∙ ap Some c.in-Some-Process.field-0-is))
 
 pub first_value-returns-in-None : goal.first_value-returns-in-None
 first_value-returns-in-None t c = c.of-in-None.ensures ∙ sym (initial_none c.args.types.now c.args.t (sym c.form.ensures ∙ ap option_copied c.in-None.is))
 
 pub first_part-returns-then-t-whole : goal.first_part-returns-then-t-whole
-first_part-returns-then-t-whole t c = subst (λ v. IfOk c.first_value.result (λ r. value_view r ≡ v)) (part_before c.args.types.now c.args.whole c.args.t c.if-t-whole.true c.requires) c.first_value.ensures
+first_part-returns-then-t-whole t c =
+    subst (λ v. IfOk c.first_value.result (λ r. value_view r ≡ v))
+    (part_before c.args.types.now c.args.whole c.args.t c.if-t-whole.true c.requires) c.first_value.ensures
 
 pub first_part-returns-else-t-whole : goal.first_part-returns-else-t-whole
 first_part-returns-else-t-whole t c = c.of.ensures ∙ sym (part_past c.args.types.now c.args.whole c.args.t (omega arith))
@@ -54,7 +58,8 @@ pub parts-loop-i-preserved : goal.parts-loop-i-preserved
 parts-loop-i-preserved t c =
     let before = all_first (take c.args.whole.place c.args.types.now) in
     ap values_view c.in_ok-push.ensures.items
-    ∙ field_next before c.args.fields.now c.loop-i.i c.type_at.result c.loop-i.items.items c.in_ok-first_part.field-0 (subst (λ n. c.loop-i.i < n) c.len-i-end.ensures c.loop-i-test.true)
+    ∙ field_next before c.args.fields.now c.loop-i.i c.type_at.result c.loop-i.items.items c.in_ok-first_part.field-0
+    (subst (λ n. c.loop-i.i < n) c.len-i-end.ensures c.loop-i-test.true)
     c.type_at.ensures c.loop-i.invariant c.in_ok-first_part.ensures
 
 pub parts-returns : goal.parts-returns

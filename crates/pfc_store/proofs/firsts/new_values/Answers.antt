@@ -14,4 +14,5 @@ loop-i-preserved c =
     ap values_view c.in_ok-push.ensures.items
     ∙ map-append value_view c.loop-i.values.items (c.in_ok-first_laid.field-0 ∷ [])
     ∙ ap₂ (λ xs x. xs ++ x ∷ []) c.loop-i.invariant c.in_ok-first_laid.ensures
-    ∙ values_next (values_view c.args.args.items) (first_laid (all_first c.args.types.now)) c.args.layout.now (length c.args.args.items) c.loop-i.i d from c.loop-i-test.true
+    ∙ values_next (values_view c.args.args.items) (first_laid (all_first c.args.types.now)) c.args.layout.now
+    (length c.args.args.items) c.loop-i.i d from c.loop-i-test.true

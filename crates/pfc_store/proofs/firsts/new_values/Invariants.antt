@@ -5,4 +5,5 @@ use Rattle.pfc_store.specs.Views.{values_view}
 use Rattle.pfc_store.proofs.firsts.new_values.Given as goal
 
 abbrev pub invariant-loop-i : goal.invariant-loop-i
-invariant-loop-i l = values_view l.values.items ≡ values_view l.fn.args.items ++ drop (length l.fn.args.items) (take l.i (map (first_laid (all_first l.types)) l.layout))
+invariant-loop-i l = values_view l.values.items ≡ values_view l.fn.args.items ++ drop (length l.fn.args.items)
+    (take l.i (map (first_laid (all_first l.types)) l.layout))

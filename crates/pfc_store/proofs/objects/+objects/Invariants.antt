@@ -21,9 +21,11 @@ decreases-numbered_fields l = 3 * l.whole.place + 1
 abbrev pub invariant-numbered_elements-loop : goal.invariant-numbered_elements-loop
 invariant-numbered_elements-loop l =
     let f = numbering_of (all_numberings (take l.whole.place l.types)) l.element in
-    in_front (values_view l.items.items) (numbered_copies (l.count - l.counter) f l.monitor (objects_view l.objects)) ≡ numbered_copies l.count f l.monitor (objects_view l.fn.objects)
+    in_front (values_view l.items.items) (numbered_copies (l.count - l.counter) f l.monitor (objects_view l.objects)) ≡
+    numbered_copies l.count f l.monitor (objects_view l.fn.objects)
 
 abbrev pub invariant-numbered_fields-loop-i : goal.invariant-numbered_fields-loop-i
 invariant-numbered_fields-loop-i l =
     let before = all_numberings (take l.whole.place l.types) in
-    in_front (values_view l.items.items) (numbered_fields before (drop l.i l.fields) l.monitor (objects_view l.objects)) ≡ numbered_fields before l.fields l.monitor (objects_view l.fn.objects)
+    in_front (values_view l.items.items) (numbered_fields before (drop l.i l.fields) l.monitor (objects_view l.objects)) ≡
+    numbered_fields before l.fields l.monitor (objects_view l.fn.objects)

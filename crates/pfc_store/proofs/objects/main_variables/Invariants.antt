@@ -7,4 +7,5 @@ use Rattle.pfc_store.proofs.objects.main_variables.Given as goal
 
 abbrev pub invariant-loop-k : goal.invariant-loop-k
 invariant-loop-k l =
-    behind (values_view l.values.items) (numbered_main l.scopes (all_numberings l.types) (drop l.k l.names) (objects_view l.objects)) ≡ main_objects l.types l.scopes
+    behind (values_view l.values.items) (numbered_main l.scopes (all_numberings l.types) (drop l.k l.names)
+    (objects_view l.objects)) ≡ main_objects l.types l.scopes

@@ -7,5 +7,6 @@ use Rattle.pfc_store.proofs.parts.part_in.Goals as goal
 
 pub returns-in-Compound : goal.returns-in-Compound
 returns-in-Compound c =
-    looked_up c.in-Compound.parts.items c.args.place c.get.result (c.get.ensures.lookup.4 (omega arith) nothing ∙ ap (λ vs. get_or vs c.args.place nothing) c.deref.ensures.value)
+    looked_up c.in-Compound.parts.items c.args.place c.get.result (c.get.ensures.lookup.4 (omega arith) nothing ∙
+    ap (λ vs. get_or vs c.args.place nothing) c.deref.ensures.value)
     ∙ ap (λ v. part_of v c.args.place) (sym (compound_seen c.in-Compound.parts) ∙ ap value_view (sym c.in-Compound.is))

@@ -8,4 +8,5 @@ abbrev pub decreases-loop-arg : goal.decreases-loop-arg
 decreases-loop-arg l = vec_len l.args
 
 abbrev pub invariant-loop-arg : goal.invariant-loop-arg
-invariant-loop-arg l = taken_from l.first (values_view l.args.items) (values_view l.values.items) ≡ taken_from l.first (values_view l.fn.args.items) (values_view l.fn.values.items)
+invariant-loop-arg l = taken_from l.first (values_view l.args.items) (values_view l.values.items) ≡ taken_from l.first
+    (values_view l.fn.args.items) (values_view l.fn.values.items)

@@ -22,10 +22,12 @@ returns-in_err-session-in-Ok-clause-written g c = λ tree is.
 
 pub returns-in_err-list-in-Ok-clause-written : goal.returns-in_err-list-in-Ok-clause-written
 returns-in_err-list-in-Ok-clause-written g c = λ tree is.
-    stopped_written c.from_residual-in_err-list-in-Ok.result _ c.from_residual-in_err-list-in-Ok.ensures.1 (program_outcome c.args.text.now tree (asks c.args.options.now c.args.loaded.now))
+    stopped_written c.from_residual-in_err-list-in-Ok.result _ c.from_residual-in_err-list-in-Ok.ensures.1
+    (program_outcome c.args.text.now tree (asks c.args.options.now c.args.loaded.now))
     (g.O.Sink.written c.args.sink.now) (g.O.Sink.written c.list.new.sink)
     (subst (λ (o : Outcome). AppendsFront (g.O.Sink.written c.args.sink.now) (g.O.Sink.written c.list.new.sink) o.bytes)
-    (program_as c.args.text.now tree (plain_image c.args.image.now) (asks c.args.options.now c.args.loaded.now) (Ok c.in-Ok.policy) is.same c.in-Ok.ensures.picks)
+    (program_as c.args.text.now tree (plain_image c.args.image.now) (asks c.args.options.now c.args.loaded.now)
+    (Ok c.in-Ok.policy) is.same c.in-Ok.ensures.picks)
     (AppendsFront-append _ _ _ _ c.in_err-list-in-Ok.ensures.front))
 
 pub start-requires : goal.start-requires
@@ -40,7 +42,8 @@ run-requires-clause-begun g c =
         is = is;
         start =
             subst (λ (input : List ℕ). Stands (program_of tree) c.in_ok-session-in-Ok.session (start tree input c.args.options.now.seed)) c.bytes.ensures
-            (c.in_ok-session-in-Ok.ensures.stands tree (main_image tree (plain_image c.args.image.now) is) is.runnable.small is.runnable.whole is.runnable.built);
+            (c.in_ok-session-in-Ok.ensures.stands tree
+            (main_image tree (plain_image c.args.image.now) is) is.runnable.small is.runnable.whole is.runnable.built);
         picks = refl;
         most = refl;
       },
@@ -48,10 +51,14 @@ run-requires-clause-begun g c =
 
 pub returns-in_ok-list-in-Ok-clause-written : goal.returns-in_ok-list-in-Ok-clause-written
 returns-in_ok-list-in-Ok-clause-written g c = λ tree is.
-    written_as (behind (list_text c.args.options.now c.args.text.now (plain_image c.args.image.now)) (ran_with source_meaning tree (settings_of (asks c.args.options.now c.args.loaded.now) c.in-Ok.policy)))
-    (program_outcome c.args.text.now tree (asks c.args.options.now c.args.loaded.now)) c.run.result (g.O.Sink.written c.args.sink.now) (g.O.Sink.written c.run.new.sink)
-    (program_as c.args.text.now tree (plain_image c.args.image.now) (asks c.args.options.now c.args.loaded.now) (Ok c.in-Ok.policy) is.same c.in-Ok.ensures.picks)
-    (written_behind (list_text c.args.options.now c.args.text.now (plain_image c.args.image.now)) (ran_with source_meaning tree (settings_of (asks c.args.options.now c.args.loaded.now) c.in-Ok.policy)) c.run.result
+    written_as (behind (list_text c.args.options.now c.args.text.now (plain_image c.args.image.now))
+    (ran_with source_meaning tree (settings_of (asks c.args.options.now c.args.loaded.now) c.in-Ok.policy)))
+    (program_outcome c.args.text.now tree (asks c.args.options.now c.args.loaded.now)) c.run.result
+    (g.O.Sink.written c.args.sink.now) (g.O.Sink.written c.run.new.sink)
+    (program_as c.args.text.now tree (plain_image c.args.image.now) (asks c.args.options.now c.args.loaded.now)
+    (Ok c.in-Ok.policy) is.same c.in-Ok.ensures.picks)
+    (written_behind (list_text c.args.options.now c.args.text.now (plain_image c.args.image.now))
+    (ran_with source_meaning tree (settings_of (asks c.args.options.now c.args.loaded.now) c.in-Ok.policy)) c.run.result
     (g.O.Sink.written c.args.sink.now) (g.O.Sink.written c.list.new.sink) (g.O.Sink.written c.run.new.sink) c.in_ok-list-in-Ok.ensures.whole
     (c.run.ensures.written tree (settings_of (asks c.args.options.now c.args.loaded.now) c.in-Ok.policy) (record {
       is = is;
@@ -65,6 +72,8 @@ returns-in_ok-list-in-Ok-clause-written g c = λ tree is.
 pub returns-in-Err-NotANumber-clause-written : goal.returns-in-Err-NotANumber-clause-written
 returns-in-Err-NotANumber-clause-written g c = λ tree is.
     written_as (behind (list_text c.args.options.now c.args.text.now (plain_image c.args.image.now)) (stopped_at source_meaning tree c.in-Err-NotANumber.item))
-    (program_outcome c.args.text.now tree (asks c.args.options.now c.args.loaded.now)) c.stop_at.result (g.O.Sink.written c.args.sink.now) (g.O.Sink.written c.stop_at.new.sink)
-    (program_as c.args.text.now tree (plain_image c.args.image.now) (asks c.args.options.now c.args.loaded.now) (Err c.in-Err-NotANumber.item) is.same (search rules))
+    (program_outcome c.args.text.now tree (asks c.args.options.now c.args.loaded.now)) c.stop_at.result
+    (g.O.Sink.written c.args.sink.now) (g.O.Sink.written c.stop_at.new.sink)
+    (program_as c.args.text.now tree (plain_image c.args.image.now) (asks c.args.options.now c.args.loaded.now)
+    (Err c.in-Err-NotANumber.item) is.same (search rules))
     (c.stop_at.ensures.written tree is)

@@ -11,7 +11,8 @@ returns-in-Ok-clause-image c =
 
 pub returns-in-Ok-clause-none : goal.returns-in-Ok-clause-none
 returns-in-Ok-clause-none c =
-    tokens_refusal c.args.tokens.now c.args.end (tree_view c.in-Ok.tree) c.compile_tree.result c.in-Ok.ensures.tree c.in-Ok.ensures.level c.compile_tree.ensures.none
+    tokens_refusal c.args.tokens.now c.args.end
+    (tree_view c.in-Ok.tree) c.compile_tree.result c.in-Ok.ensures.tree c.in-Ok.ensures.level c.compile_tree.ensures.none
 
 pub returns-in-Err-Unexpected-clause-none : goal.returns-in-Err-Unexpected-clause-none
 returns-in-Err-Unexpected-clause-none c =

@@ -8,4 +8,5 @@ use Rattle.pfc_top.proofs.compiling.compile_tree.Goals as goal
 
 pub returns-in-Err-Refused-clause-none : goal.returns-in-Err-Refused-clause-none
 returns-in-Err-Refused-clause-none c =
-    subst (λ (r : Refusal). IsWithout (tree_view c.args.tree) (Refused r)) (sym c.in-Err-Refused.refusal-is) (static_refusal (tree_view c.args.tree) c.in-Err-Refused.refusal (search rules))
+    subst (λ (r : Refusal). IsWithout (tree_view c.args.tree) (Refused r)) (sym c.in-Err-Refused.refusal-is)
+    (static_refusal (tree_view c.args.tree) c.in-Err-Refused.refusal (search rules))

@@ -13,19 +13,28 @@ use Rattle.pfc_top.proofs.running.run.Goals as goal
 
 pub run-requires-clause-before : goal.run-requires-clause-before
 run-requires-clause-before g c =
-    let (tree, settings, b) = c.requires.begun in
-    (program_of tree, start tree settings.input settings.seed, image_program tree (plain_image c.args.image.now) b.is, image_checked tree (plain_image c.args.image.now) b.is, b.start, refl)
+    let (tree, settings, b) = c.requires.begun in (
+      program_of tree,
+      start tree settings.input settings.seed,
+      image_program tree (plain_image c.args.image.now) b.is,
+      image_checked tree
+          (plain_image c.args.image.now) b.is,
+      b.start,
+      refl,
+    )
 
 pub returns-in-SinkFailed-clause-written : goal.returns-in-SinkFailed-clause-written
 returns-in-SinkFailed-clause-written g c = λ tree settings b.
     broken_front tree settings (g.O.Sink.written c.args.sink.now) (g.O.Sink.written c.run.new.sink)
-    (begun_course tree settings (plain_image c.args.image.now) c.args.session c.args.policy c.args.limit b c.new-picker.result c.new-picker.ensures c.run.new.self SinkFailed
+    (begun_course tree settings (plain_image c.args.image.now) c.args.session c.args.policy c.args.limit b c.new-picker.result
+    c.new-picker.ensures c.run.new.self SinkFailed
     (g.O.Sink.written c.args.sink.now) (g.O.Sink.written c.run.new.sink) c.in-SinkFailed.ensures.run)
 
 pub returns-in-Memory-clause-written : goal.returns-in-Memory-clause-written
 returns-in-Memory-clause-written g c = λ tree settings b.
     broken_front tree settings (g.O.Sink.written c.args.sink.now) (g.O.Sink.written c.run.new.sink)
-    (begun_course tree settings (plain_image c.args.image.now) c.args.session c.args.policy c.args.limit b c.new-picker.result c.new-picker.ensures c.run.new.self Memory
+    (begun_course tree settings (plain_image c.args.image.now) c.args.session c.args.policy c.args.limit b c.new-picker.result
+    c.new-picker.ensures c.run.new.self Memory
     (g.O.Sink.written c.args.sink.now) (g.O.Sink.written c.run.new.sink) c.in-Memory.ensures.run)
 
 pub write_report-requires : goal.write_report-requires
@@ -39,7 +48,8 @@ write_report-requires g c = record {
         b.is,
         (completed tree settings c.run.result c.run.new.self (g.O.Sink.written c.args.sink.now) (g.O.Sink.written c.run.new.sink)
             (has_report c.run.result c.in_default.not-SinkFailed c.in_default.not-Memory)
-            (begun_course tree settings (plain_image c.args.image.now) c.args.session c.args.policy c.args.limit b c.new-picker.result c.new-picker.ensures c.run.new.self c.run.result
+            (begun_course tree settings (plain_image c.args.image.now) c.args.session c.args.policy c.args.limit b c.new-picker.result
+            c.new-picker.ensures c.run.new.self c.run.result
             (g.O.Sink.written c.args.sink.now) (g.O.Sink.written c.run.new.sink) c.run.ensures.run)).stands,
       );
 }
@@ -52,13 +62,17 @@ returns-in_err-write_report-in_default g c = record {
   written = λ tree settings b.
       let p = (completed tree settings c.run.result c.run.new.self (g.O.Sink.written c.args.sink.now) (g.O.Sink.written c.run.new.sink)
       (has_report c.run.result c.in_default.not-SinkFailed c.in_default.not-Memory)
-      (begun_course tree settings (plain_image c.args.image.now) c.args.session c.args.policy c.args.limit b c.new-picker.result c.new-picker.ensures c.run.new.self c.run.result
+      (begun_course tree settings (plain_image c.args.image.now) c.args.session c.args.policy c.args.limit b c.new-picker.result
+      c.new-picker.ensures c.run.new.self c.run.result
       (g.O.Sink.written c.args.sink.now) (g.O.Sink.written c.run.new.sink) c.run.ensures.run)) in
-      stopped_written c.from_residual.result _ c.from_residual.ensures.1 (ran_with source_meaning tree settings) (g.O.Sink.written c.args.sink.now) (g.O.Sink.written c.write_report.new.sink)
-      (written_front tree settings c.run.result c.run.new.self (g.O.Sink.written c.args.sink.now) (g.O.Sink.written c.run.new.sink) (g.O.Sink.written c.write_report.new.sink) p
+      stopped_written c.from_residual.result _ c.from_residual.ensures.1 (ran_with source_meaning tree settings) (g.O.Sink.written c.args.sink.now)
+      (g.O.Sink.written c.write_report.new.sink)
+      (written_front tree settings c.run.result c.run.new.self (g.O.Sink.written c.args.sink.now) (g.O.Sink.written c.run.new.sink)
+      (g.O.Sink.written c.write_report.new.sink) p
       (c.in_err-write_report-in_default.ensures.front tree settings b.is p.stands p.ends));
   sound = stopped_sound c.from_residual.result _ c.from_residual.ensures.1;
-  cut = λ of. Rose-earlier _ _ _ c.run.ensures.faults (c.in_err-write_report-in_default.ensures.cut (same_stop c.from_residual.result _ c.from_residual.ensures.1 _ of));
+  cut = λ of. Rose-earlier _ _ _ c.run.ensures.faults (c.in_err-write_report-in_default.ensures.cut
+      (same_stop c.from_residual.result _ c.from_residual.ensures.1 _ of));
 }
 
 pub returns-in_ok-write_report-in_default : goal.returns-in_ok-write_report-in_default
@@ -66,10 +80,13 @@ returns-in_ok-write_report-in_default g c = record {
   written = λ tree settings b.
       let p = (completed tree settings c.run.result c.run.new.self (g.O.Sink.written c.args.sink.now) (g.O.Sink.written c.run.new.sink)
       (has_report c.run.result c.in_default.not-SinkFailed c.in_default.not-Memory)
-      (begun_course tree settings (plain_image c.args.image.now) c.args.session c.args.policy c.args.limit b c.new-picker.result c.new-picker.ensures c.run.new.self c.run.result
+      (begun_course tree settings (plain_image c.args.image.now) c.args.session c.args.policy c.args.limit b c.new-picker.result
+      c.new-picker.ensures c.run.new.self c.run.result
       (g.O.Sink.written c.args.sink.now) (g.O.Sink.written c.run.new.sink) c.run.ensures.run)) in
-      written_whole tree settings c.run.result c.run.new.self (g.O.Sink.written c.args.sink.now) (g.O.Sink.written c.run.new.sink) (g.O.Sink.written c.write_report.new.sink) p
+      written_whole tree settings c.run.result c.run.new.self (g.O.Sink.written c.args.sink.now) (g.O.Sink.written c.run.new.sink)
+      (g.O.Sink.written c.write_report.new.sink) p
       (c.in_ok-write_report-in_default.ensures.whole tree settings b.is p.stands p.ends) c.status_of.result c.status_of.ensures;
-  sound = subst (λ (s : ℕ). IsRunStatus s) (sym c.status_of.ensures) (report_status c.run.result (has_report c.run.result c.in_default.not-SinkFailed c.in_default.not-Memory));
+  sound = subst (λ (s : ℕ). IsRunStatus s) (sym c.status_of.ensures)
+      (report_status c.run.result (has_report c.run.result c.in_default.not-SinkFailed c.in_default.not-Memory));
   cut = λ of. absurd (no_stop _ _ of);
 }

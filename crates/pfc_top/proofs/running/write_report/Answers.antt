@@ -11,5 +11,6 @@ returns-in_err-standings-clause-front g c = λ tree settings is end ends.
 
 pub returns-in_err-bytes-clause-front : goal.returns-in_err-bytes-clause-front
 returns-in_err-bytes-clause-front g c = λ tree settings is end ends.
-    err_always c.from_residual-in_err-bytes.result (AppendsFront (g.O.Sink.written c.args.sink.now) (g.O.Sink.written c.args.sink.now) (report_by tree settings))
+    err_always c.from_residual-in_err-bytes.result (AppendsFront (g.O.Sink.written c.args.sink.now)
+    (g.O.Sink.written c.args.sink.now) (report_by tree settings))
     (AppendsFront-none (g.O.Sink.written c.args.sink.now) (report_by tree settings))

@@ -9,12 +9,14 @@ unfolding names_behind
 loop-behind-init c = search (rules, turning_begins)
 
 pub returns-in_err-name-clause-gives : goal.returns-in_err-name-clause-gives
-returns-in_err-name-clause-gives c = let p = err_from_is_err_and c.from_residual-in_err-name.result c.from_residual-in_err-name.ensures.1 in rw (p.1, p.2) (turning_halts _ _ _ _ _ _ _ _ c.loop-behind.invariant.turning c.in-Some.ensures.taken c.in_err-name.ensures.gives)
+returns-in_err-name-clause-gives c = let p = err_from_is_err_and c.from_residual-in_err-name.result c.from_residual-in_err-name.ensures.1 in rw (p.1, p.2)
+    (turning_halts _ _ _ _ _ _ _ _ c.loop-behind.invariant.turning c.in-Some.ensures.taken c.in_err-name.ensures.gives)
 
 pub loop-behind-preserved : goal.loop-behind-preserved
 loop-behind-preserved c = record {
   shorter = omega (arith, c.in-Some.ensures.kept, c.in_ok-name.ensures.kept);
-  turning = turning_goes _ _ _ _ _ _ _ _ _ _ c.loop-behind.invariant.turning c.in-Some.ensures.taken c.in_ok-name.ensures.gives (omega (arith, c.in_ok-name.ensures.kept)) (search rules);
+  turning = turning_goes _ _ _ _ _ _ _ _ _ _ c.loop-behind.invariant.turning c.in-Some.ensures.taken c.in_ok-name.ensures.gives
+      (omega (arith, c.in_ok-name.ensures.kept)) (search rules);
 }
 
 pub returns-clause-gives : goal.returns-clause-gives

@@ -11,7 +11,8 @@ use Rattle.pfc_type_parser.proofs.items.groups_behind.Given as goal
 abbrev pub invariant-loop-behind : goal.invariant-loop-behind
 invariant-loop-behind l = record {
   shorter : length l.rest ≤ length l.tokens;
-  turning : Turning (as_sign SEMICOLON) (λ t. group) (map group_view l.groups.items) l.rest (many_onto (group_view l.fn.first ∷ []) (as_sign SEMICOLON) (λ t. group) l.tokens);
+  turning : Turning (as_sign SEMICOLON) (λ t. group) (map group_view l.groups.items) l.rest
+      (many_onto (group_view l.fn.first ∷ []) (as_sign SEMICOLON) (λ t. group) l.tokens);
 }
 
 abbrev pub decreases-loop-behind : goal.decreases-loop-behind

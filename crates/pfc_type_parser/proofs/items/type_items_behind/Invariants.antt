@@ -10,7 +10,8 @@ use Rattle.pfc_type_parser.proofs.items.type_items_behind.Given as goal
 abbrev pub invariant-loop-x : goal.invariant-loop-x
 invariant-loop-x l = record {
   shorter : length l.rest ≤ length l.tokens;
-  turning : Turning as_name (type_item_behind (type_at l.levels)) (map type_item_view l.items.items) l.rest (many_onto (type_item_view l.fn.first ∷ []) as_name (type_item_behind (type_at l.levels)) l.tokens);
+  turning : Turning as_name (type_item_behind (type_at l.levels)) (map type_item_view l.items.items) l.rest (many_onto (type_item_view l.fn.first ∷ []) as_name
+      (type_item_behind (type_at l.levels)) l.tokens);
 }
 
 abbrev pub decreases-loop-x : goal.decreases-loop-x

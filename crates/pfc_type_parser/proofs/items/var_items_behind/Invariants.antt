@@ -10,7 +10,8 @@ use Rattle.pfc_type_parser.proofs.items.var_items_behind.Given as goal
 abbrev pub invariant-loop-x : goal.invariant-loop-x
 invariant-loop-x l = record {
   shorter : length l.rest ≤ length l.tokens;
-  turning : Turning as_name (var_item_behind (type_at l.levels)) (map var_view l.items.items) l.rest (many_onto (var_view l.fn.first ∷ []) as_name (var_item_behind (type_at l.levels)) l.tokens);
+  turning : Turning as_name (var_item_behind (type_at l.levels)) (map var_view l.items.items) l.rest (many_onto (var_view l.fn.first ∷ []) as_name
+      (var_item_behind (type_at l.levels)) l.tokens);
 }
 
 abbrev pub decreases-loop-x : goal.decreases-loop-x

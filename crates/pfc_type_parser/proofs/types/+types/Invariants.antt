@@ -36,7 +36,8 @@ decreases-var_behind l = 10 * l.levels + 1
 abbrev pub invariant-fields_behind-loop-behind : goal.invariant-fields_behind-loop-behind
 invariant-fields_behind-loop-behind l = record {
   shorter : length l.rest ≤ length l.tokens;
-  ending : Ending (as_sign SEMICOLON) (is_word END) (var_with (type_at l.levels)) (map var_view l.groups.items) l.rest (end_onto (var_view l.fn.first ∷ []) (as_sign SEMICOLON) (is_word END) (var_with (type_at l.levels)) l.tokens);
+  ending : Ending (as_sign SEMICOLON) (is_word END) (var_with (type_at l.levels)) (map var_view l.groups.items) l.rest
+      (end_onto (var_view l.fn.first ∷ []) (as_sign SEMICOLON) (is_word END) (var_with (type_at l.levels)) l.tokens);
 }
 
 abbrev pub decreases-fields_behind-loop-behind : goal.decreases-fields_behind-loop-behind

@@ -4,4 +4,5 @@ use Rattle.pfc_types.proofs.view.look_up.Given as goal
 
 -- the names still to come complete the look-up
 abbrev pub invariant-loop-entry : goal.invariant-loop-entry
-invariant-loop-entry l = lookup (bytes_eq l.name) (map (λ e. (e.0.now, e.1)) (drop l.entry-index l.table)) ≡ lookup (bytes_eq l.name) (map (λ e. (e.0.now, e.1)) l.table)
+invariant-loop-entry l = lookup (bytes_eq l.name) (map (λ e. (e.0.now, e.1)) (drop l.entry-index l.table)) ≡ lookup
+    (bytes_eq l.name) (map (λ e. (e.0.now, e.1)) l.table)

@@ -23,7 +23,8 @@ invariant-indexed-loop-e l =
 
 abbrev pub invariant-arguments-loop-i : goal.invariant-arguments-loop-i
 invariant-arguments-loop-i l = record {
-  fit : (l.fit && args_fit (env_view l.env) (wants_view l.wants) (actuals_view (drop l.i l.args))) ≡ args_fit (env_view l.env) (wants_view l.initial.wants) (actuals_view l.args);
+  fit : (l.fit && args_fit (env_view l.env) (wants_view l.wants) (actuals_view (drop l.i l.args))) ≡ args_fit (env_view l.env)
+      (wants_view l.initial.wants) (actuals_view l.args);
   none : l.i ≡ 0 → l.first ≡ None;
   first : 0 < l.i → l.first ≡ first_type (env_view l.env) (actuals_view l.args);
 }

@@ -7,4 +7,5 @@ use Rattle.pfc_typing.proofs.exprs.fit_behind.Given as goal
 
 abbrev pub invariant-loop-a : goal.invariant-loop-a
 invariant-loop-a l =
-    (l.fit && args_fit (env_view l.env) (wants_view l.wants) (actuals_view (drop l.a-index l.args))) ≡ args_fit (env_view l.env) (wants_view l.initial.wants) (actuals_view l.args)
+    (l.fit && args_fit (env_view l.env) (wants_view l.wants) (actuals_view (drop l.a-index l.args))) ≡ args_fit (env_view l.env)
+    (wants_view l.initial.wants) (actuals_view l.args)

@@ -18,32 +18,40 @@ returns-in_err-status-clause-written g c =
     let settings = settings_of (asks c.args.options.now c.args.loaded.now) c.args.policy in
     stopped_written c.from_residual.result _ c.from_residual.ensures.1 (behind c.args.listing.now (run_shown c.args.shown tree settings))
     (g.O.Sink.written c.args.sink.now) (g.O.Sink.written c.run.new.sink)
-    (first_front c.args.shown c.args.listing.now tree settings (g.O.Sink.written c.args.sink.now) (g.O.Sink.written c.run.new.sink) (g.O.Sink.written c.run.new.sink)
-    (subst (λ (t : Told). AppendsFront (g.O.Sink.written c.args.sink.now) (g.O.Sink.written c.run.new.sink) (behind c.args.listing.now (run_told t tree settings)).bytes)
+    (first_front c.args.shown c.args.listing.now tree settings (g.O.Sink.written c.args.sink.now)
+    (g.O.Sink.written c.run.new.sink) (g.O.Sink.written c.run.new.sink)
+    (subst (λ (t : Told). AppendsFront (g.O.Sink.written c.args.sink.now) (g.O.Sink.written c.run.new.sink)
+    (behind c.args.listing.now (run_told t tree settings)).bytes)
     c.told_in-told.ensures c.in_err-status.ensures.written))
 
 pub returns-in_err-tell_races-clause-written : goal.returns-in_err-tell_races-clause-written
 returns-in_err-tell_races-clause-written g c =
     let tree = tree_view c.args.sound.now.checked.0 in
     let settings = settings_of (asks c.args.options.now c.args.loaded.now) c.args.policy in
-    stopped_written c.from_residual-in_err-tell_races.result _ c.from_residual-in_err-tell_races.ensures.1 (behind c.args.listing.now (run_shown c.args.shown tree settings))
+    stopped_written c.from_residual-in_err-tell_races.result _ c.from_residual-in_err-tell_races.ensures.1
+    (behind c.args.listing.now (run_shown c.args.shown tree settings))
     (g.O.Sink.written c.args.sink.now) (g.O.Sink.written c.tell_races.new.sink)
-    (second_front c.args.shown c.args.listing.now tree settings (g.O.Sink.written c.args.sink.now) (g.O.Sink.written c.run.new.sink) (g.O.Sink.written c.tell_races.new.sink)
+    (second_front c.args.shown c.args.listing.now tree settings (g.O.Sink.written c.args.sink.now) (g.O.Sink.written c.run.new.sink)
+    (g.O.Sink.written c.tell_races.new.sink)
     c.in_ok-status.status
-    (subst (λ (t : Told). Gives (behind c.args.listing.now (run_told t tree settings)) c.in_ok-status.status (g.O.Sink.written c.args.sink.now) (g.O.Sink.written c.run.new.sink))
+    (subst (λ (t : Told). Gives (behind c.args.listing.now (run_told t tree settings)) c.in_ok-status.status
+    (g.O.Sink.written c.args.sink.now) (g.O.Sink.written c.run.new.sink))
     c.told_in-told.ensures c.in_ok-status.ensures.written)
     (c.in_err-tell_races.ensures.front c.args.policy c.requires.policy))
 
 pub returns-in_err-tell_races-clause-cut : goal.returns-in_err-tell_races-clause-cut
 returns-in_err-tell_races-clause-cut g c = λ of.
-    Rose-earlier _ _ _ c.run.ensures.faults (c.in_err-tell_races.ensures.cut (same_stop c.from_residual-in_err-tell_races.result _ c.from_residual-in_err-tell_races.ensures.1 _ of))
+    Rose-earlier _ _ _ c.run.ensures.faults
+    (c.in_err-tell_races.ensures.cut (same_stop c.from_residual-in_err-tell_races.result _ c.from_residual-in_err-tell_races.ensures.1 _ of))
 
 pub returns-clause-written : goal.returns-clause-written
 returns-clause-written g c =
     let tree = tree_view c.args.sound.now.checked.0 in
     let settings = settings_of (asks c.args.options.now c.args.loaded.now) c.args.policy in
-    both_whole c.args.shown c.args.listing.now tree settings (g.O.Sink.written c.args.sink.now) (g.O.Sink.written c.run.new.sink) (g.O.Sink.written c.tell_races.new.sink)
+    both_whole c.args.shown c.args.listing.now tree settings (g.O.Sink.written c.args.sink.now) (g.O.Sink.written c.run.new.sink)
+    (g.O.Sink.written c.tell_races.new.sink)
     c.in_ok-status.status
-    (subst (λ (t : Told). Gives (behind c.args.listing.now (run_told t tree settings)) c.in_ok-status.status (g.O.Sink.written c.args.sink.now) (g.O.Sink.written c.run.new.sink))
+    (subst (λ (t : Told). Gives (behind c.args.listing.now (run_told t tree settings)) c.in_ok-status.status
+    (g.O.Sink.written c.args.sink.now) (g.O.Sink.written c.run.new.sink))
     c.told_in-told.ensures c.in_ok-status.ensures.written)
     (c.in_ok-tell_races.ensures.whole c.args.policy c.requires.policy)

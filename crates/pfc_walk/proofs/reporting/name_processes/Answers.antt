@@ -9,7 +9,8 @@ use Rattle.pfc_walk.proofs.reporting.name_processes.Goals as goal
 
 pub loop-standing-preserved : goal.loop-standing-preserved
 loop-standing-preserved c = λ k d.
-    All-more (λ (standing : Standing). standing.process < length c.args.image.now.processes.items) c.args.standings.now c.loop-standing.standing-index (record { process = 0; state = Idle; line = 0 })
+    All-more (λ (standing : Standing). standing.process < length c.args.image.now.processes.items) c.args.standings.now c.loop-standing.standing-index
+    (record { process = 0; state = Idle; line = 0 })
     (search rules) c.loop-standing.invariant (search rules) k d
 
 pub returns : goal.returns

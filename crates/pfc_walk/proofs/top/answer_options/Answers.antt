@@ -11,8 +11,10 @@ use Rattle.pfc_walk.proofs.top.answer_options.Goals as goal
 pub returns-in-Ok-clause-outcome : goal.returns-in-Ok-clause-outcome
 returns-in-Ok-clause-outcome g c = λ files told six seven eight.
     let are = c.in-Ok.ensures.given files told in
-    answered_one (IsToldOf c.args.shown whole_meaning (asked_of c.args.options.now) files) (g.O.Sink.written c.args.sink.now) (g.O.Sink.written c.answer.new.sink) c.answer.result
-    (files_replies files (asked_of c.args.options.now) c.in-Ok.loaded are c.args.shown c.answer.result (g.O.Sink.written c.args.sink.now) (g.O.Sink.written c.answer.new.sink)
+    answered_one (IsToldOf c.args.shown whole_meaning (asked_of c.args.options.now) files) (g.O.Sink.written c.args.sink.now)
+    (g.O.Sink.written c.answer.new.sink) c.answer.result
+    (files_replies files (asked_of c.args.options.now) c.in-Ok.loaded are c.args.shown c.answer.result
+    (g.O.Sink.written c.args.sink.now) (g.O.Sink.written c.answer.new.sink)
     c.answer.ensures.replies)
     c.answer.ensures.sound c.ended.result c.ended.ensures seven eight
 
@@ -22,16 +24,20 @@ returns-in-Ok-clause-sound g c = status_reply c.answer.result c.answer.ensures.s
 pub returns-in-Ok-clause-cut : goal.returns-in-Ok-clause-cut
 returns-in-Ok-clause-cut g c = λ files told seven.
     let are = c.in-Ok.ensures.given files told in
-    answered_cut (IsToldOf c.args.shown whole_meaning (asked_of c.args.options.now) files) (g.O.Sink.written c.args.sink.now) (g.O.Sink.written c.answer.new.sink) c.answer.result
-    (files_replies files (asked_of c.args.options.now) c.in-Ok.loaded are c.args.shown c.answer.result (g.O.Sink.written c.args.sink.now) (g.O.Sink.written c.answer.new.sink)
+    answered_cut (IsToldOf c.args.shown whole_meaning (asked_of c.args.options.now) files) (g.O.Sink.written c.args.sink.now)
+    (g.O.Sink.written c.answer.new.sink) c.answer.result
+    (files_replies files (asked_of c.args.options.now) c.in-Ok.loaded are c.args.shown c.answer.result
+    (g.O.Sink.written c.args.sink.now) (g.O.Sink.written c.answer.new.sink)
     c.answer.ensures.replies)
     c.answer.ensures.sound c.ended.result c.ended.ensures seven
 
 pub returns-in-Ok-clause-no_memory : goal.returns-in-Ok-clause-no_memory
 returns-in-Ok-clause-no_memory g c = λ files told eight.
     let are = c.in-Ok.ensures.given files told in
-    answered_memory (IsToldOf c.args.shown whole_meaning (asked_of c.args.options.now) files) (g.O.Sink.written c.args.sink.now) (g.O.Sink.written c.answer.new.sink) c.answer.result
-    (files_replies files (asked_of c.args.options.now) c.in-Ok.loaded are c.args.shown c.answer.result (g.O.Sink.written c.args.sink.now) (g.O.Sink.written c.answer.new.sink)
+    answered_memory (IsToldOf c.args.shown whole_meaning (asked_of c.args.options.now) files) (g.O.Sink.written c.args.sink.now)
+    (g.O.Sink.written c.answer.new.sink) c.answer.result
+    (files_replies files (asked_of c.args.options.now) c.in-Ok.loaded are c.args.shown c.answer.result
+    (g.O.Sink.written c.args.sink.now) (g.O.Sink.written c.answer.new.sink)
     c.answer.ensures.replies)
     c.answer.ensures.sound c.ended.result c.ended.ensures eight
 

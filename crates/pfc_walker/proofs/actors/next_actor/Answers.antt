@@ -26,7 +26,8 @@ returns-then-left-eq0-clause-over c = λ source g c' stands.
     (left_ready c.settle-settled.result c.settle-settled.new.state.world.rows c.settle-settled.ensures.left c.in_default.not-NobodyReady) c.if-left-eq0.true
 
 pub returns-then-is_worn_out-clause-over : goal.returns-then-is_worn_out-clause-over
-returns-then-is_worn_out-clause-over c = λ source g c' stands. turn_worn_out source g c.args.limit c.args.left c.args.picker.now c' c.settle-settled.new.state (c.settle-settled.ensures.stands source c' stands)
+returns-then-is_worn_out-clause-over c = λ source g c' stands. turn_worn_out source g c.args.limit c.args.left c.args.picker.now c' c.settle-settled.new.state
+    (c.settle-settled.ensures.stands source c' stands)
 
 pub returns-in-Process-clause-pick : goal.returns-in-Process-clause-pick
 returns-in-Process-clause-pick c = λ source g c' stands.
@@ -50,7 +51,8 @@ returns-in-Nobody-clause-over c = λ source g c' stands.
     record {
       course = turn_ends source g c.args.limit c.args.left c.args.picker.now c' c.settle-settled.new.state (c.settle-settled.ensures.stands source c' stands)
           (sym c.is_over.ensures ∙ c.if-is_over.false) ready c.if-left-eq0.false Nobody is Deadlock refl;
-      none = λ other. no_step source g c.args.limit c.args.left c.args.picker.now c' c.settle-settled.new.state (c.settle-settled.ensures.stands source c' stands)
+      none = λ other. no_step source g c.args.limit c.args.left c.args.picker.now c' c.settle-settled.new.state
+          (c.settle-settled.ensures.stands source c' stands)
           (sym c.is_over.ensures ∙ c.if-is_over.false) ready c.if-left-eq0.false Nobody is (λ steps. refl);
     }
 
@@ -63,7 +65,8 @@ returns-in-NotReady-clause-over c = λ source g c' stands.
     (sym (c.script.ensures ∙ ap (λ (x : Picking). Script (item_of x) (Not_ready c.in-NotReady.p)) c.pick.ensures.after)) (record {
       course = turn_ends source g c.args.limit c.args.left c.args.picker.now c' c.settle-settled.new.state (c.settle-settled.ensures.stands source c' stands)
           (sym c.is_over.ensures ∙ c.if-is_over.false) ready c.if-left-eq0.false (NotReady c.in-NotReady.p) is (Script item (Not_ready c.in-NotReady.p)) refl;
-      none = λ other. no_step source g c.args.limit c.args.left c.args.picker.now c' c.settle-settled.new.state (c.settle-settled.ensures.stands source c' stands)
+      none = λ other. no_step source g c.args.limit c.args.left c.args.picker.now c' c.settle-settled.new.state
+          (c.settle-settled.ensures.stands source c' stands)
           (sym c.is_over.ensures ∙ c.if-is_over.false) ready c.if-left-eq0.false (NotReady c.in-NotReady.p) is (λ steps. refl);
     })
 
@@ -75,8 +78,10 @@ returns-in-NoProcess-clause-over c = λ source g c' stands.
     subst (λ (e : Ending). IsOver g c.args.limit c.args.left c.args.picker.now c' c.settle-settled.new.state e)
     (sym (c.script-in-NoProcess.ensures ∙ ap (λ (x : Picking). Script (item_of x) (No_process c.in-NoProcess.p)) c.pick.ensures.after)) (record {
       course = turn_ends source g c.args.limit c.args.left c.args.picker.now c' c.settle-settled.new.state (c.settle-settled.ensures.stands source c' stands)
-          (sym c.is_over.ensures ∙ c.if-is_over.false) ready c.if-left-eq0.false (NoProcess c.in-NoProcess.p) is (Script item (No_process c.in-NoProcess.p)) refl;
-      none = λ other. no_step source g c.args.limit c.args.left c.args.picker.now c' c.settle-settled.new.state (c.settle-settled.ensures.stands source c' stands)
+          (sym c.is_over.ensures ∙ c.if-is_over.false) ready c.if-left-eq0.false (NoProcess c.in-NoProcess.p) is
+          (Script item (No_process c.in-NoProcess.p)) refl;
+      none = λ other. no_step source g c.args.limit c.args.left c.args.picker.now c' c.settle-settled.new.state
+          (c.settle-settled.ensures.stands source c' stands)
           (sym c.is_over.ensures ∙ c.if-is_over.false) ready c.if-left-eq0.false (NoProcess c.in-NoProcess.p) is (λ steps. refl);
     })
 
@@ -89,6 +94,7 @@ returns-in-ScriptEnd-clause-over c = λ source g c' stands.
     (sym (c.script-in-ScriptEnd.ensures ∙ ap (λ (x : Picking). Script (item_of x) Ended) c.pick.ensures.after)) (record {
       course = turn_ends source g c.args.limit c.args.left c.args.picker.now c' c.settle-settled.new.state (c.settle-settled.ensures.stands source c' stands)
           (sym c.is_over.ensures ∙ c.if-is_over.false) ready c.if-left-eq0.false ScriptEnd is (Script item Ended) refl;
-      none = λ other. no_step source g c.args.limit c.args.left c.args.picker.now c' c.settle-settled.new.state (c.settle-settled.ensures.stands source c' stands)
+      none = λ other. no_step source g c.args.limit c.args.left c.args.picker.now c' c.settle-settled.new.state
+          (c.settle-settled.ensures.stands source c' stands)
           (sym c.is_over.ensures ∙ c.if-is_over.false) ready c.if-left-eq0.false ScriptEnd is (λ steps. refl);
     })

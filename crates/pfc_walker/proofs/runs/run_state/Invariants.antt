@@ -13,7 +13,8 @@ abbrev pub invariant-loop-ending : goal.invariant-loop-ending
 invariant-loop-ending g l = record {
   some : (p : Program) × (c : Config) × IsProgram l.source p × Stands l.source l.state c;
   all : (p : Program) (c : Config) → IsProgram l.source p → Stands l.source l.fn.state c → l.fn.in_line ≡ is_open_line c.output
-      → Gathers l.told l.source p l.limit (run_from p l.limit l.limit l.fn.picker c) l.left l.picker c l.state l.out l.in_line (g.O.Sink.written l.fn.sink) (g.O.Sink.written l.sink);
+      → Gathers l.told l.source p l.limit (run_from p l.limit l.limit l.fn.picker c) l.left l.picker c l.state l.out l.in_line
+      (g.O.Sink.written l.fn.sink) (g.O.Sink.written l.sink);
   later : g.O.Sink.faults l.fn.sink ≤ g.O.Sink.faults l.sink;
 }
 

@@ -13,6 +13,7 @@ loop-p-preserved c =
     let low : c.loop-p.p < length c.args.state.now.world.rows = omega (arith, c.loop-p-test.true, c.processes-p-end.ensures.count) in
     let same = ap length c.deref.ensures.value in
     let within : c.loop-p.p < length c.args.state.now.activities.items = omega (arith, same, c.in-Some.ensures.lookup.3.0) in
-    let there : c.in-Some.activity.now ≡ get_or c.args.state.now.activities.items c.loop-p.p c.in-Some.activity.now = cc (c.deref.ensures.value, c.in-Some.ensures.lookup.1) in
+    let there : c.in-Some.activity.now ≡ get_or c.args.state.now.activities.items c.loop-p.p c.in-Some.activity.now =
+    cc (c.deref.ensures.value, c.in-Some.ensures.lookup.1) in
     told_more c.args.state.now c.loop-p.p c.loop-p.list.items c.push.new.self.items _ c.in-Some.activity.now c.state.result low within there
     c.state.ensures.state c.in_ok-push.ensures.items c.loop-p.invariant

@@ -12,5 +12,6 @@ returns-in-Output-clause-ok c =
     (λ done. IsActTold t c.args.source.now c.args.state.now c.act.new.state c.args.p c.args.picker.now c.act.new.picker c.args.out.now c.act.new.out done))
     (sym c.in-Output.is)
     (IfOk-weaker c.act.result _ _
-    (λ done acted. told_printed c.args.source.now c.args.state.now c.act.new.state c.args.p c.args.picker.now c.act.new.picker c.args.out.now c.act.new.out done acted)
+    (λ done acted. told_printed c.args.source.now c.args.state.now c.act.new.state c.args.p c.args.picker.now c.act.new.picker
+    c.args.out.now c.act.new.out done acted)
     c.act.ensures.ok)

@@ -13,7 +13,8 @@ act_out-requires-clause-before c =
 pub returns-in-Ok-clause-turn : goal.returns-in-Ok-clause-turn
 returns-in-Ok-clause-turn c = λ g c' program stands.
     let one : (c.args.left - 1) + 1 ≡ c.args.left = omega (arith, c.in-Ok.ensures.some) in
-    subst (λ n. IsTurn c.args.told c.args.source.now g c.args.limit n c.args.picker.now c.act_out.new.picker c' c.act_out.new.state c.act_out.result (Some c.args.out.now) (Some c.act_out.new.out)) one
+    subst (λ n. IsTurn c.args.told c.args.source.now g c.args.limit n c.args.picker.now c.act_out.new.picker c' c.act_out.new.state c.act_out.result
+    (Some c.args.out.now) (Some c.act_out.new.out)) one
     (c.act_out.ensures.turn g c.args.limit (c.args.left - 1) c.args.picker.now c' (settled_config c') program
     (c.in-Ok.ensures.stands c.args.source.now c' stands) (c.in-Ok.ensures.pick c.args.source.now g c' stands))
 

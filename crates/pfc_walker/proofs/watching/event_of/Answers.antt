@@ -9,7 +9,10 @@ pub returns : goal.returns
 returns c = λ g limit left picking c' d program stands pick.
     let before = before_any c.args.source.now c.args.state.now d c.args.p c.requires.within stands in
     subst
-    (λ (x : Option EventSeen). IsNextEvent c.args.source.now g (left + 1) picking c.act_watched.new.picker c.args.waited.now c.act_watched.new.waited c' c.act_watched.new.state x)
+    (λ (x : Option EventSeen). IsNextEvent c.args.source.now g
+    (left + 1) picking c.act_watched.new.picker c.args.waited.now c.act_watched.new.waited c' c.act_watched.new.state x)
     (sym c.event_in.ensures)
-    (next_event_so c.args.source.now g limit left picking c.args.picker.now c' d c.args.p pick c.act_watched.new.state c.act_watched.new.picker _ c.act_watched.new.out
-    c.args.waited.now c.act_watched.new.waited c.in_ok-walked.walked (c.in_ok-walked.ensures.ok g d program before) (c.in_ok-walked.ensures.watched g d program before))
+    (next_event_so c.args.source.now g limit left picking c.args.picker.now c' d c.args.p pick c.act_watched.new.state
+    c.act_watched.new.picker _ c.act_watched.new.out
+    c.args.waited.now c.act_watched.new.waited c.in_ok-walked.walked (c.in_ok-walked.ensures.ok g d program before)
+    (c.in_ok-walked.ensures.watched g d program before))

@@ -16,7 +16,8 @@ returns-in-Ok-clause-event c =
     let one : (c.args.left - 1) + 1 ≡ c.args.left = omega (arith, c.in-Ok.ensures.some) in
     IfOk-weaker c.event_of.result _ _
     (λ event h g c' program stands.
-    subst (λ n. IsNextEvent c.args.source.now g n c.args.picker.now c.event_of.new.picker c.args.waited.now c.event_of.new.waited c' c.event_of.new.state event) one
+    subst (λ n. IsNextEvent c.args.source.now g n c.args.picker.now c.event_of.new.picker c.args.waited.now c.event_of.new.waited c' c.event_of.new.state event)
+    one
     (h g c.args.left (c.args.left - 1) c.args.picker.now c' (settled_config c') program (c.in-Ok.ensures.stands c.args.source.now c' stands)
     (c.in-Ok.ensures.pick c.args.source.now g c' stands)))
     c.event_of.ensures
@@ -26,10 +27,12 @@ returns-in-Err-clause-event c =
     IfOk-weaker c.no_event.result _ _
     (λ event h g c' program stands.
     subst
-    (λ (x : Option EventSeen). IsNextEvent c.args.source.now g c.args.left c.args.picker.now c.next_actor.new.picker c.args.waited.now c.args.waited.now c' c.next_actor.new.state x)
+    (λ (x : Option EventSeen). IsNextEvent c.args.source.now g c.args.left c.args.picker.now c.next_actor.new.picker c.args.waited.now
+    c.args.waited.now c' c.next_actor.new.state x)
     (sym h.0) (ap (λ (ts : List Step). ordered c.args.waited.now ts) ((c.in-Err.ensures.over c.args.source.now g c' stands).none h.1)))
     c.no_event.ensures
 
 pub returns-in-Err-clause-some : goal.returns-in-Err-clause-some
 returns-in-Err-clause-some c =
-    IfOk-weaker c.no_event.result _ _ (λ event h some. absurd (let none : IsSome {T = EventSeen} None = subst (λ (x : Option EventSeen). IsSome x) h.0 some in cc)) c.no_event.ensures
+    IfOk-weaker c.no_event.result _ _ (λ event h some. absurd (let none : IsSome {T = EventSeen} None =
+    subst (λ (x : Option EventSeen). IsSome x) h.0 some in cc)) c.no_event.ensures

@@ -13,7 +13,8 @@ returns-in_default-clause-err c = λ c' before. c.put_back.ensures c.args.source
 pub returns-in-Ok-perform-clause-ok : goal.returns-in-Ok-perform-clause-ok
 returns-in-Ok-perform-clause-ok c =
     subst
-    (λ (d : Done). IsActed c.args.source.now c.args.state.now c.perform.new.state c.args.p c.args.picker.now c.perform.new.picker c.args.out.now c.perform.new.out d)
+    (λ (d : Done). IsActed c.args.source.now c.args.state.now c.perform.new.state c.args.p c.args.picker.now
+    c.perform.new.picker c.args.out.now c.perform.new.out d)
     (sym c.event_behind.ensures.done)
     (acted_so c.args.source.now c.args.state.now c.next.new.state c.perform.new.state c.args.p c.in_ok-deed.deed c.args.picker.now c.perform.new.picker
     c.args.out.now c.perform.new.out c.in-Ok-perform.done c.in_ok-deed.ensures.ok c.in-Ok-perform.ensures.ok)
@@ -23,7 +24,8 @@ returns-in-Ok-perform-clause-told c =
     told_so c.args.source.now c.args.state.now c.next.new.state c.perform.new.state c.args.p c.in_ok-deed.deed c.args.picker.now c.perform.new.picker
     c.args.out.now c.perform.new.out c.args.joins c.in-Ok.told c.event_behind.result c.in_ok-deed.ensures.ok c.in-Ok.ensures
     (subst
-    (λ (d : Done). IsDone c.args.source.now c.next.new.state c.perform.new.state c.args.p c.in_ok-deed.deed c.args.picker.now c.perform.new.picker c.args.out.now c.perform.new.out d)
+    (λ (d : Done). IsDone c.args.source.now c.next.new.state c.perform.new.state c.args.p c.in_ok-deed.deed c.args.picker.now
+    c.perform.new.picker c.args.out.now c.perform.new.out d)
     (sym c.event_behind.ensures.done) c.in-Ok-perform.ensures.ok)
     c.event_behind.ensures.event
 
@@ -31,4 +33,5 @@ pub returns-in-Err-clause-err : goal.returns-in-Err-clause-err
 returns-in-Err-clause-err c = λ c' before.
     c.put_back-in-Err.ensures c.args.source.now c'
     (subst (λ (x : Deed). IsBeforeDeed c.args.source.now c.perform.new.state c' c.args.p x) (sym c.in-Err.ensures.given)
-    (still_before c.args.source.now c.next.new.state c.perform.new.state c' c.args.p c.in_ok-deed.deed (c.in_ok-deed.ensures.ok c' before) c.in-Err.ensures.err))
+    (still_before c.args.source.now c.next.new.state c.perform.new.state c' c.args.p c.in_ok-deed.deed
+    (c.in_ok-deed.ensures.ok c' before) c.in-Err.ensures.err))

@@ -7,4 +7,5 @@ pub returns : goal.returns
 returns c =
     let a = c.args.self.now in
     let g = a.program.now in
-    c.unwrap_or.ensures ∙ ap (λ (r : Option ℕ). unwrap_or r 0) (number_there g.tables g.blocks.items a.blocks.firsts.items c.args.i c.at.result a.blocks_held c.at.ensures)
+    c.unwrap_or.ensures ∙
+    ap (λ (r : Option ℕ). unwrap_or r 0) (number_there g.tables g.blocks.items a.blocks.firsts.items c.args.i c.at.result a.blocks_held c.at.ensures)

@@ -8,4 +8,5 @@ pub returns : goal.returns
 returns c =
     let b = c.args.self.now in
     let scopes = (tables_of b).scopes.now.scopes in
-    c.at.ensures ∙ accept_at scopes (scope_at scopes b.block.now.scope) b.accepts b.block.now.next b.block.now.accepts (c.args.i - b.block.now.next) b.accepts_held (omega (arith, c.requires.from, c.requires.to))
+    c.at.ensures ∙ accept_at scopes (scope_at scopes b.block.now.scope) b.accepts b.block.now.next b.block.now.accepts
+    (c.args.i - b.block.now.next) b.accepts_held (omega (arith, c.requires.from, c.requires.to))

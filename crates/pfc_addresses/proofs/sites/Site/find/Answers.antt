@@ -6,4 +6,5 @@ use Rattle.pfc_addresses.proofs.sites.Site.find.Goals as goal
 
 pub returns-clause-held : goal.returns-clause-held
 returns-clause-held c =
-    held_here (env_in c.args.self) (tables_in c.args.self).scopes.now c.args.name.now c.find_in.result (c.find_in.ensures ∙ ap (λ (e : Env). find e c.args.name.now) c.env.ensures.value) refl
+    held_here (env_in c.args.self) (tables_in c.args.self).scopes.now c.args.name.now c.find_in.result (c.find_in.ensures ∙
+    ap (λ (e : Env). find e c.args.name.now) c.env.ensures.value) refl

@@ -6,9 +6,15 @@ use Rattle.pfc_alternatives.proofs.Places.{with_node}
 use Rattle.pfc_alternatives.proofs.alternatives.Alternatives.offer_one.Goals as goal
 
 -- the alternative was put at the end of its list
-made : (c : goal.After-append) → IsOfferedOne c.args.self.now (record { places = c.self.inside.places; room = c.self.inside.room; members = c.append.new.self.members }) c.args.p c.args.place (list_of c.args.self.now.places c.args.arm) c.args.ticket
+made : (c : goal.After-append) → IsOfferedOne c.args.self.now (record {
+  places = c.self.inside.places;
+  room = c.self.inside.room;
+  members =
+      c.append.new.self.members;
+}) c.args.p c.args.place (list_of c.args.self.now.places c.args.arm) c.args.ticket
 made c =
-    put-in c.args.self.now (record { places = c.self.inside.places; room = c.self.inside.room; members = c.append.new.self.members }) c.args.p c.args.place (list_of c.args.self.now.places c.args.arm) c.args.ticket
+    put-in c.args.self.now (record { places = c.self.inside.places; room = c.self.inside.room; members = c.append.new.self.members }) c.args.p c.args.place
+    (list_of c.args.self.now.places c.args.arm) c.args.ticket
     (ap (λ l. record { places = c.self.inside.places; room = c.self.inside.room; members = l.members }) c.append.ensures
     ∙ ap (λ w. with_node w c.node-node.result (in_list c.list_of-list.result c.args.ticket)) c.self.view_is
     ∙ ap (λ n. with_node c.args.self.now n (in_list c.list_of-list.result c.args.ticket)) c.node-node.ensures

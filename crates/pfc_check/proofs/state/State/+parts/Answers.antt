@@ -42,8 +42,10 @@ sub-returns t c =
     let declared_is : declared ≡ parts_state elsewhere headed own about ps =
     c.in_ok-parts.ensures ∙ ap (λ (xs : List Part). parts_state elsewhere headed own about (parts_view xs)) c.deref-2.ensures.value in
     let fits_is : fits ≡ nat_le (scope_cells done.forms (scope_at done.blocks.scopes own) + result_cells kind) 65536 =
-    c.sub_fits.ensures ∙ ap (λ (n : ℕ). nat_le (scope_cells done.forms (scope_at done.blocks.scopes n) + result_cells kind) 65536) (sym c.inside-inner.ensures.scope) in
-    sub_walked s headed declared done (state_of c.unless.new.self) i own outer about (levels c.here-view.result) tree.name gs kind ps b tree.place fits (sub_view tree) tree_is
+    c.sub_fits.ensures ∙ ap (λ (n : ℕ). nat_le (scope_cells done.forms (scope_at done.blocks.scopes n) + result_cells kind) 65536)
+    (sym c.inside-inner.ensures.scope) in
+    sub_walked s headed declared done (state_of c.unless.new.self) i own outer about
+    (levels c.here-view.result) tree.name gs kind ps b tree.place fits (sub_view tree) tree_is
     own_is headed_is about_is declared_is c.here-view.ensures c.in_ok-body.ensures fits_is c.in_ok-unless.ensures
 
 pub process-returns : goal.process-returns
@@ -76,5 +78,6 @@ process-returns t c =
     c.in_ok-parts.ensures ∙ ap (λ (xs : List Part). parts_state elsewhere entered own about (parts_view xs)) c.deref-3.ensures.value in
     let fits_is : fits ≡ nat_le (process_cells done own k) 65536 =
     c.process_fits.ensures ∙ ap (λ (n : ℕ). nat_le (process_cells done n k) 65536) (sym c.inside-inner.ensures.scope) in
-    process_walked s headed entered declared done (state_of c.unless.new.self) i own k outer about (levels c.here-view.result) tree.many tree.name gs es ps b tree.place fits (process_view tree) tree_is
+    process_walked s headed entered declared done (state_of c.unless.new.self) i own k outer about
+    (levels c.here-view.result) tree.many tree.name gs es ps b tree.place fits (process_view tree) tree_is
     own_is headed_is about_is entered_is declared_is c.len-accepts.ensures c.here-view.ensures c.in_ok-body.ensures fits_is c.in_ok-unless.ensures

@@ -7,4 +7,5 @@ use Rattle.pfc_check.proofs.state.State.+parts.Given as goal
 
 abbrev pub invariant-parts-loop-part : goal.invariant-parts-loop-part
 invariant-parts-loop-part l =
-    parts_state (owner_of l.owner) (state_of l.self) l.block.scope (around l.block) (parts_view (drop l.part-index l.parts)) ≡ parts_state (owner_of l.owner) (state_of l.initial.self) l.block.scope (around l.block) (parts_view l.parts)
+    parts_state (owner_of l.owner) (state_of l.self) l.block.scope (around l.block) (parts_view (drop l.part-index l.parts)) ≡ parts_state (owner_of l.owner)
+    (state_of l.initial.self) l.block.scope (around l.block) (parts_view l.parts)

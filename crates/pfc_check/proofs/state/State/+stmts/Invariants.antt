@@ -12,7 +12,8 @@ invariant-stmts-loop-s l =
 
 abbrev pub invariant-arms-loop-a : goal.invariant-arms-loop-a
 invariant-arms-loop-a l =
-    arms_state (levels l.view) (labels_of l.self l.labels) (arms_view (drop l.a-index l.arms)) ≡ arms_state (levels l.view) (labels_of l.initial.self l.initial.labels) (arms_view l.arms)
+    arms_state (levels l.view) (labels_of l.self l.labels) (arms_view (drop l.a-index l.arms)) ≡ arms_state (levels l.view)
+    (labels_of l.initial.self l.initial.labels) (arms_view l.arms)
 
 abbrev pub invariant-alts-loop-a : goal.invariant-alts-loop-a
 invariant-alts-loop-a l =

@@ -8,4 +8,5 @@ use Rattle.pfc_check.proofs.state.State.+types.Given as goal
 
 abbrev pub invariant-fields-loop-item : goal.invariant-fields-loop-item
 invariant-fields-loop-item l =
-    made_items (levels l.view) (fields_of l.self l.fields) (vars_view (drop l.item-index l.items)) ≡ made_items (levels l.view) (fields_of l.initial.self l.initial.fields) (vars_view l.items)
+    made_items (levels l.view) (fields_of l.self l.fields) (vars_view (drop l.item-index l.items)) ≡ made_items (levels l.view)
+    (fields_of l.initial.self l.initial.fields) (vars_view l.items)

@@ -8,4 +8,5 @@ use Rattle.pfc_check.proofs.state.State.accept_heading.Given as goal
 -- what is still to come completes it
 abbrev pub invariant-loop-g : goal.invariant-loop-g
 invariant-loop-g l =
-    accept_groups l.i (levels l.view) (heading_of l.self l.heading) (map group_view (drop l.g-index l.groups)) ≡ accept_groups l.i (levels l.view) (heading_of l.initial.self l.initial.heading) (map group_view l.groups)
+    accept_groups l.i (levels l.view) (heading_of l.self l.heading) (map group_view (drop l.g-index l.groups)) ≡ accept_groups l.i (levels l.view)
+    (heading_of l.initial.self l.initial.heading) (map group_view l.groups)

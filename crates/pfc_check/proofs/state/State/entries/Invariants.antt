@@ -7,4 +7,5 @@ use Rattle.pfc_check.proofs.state.State.entries.Given as goal
 -- what is still to come completes it
 abbrev pub invariant-loop-k : goal.invariant-loop-k
 invariant-loop-k l =
-    entries_state (state_of l.self) l.block.scope (around l.block) l.k (map entry_view (drop l.k l.entries)) ≡ entries_state (state_of l.initial.self) l.block.scope (around l.block) 0 (map entry_view l.entries)
+    entries_state (state_of l.self) l.block.scope (around l.block) l.k (map entry_view (drop l.k l.entries)) ≡ entries_state
+    (state_of l.initial.self) l.block.scope (around l.block) 0 (map entry_view l.entries)

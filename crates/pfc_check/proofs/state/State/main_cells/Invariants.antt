@@ -10,6 +10,7 @@ use Rattle.pfc_check.proofs.state.State.main_cells.Given as goal
 abbrev pub invariant-loop-m : goal.invariant-loop-m
 invariant-loop-m l =
     record {
-      value : most (l.cells + sum_by (λ m. scope_cells (state_of l.self).forms (scope_at (state_of l.self).blocks.scopes m.scope)) (drop l.m (state_of l.self).blocks.modules)) ≡ most (main_cells (state_of l.self));
+      value : most (l.cells + sum_by (λ m. scope_cells (state_of l.self).forms (scope_at (state_of l.self).blocks.scopes m.scope))
+          (drop l.m (state_of l.self).blocks.modules)) ≡ most (main_cells (state_of l.self));
       bound : l.cells ≤ 18446744073709551615;
     }

@@ -8,6 +8,7 @@ use Rattle.pfc_check.proofs.state.State.scopes_cells.Given as goal
 abbrev pub invariant-loop-i : goal.invariant-loop-i
 invariant-loop-i l =
     record {
-      value : most (l.cells + scopes_cells (state_of l.self).forms (drop l.i (state_of l.self).blocks.scopes)) ≡ most (scopes_cells (state_of l.self).forms (drop l.k (state_of l.self).blocks.scopes));
+      value : most (l.cells + scopes_cells (state_of l.self).forms (drop l.i (state_of l.self).blocks.scopes)) ≡ most
+          (scopes_cells (state_of l.self).forms (drop l.k (state_of l.self).blocks.scopes));
       bound : l.cells ≤ 18446744073709551615;
     }

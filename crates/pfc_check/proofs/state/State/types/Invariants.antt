@@ -7,4 +7,5 @@ use Rattle.pfc_check.proofs.state.State.types.Given as goal
 -- what is still to come completes it
 abbrev pub invariant-loop-d : goal.invariant-loop-d
 invariant-loop-d l =
-    types_state (state_of l.self) l.block.scope (around l.block) (map type_item_view (drop l.d-index l.items)) ≡ types_state (state_of l.initial.self) l.block.scope (around l.block) (map type_item_view l.items)
+    types_state (state_of l.self) l.block.scope (around l.block) (map type_item_view (drop l.d-index l.items)) ≡ types_state
+    (state_of l.initial.self) l.block.scope (around l.block) (map type_item_view l.items)

@@ -23,7 +23,8 @@ returns-in-Process-clause-turn c = λ g' c' program checked before sound.
     let s : State = c.settle-settled.new.self in
     let h : Stands g' s c' = subst (λ (x : State). Stands g' x c') (sym c.settle-settled.ensures.same) before in
     let low : s.table.done < c.args.limit =
-    let count : c.done.result ≡ s.table.done = c.done.ensures.count ∙ ap (λ (x : State). x.table.done) c.self.view_is in omega (arith, count, c.if-done-limit.false) in
+    let count : c.done.result ≡ s.table.done = c.done.ensures.count ∙
+    ap (λ (x : State). x.table.done) c.self.view_is in omega (arith, count, c.if-done-limit.false) in
     let picks : Process c.in-Process.p ≡ picked c.args.picker.now s.table.rows =
     sym c.in-Process.is ∙ c.pick.ensures.pick ∙ ap (λ (x : State). picked c.args.picker.now x.table.rows) c.self.view_is in
     subst (λ (p : Picking). IsTurn g' c.args.limit c.args.picker.now p c' c.act_out.new.self c.act_out.result (Some c.args.out.now) (Some c.act_out.new.out))
@@ -31,7 +32,8 @@ returns-in-Process-clause-turn c = λ g' c' program checked before sound.
     (turned g' s c' h c.args.limit c.args.picker.now c.in-Process.p c.act_out.new.self c.act_out.result (Some c.args.out.now) (Some c.act_out.new.out)
     sound (sym c.is_over.ensures ∙ c.if-is_over.false) low
     picks
-    (c.act_out.ensures.acted g' c' (ready_main g' (plain_image c.args.image.now) s c' h program checked sound c.args.picker.now c.in-Process.p picks) c.args.limit (c.args.limit - (c'.table.done + 1)) (after_pick c.args.picker.now s.table.rows)))
+    (c.act_out.ensures.acted g' c' (ready_main g' (plain_image c.args.image.now) s c' h program checked sound c.args.picker.now c.in-Process.p picks)
+    c.args.limit (c.args.limit - (c'.table.done + 1)) (after_pick c.args.picker.now s.table.rows)))
 
 pub returns-in-NoProcess-clause-turn : goal.returns-in-NoProcess-clause-turn
 returns-in-NoProcess-clause-turn c = λ g' c' program checked before sound.
@@ -39,10 +41,12 @@ returns-in-NoProcess-clause-turn c = λ g' c' program checked before sound.
     let h : Stands g' s c' = subst (λ (x : State). Stands g' x c') (sym c.settle-settled.ensures.same) before in
     let f = run_left g' c.args.limit c.args.picker.now c' in
     let low : s.table.done < c.args.limit =
-    let count : c.done.result ≡ s.table.done = c.done.ensures.count ∙ ap (λ (x : State). x.table.done) c.self.view_is in omega (arith, count, c.if-done-limit.false) in
+    let count : c.done.result ≡ s.table.done = c.done.ensures.count ∙
+    ap (λ (x : State). x.table.done) c.self.view_is in omega (arith, count, c.if-done-limit.false) in
     subst (λ (e : Ending). IsCourse g' f c' s e (Some c.args.out.now) (Some c.args.out.now))
     (sym (c.script-in-NoProcess.ensures
-    ∙ ap (λ (p : Picking). Script (item_of p) (No_process c.in-NoProcess.p)) (c.pick.ensures.after ∙ ap (λ (x : State). after_pick c.args.picker.now x.table.rows) c.self.view_is)))
+    ∙ ap (λ (p : Picking). Script (item_of p) (No_process c.in-NoProcess.p)) (c.pick.ensures.after ∙
+    ap (λ (x : State). after_pick c.args.picker.now x.table.rows) c.self.view_is)))
     (completes g' s c' h f (Script (item_of (after_pick c.args.picker.now s.table.rows)) (No_process c.in-NoProcess.p)) (Some c.args.out.now)
     (run_picked g' s c' h c.args.limit c.args.picker.now (NoProcess c.in-NoProcess.p) sound (sym c.is_over.ensures ∙ c.if-is_over.false) low
     (sym c.in-NoProcess.is ∙ c.pick.ensures.pick ∙ ap (λ (x : State). picked c.args.picker.now x.table.rows) c.self.view_is)))
@@ -53,7 +57,8 @@ returns-in-ScriptEnd-clause-turn c = λ g' c' program checked before sound.
     let h : Stands g' s c' = subst (λ (x : State). Stands g' x c') (sym c.settle-settled.ensures.same) before in
     let f = run_left g' c.args.limit c.args.picker.now c' in
     let low : s.table.done < c.args.limit =
-    let count : c.done.result ≡ s.table.done = c.done.ensures.count ∙ ap (λ (x : State). x.table.done) c.self.view_is in omega (arith, count, c.if-done-limit.false) in
+    let count : c.done.result ≡ s.table.done = c.done.ensures.count ∙
+    ap (λ (x : State). x.table.done) c.self.view_is in omega (arith, count, c.if-done-limit.false) in
     subst (λ (e : Ending). IsCourse g' f c' s e (Some c.args.out.now) (Some c.args.out.now))
     (sym (c.script-in-ScriptEnd.ensures
     ∙ ap (λ (p : Picking). Script (item_of p) Ended) (c.pick.ensures.after ∙ ap (λ (x : State). after_pick c.args.picker.now x.table.rows) c.self.view_is)))

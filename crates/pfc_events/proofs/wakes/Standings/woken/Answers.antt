@@ -26,4 +26,5 @@ loop-q-preserved c =
 pub returns : goal.returns
 returns c =
     c.from_vec.ensures
-    ∙ woken_all c.args.self.ready.items c.args.world.now.rows c.loop-q.q c.min-count.result c.loop-q.woken.items _ (search rules) (omega arith) c.loop-q.invariant.found
+    ∙ woken_all c.args.self.ready.items c.args.world.now.rows c.loop-q.q c.min-count.result c.loop-q.woken.items _
+    (search rules) (omega arith) c.loop-q.invariant.found

@@ -19,11 +19,15 @@ returns-then-self-held-clause-same c =
 pub returns-clause-found : goal.returns-clause-found
 returns-clause-found c =
     let le : count_ones c.low_bits-low.result ≤ c.args.self.before = omega arith in
-    subst (λ low. c.args.self.before - count_ones low < length (numbers_from (c.args.self.lowest + c.args.half) (bits c.args.half (c.args.self.word / 2 ^ c.args.half)))) (sym c.low_bits-low.ensures)
-    (in-high c.args.self.lowest c.args.half c.args.self.word c.args.self.before (subst (λ low. count_ones low ≤ c.args.self.before) c.low_bits-low.ensures le) c.requires.found)
+    subst (λ low. c.args.self.before - count_ones low < length (numbers_from (c.args.self.lowest + c.args.half)
+    (bits c.args.half (c.args.self.word / 2 ^ c.args.half)))) (sym c.low_bits-low.ensures)
+    (in-high c.args.self.lowest c.args.half c.args.self.word c.args.self.before
+    (subst (λ low. count_ones low ≤ c.args.self.before) c.low_bits-low.ensures le) c.requires.found)
 
 pub returns-clause-same : goal.returns-clause-same
 returns-clause-same c =
     let le : count_ones c.low_bits-low.result ≤ c.args.self.before = omega arith in
-    ap (λ low. get_or (numbers_from (c.args.self.lowest + c.args.half) (bits c.args.half (c.args.self.word / 2 ^ c.args.half))) (c.args.self.before - count_ones low) 0) c.low_bits-low.ensures
-    ∙ same-high c.args.self.lowest c.args.half c.args.self.word c.args.self.before (subst (λ low. count_ones low ≤ c.args.self.before) c.low_bits-low.ensures le)
+    ap (λ low. get_or (numbers_from (c.args.self.lowest + c.args.half) (bits c.args.half (c.args.self.word / 2 ^ c.args.half)))
+    (c.args.self.before - count_ones low) 0) c.low_bits-low.ensures
+    ∙ same-high c.args.self.lowest c.args.half c.args.self.word c.args.self.before
+    (subst (λ low. count_ones low ≤ c.args.self.before) c.low_bits-low.ensures le)

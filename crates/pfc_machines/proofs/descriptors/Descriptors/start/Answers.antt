@@ -13,5 +13,6 @@ nobody_entered blocks (p ∷ ps) = refl
 pub enter-requires-clause-few : goal.enter-requires-clause-few
 enter-requires-clause-few c =
     let none : (descriptor_of c.in_ok-declared_descriptors.field-0.items 0).activations ≡ 0 =
-    subst (λ (ds : List Descriptor). (descriptor_of ds 0).activations ≡ 0) (sym c.in_ok-declared_descriptors.ensures) (nobody_entered c.args.blocks.now c.args.processes.now) in
+    subst (λ (ds : List Descriptor). (descriptor_of ds 0).activations ≡ 0) (sym c.in_ok-declared_descriptors.ensures)
+    (nobody_entered c.args.blocks.now c.args.processes.now) in
     omega (arith, none)

@@ -12,8 +12,10 @@ returns-in-Some c =
     let long : c.self.inside.sorted.len ≡ length c.self.inside.sorted.items = c.self.inside.sorted.ok.0 in
     let within : 0 < c.self.inside.sorted.len = c.in-Some.ensures.variant.0 refl in
     let lt : 0 < length c.self.inside.sorted.items = omega (arith, within, long) in
-    let is : c.in-Some.first.now ≡ process_at c.self.inside.sorted.items 0 = get_or_read c.self.inside.sorted.items 0 c.in-Some.first.now lt c.in-Some.ensures.lookup 0 in
-    let own : moment_at c.self.inside.moments.items (process_at c.self.inside.sorted.items 0) ≡ Some (c.self.invariant.0.each 0 lt).0 = (c.self.invariant.0.each 0 lt).1 in
+    let is : c.in-Some.first.now ≡ process_at c.self.inside.sorted.items 0 =
+    get_or_read c.self.inside.sorted.items 0 c.in-Some.first.now lt c.in-Some.ensures.lookup 0 in
+    let own : moment_at c.self.inside.moments.items (process_at c.self.inside.sorted.items 0) ≡ Some (c.self.invariant.0.each 0 lt).0 =
+    (c.self.invariant.0.each 0 lt).1 in
     subst (λ v. MatchOption c.due_of.result (IsNobody v) (IsFirst v)) c.self.view_is
     (subst (λ o. MatchOption o (IsNobody c.self.inside.moments.items) (IsFirst c.self.inside.moments.items))
     (sym

@@ -19,11 +19,13 @@ pub invariant_of-self : goal.invariant_of-self
 invariant_of-self c =
     let lt : c.args.process < length c.self.inside.moments.items = subst (λ v. c.args.process < length v) (sym c.self.view_is) c.requires.process in
     let free : moment_at c.self.inside.moments.items c.args.process ≡ None = ap (λ v. moment_at v c.args.process) c.self.view_is ∙ c.requires.free in
-    let long : length (set c.self.inside.moments.items c.args.process (Some c.args.moment)) ≡ length c.self.inside.moments.items = length-set c.self.inside.moments.items c.args.process (Some c.args.moment) in (
+    let long : length (set c.self.inside.moments.items c.args.process (Some c.args.moment)) ≡ length c.self.inside.moments.items =
+    length-set c.self.inside.moments.items c.args.process (Some c.args.moment) in (
       subst (λ v. AreSorted comes_first v (set c.self.inside.moments.items c.args.process (Some c.args.moment))) (sym c.put_in.ensures.items)
           (put-sorted comes_first c.self.inside.sorted.items c.self.inside.moments.items c.args.process c.args.moment c.place_of-place.result lt free
           (λ q other away own. sooner-total (due other q) (due c.args.moment c.args.process) away) c.self.invariant.0
-          (subst (λ v. IsParted (passes (λ p moment. is_sooner (due moment p) (due c.args.moment c.args.process)) v) c.self.inside.sorted.items c.place_of-place.result) c.deref.ensures.value c.place_of-place.ensures)),
+          (subst (λ v. IsParted (passes (λ p moment. is_sooner (due moment p) (due c.args.moment c.args.process)) v) c.self.inside.sorted.items
+          c.place_of-place.result) c.deref.ensures.value c.place_of-place.ensures)),
       omega (arith, long, c.self.invariant.1, c.put_in.ensures.capacity),
       omega (arith, long, c.self.invariant.2),
     )

@@ -12,9 +12,11 @@ invariant_of-self c =
     let lt : c.args.process < length c.self.inside.moments.items = subst (λ v. c.args.process < length v) (sym c.self.view_is) c.requires in
     let own : moment_at c.self.inside.moments.items c.args.process ≡ Some c.in-Some.moment =
     sym (get_or_read c.self.inside.moments.items c.args.process c.index.result.now lt c.index.ensures None) ∙ c.in-Some.is in
-    let long : length (set c.self.inside.moments.items c.args.process None) ≡ length c.self.inside.moments.items = length-set c.self.inside.moments.items c.args.process None in (
+    let long : length (set c.self.inside.moments.items c.args.process None) ≡ length c.self.inside.moments.items =
+    length-set c.self.inside.moments.items c.args.process None in (
       subst (λ v. AreSorted comes_first v (set c.self.inside.moments.items c.args.process None)) (sym c.take_out.ensures.items)
-          (out-sorted comes_first never-first c.self.inside.sorted.items c.self.inside.moments.items c.args.process c.in-Some.moment c.place_of_process-place.result own c.self.invariant.0
+          (out-sorted comes_first never-first c.self.inside.sorted.items c.self.inside.moments.items c.args.process c.in-Some.moment
+          c.place_of_process-place.result own c.self.invariant.0
           c.place_of_process-place.ensures),
       omega (arith, long, c.self.invariant.1, c.take_out.ensures.capacity),
       omega (arith, long, c.self.invariant.2),

@@ -10,12 +10,14 @@ unfolding many
 loop-behind-init c = search (rules, turning_begins)
 
 pub returns-in_err-item-clause-gives : goal.returns-in_err-item-clause-gives
-returns-in_err-item-clause-gives c = let p = err_from_is_err_and c.from_residual.result c.from_residual.ensures.1 in rw (p.1, p.2) (turning_halts _ _ _ _ _ _ _ _ c.loop-behind.invariant.turning c.in-Some.ensures.taken c.in_err-item.ensures.gives)
+returns-in_err-item-clause-gives c = let p = err_from_is_err_and c.from_residual.result c.from_residual.ensures.1 in rw (p.1, p.2)
+    (turning_halts _ _ _ _ _ _ _ _ c.loop-behind.invariant.turning c.in-Some.ensures.taken c.in_err-item.ensures.gives)
 
 pub loop-behind-preserved : goal.loop-behind-preserved
 loop-behind-preserved c = record {
   shorter = omega (arith, c.in-Some.ensures.kept, c.in_ok-item.ensures.kept);
-  turning = turning_goes _ _ _ _ _ _ _ _ _ _ c.loop-behind.invariant.turning c.in-Some.ensures.taken c.in_ok-item.ensures.gives (omega (arith, c.in_ok-item.ensures.kept)) (viewed _ _ _ c.in_ok-item.item (search rules));
+  turning = turning_goes _ _ _ _ _ _ _ _ _ _ c.loop-behind.invariant.turning c.in-Some.ensures.taken c.in_ok-item.ensures.gives
+      (omega (arith, c.in_ok-item.ensures.kept)) (viewed _ _ _ c.in_ok-item.item (search rules));
 }
 
 pub returns-clause-gives : goal.returns-clause-gives

@@ -15,19 +15,23 @@ returns-in-Some c =
     subst (λ v. IsFirstBehind v c.args.delay c.from.result) c.self.view_is
     (subst (λ n. IsFirstBehind c.self.inside.delays.items c.args.delay n) (sym (c.from.ensures ∙ is))
     (behind-at c.self.inside.sorted.items c.self.inside.delays.items c.args.delay c.place_behind-place.result c.self.invariant.0
-    (subst (λ v. IsParted (passes (λ p other. not (is_before c.args.delay other)) v) c.self.inside.sorted.items c.place_behind-place.result) c.as_slice-delays.ensures.value c.place_behind-place.ensures)
+    (subst (λ v. IsParted (passes (λ p other. not (is_before c.args.delay other)) v) c.self.inside.sorted.items c.place_behind-place.result)
+    c.as_slice-delays.ensures.value c.place_behind-place.ensures)
     lt
     (ap (passes (λ p other. other.object == c.args.delay.object) c.self.inside.delays.items) (sym is)
-    ∙ sym (subst (λ v. c.is_at.result ≡ passes (λ p other. other.object == c.args.delay.object) v c.in-Some.first.now) c.as_slice-delays.ensures.value c.is_at.ensures)
+    ∙ sym (subst (λ v. c.is_at.result ≡ passes (λ p other. other.object == c.args.delay.object) v c.in-Some.first.now)
+    c.as_slice-delays.ensures.value c.is_at.ensures)
     ∙ c.if-is_at.true)))
 
 pub returns-in_default : goal.returns-in_default
 returns-in_default c =
     subst (λ v. IsNobodyBehind v c.args.delay) c.self.view_is
     (nobody-behind c.self.inside.sorted.items c.self.inside.delays.items c.args.delay c.place_behind-place.result c.self.invariant.0
-    (subst (λ v. IsParted (passes (λ p other. not (is_before c.args.delay other)) v) c.self.inside.sorted.items c.place_behind-place.result) c.as_slice-delays.ensures.value c.place_behind-place.ensures)
+    (subst (λ v. IsParted (passes (λ p other. not (is_before c.args.delay other)) v) c.self.inside.sorted.items c.place_behind-place.result)
+    c.as_slice-delays.ensures.value c.place_behind-place.ensures)
     (λ lt.
     ap (passes (λ p other. other.object == c.args.delay.object) c.self.inside.delays.items)
     (sym (get_or_read c.self.inside.sorted.items c.place_behind-place.result c.in-Some.first.now lt c.in-Some.ensures.lookup 0))
-    ∙ sym (subst (λ v. c.is_at.result ≡ passes (λ p other. other.object == c.args.delay.object) v c.in-Some.first.now) c.as_slice-delays.ensures.value c.is_at.ensures)
+    ∙ sym (subst (λ v. c.is_at.result ≡ passes (λ p other. other.object == c.args.delay.object) v c.in-Some.first.now)
+    c.as_slice-delays.ensures.value c.is_at.ensures)
     ∙ c.if-is_at.false))

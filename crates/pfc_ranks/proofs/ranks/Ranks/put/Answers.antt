@@ -19,11 +19,14 @@ pub invariant_of-self : goal.invariant_of-self
 invariant_of-self c =
     let lt : c.args.process < length c.self.inside.delays.items = subst (λ v. c.args.process < length v) (sym c.self.view_is) c.requires.process in
     let free : delay_at c.self.inside.delays.items c.args.process ≡ None = ap (λ v. delay_at v c.args.process) c.self.view_is ∙ c.requires.free in
-    let long : length (set c.self.inside.delays.items c.args.process (Some c.args.delay)) ≡ length c.self.inside.delays.items = length-set c.self.inside.delays.items c.args.process (Some c.args.delay) in (
+    let long : length (set c.self.inside.delays.items c.args.process (Some c.args.delay)) ≡ length c.self.inside.delays.items =
+    length-set c.self.inside.delays.items c.args.process (Some c.args.delay) in (
       subst (λ v. AreSorted comes_first v (set c.self.inside.delays.items c.args.process (Some c.args.delay))) (sym c.put_in.ensures.items)
           (put-sorted comes_first c.self.inside.sorted.items c.self.inside.delays.items c.args.process c.args.delay c.place_of-place.result lt free
-          (λ q other away own. before-total other c.args.delay (c.requires.apart q other (sym (ap (λ v. delay_at v q) c.self.view_is) ∙ own))) c.self.invariant.0
-          (subst (λ v. IsParted (passes (λ p other. is_before other c.args.delay) v) c.self.inside.sorted.items c.place_of-place.result) c.deref.ensures.value c.place_of-place.ensures)),
+          (λ q other away own. before-total other c.args.delay
+          (c.requires.apart q other (sym (ap (λ v. delay_at v q) c.self.view_is) ∙ own))) c.self.invariant.0
+          (subst (λ v. IsParted (passes (λ p other. is_before other c.args.delay) v) c.self.inside.sorted.items c.place_of-place.result)
+          c.deref.ensures.value c.place_of-place.ensures)),
       omega (arith, long, c.self.invariant.1, c.put_in.ensures.capacity),
       omega (arith, long, c.self.invariant.2),
     )

@@ -15,5 +15,6 @@ returns-in_default c = λ t.
     let arm = c.in_default in
     c.put_end.ensures t (env_view c.args.site.env)
     ∙ sym (ap (λ (u : AwaitsValue). from_value here u (value_view c.args.v))
-    (unwanted t (waiting t c.args.self.now.pending.items) c.args.part c.requires.other c.requires.no_guard arm.not-Within arm.not-OpenIf arm.not-OfferValue arm.not-OfferWait)
+    (unwanted t (waiting t c.args.self.now.pending.items) c.args.part c.requires.other c.requires.no_guard arm.not-Within
+    arm.not-OpenIf arm.not-OfferValue arm.not-OfferWait)
     ∙ no_value here (value_view c.args.v))

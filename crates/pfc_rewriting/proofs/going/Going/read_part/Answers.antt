@@ -16,7 +16,8 @@ returns-in-Back-Select-default-default c = λ t.
     let w = waiting t c.args.self.now.pending.items in
     let arm = c.in-Back-Select-default-default in
     c.offer.ensures t
-    ∙ subst (λ (r : Reason). reached_ahead t here w (selectors_view c.args.ss.now) (reached.Back r arm.spot arm.goal) ≡ ahead t here w (at.Part c.args.spot c.args.es c.args.ss c.args.goal))
+    ∙ subst (λ (r : Reason). reached_ahead t here w (selectors_view c.args.ss.now) (reached.Back r arm.spot arm.goal) ≡ ahead t here w
+    (at.Part c.args.spot c.args.es c.args.ss c.args.goal))
     arm.field-0-is (arm.ensures.next t c.args.self.now.line w)
 
 pub returns-in-Back-Memory-default-default : goal.returns-in-Back-Memory-default-default
@@ -25,5 +26,6 @@ returns-in-Back-Memory-default-default c = λ t.
     let w = waiting t c.args.self.now.pending.items in
     let arm = c.in-Back-Memory-default-default in
     c.put.ensures t (env_view c.args.site.env)
-    ∙ subst (λ (r : Reason). reached_ahead t here w (selectors_view c.args.ss.now) (reached.Back r arm.spot arm.goal) ≡ ahead t here w (at.Part c.args.spot c.args.es c.args.ss c.args.goal))
+    ∙ subst (λ (r : Reason). reached_ahead t here w (selectors_view c.args.ss.now) (reached.Back r arm.spot arm.goal) ≡ ahead t here w
+    (at.Part c.args.spot c.args.es c.args.ss c.args.goal))
     arm.field-0-is (arm.ensures.next t c.args.self.now.line w)

@@ -20,7 +20,8 @@ loop-j-preserved c =
     let same : (stack_of c.loop-j.self c.args.p).operands ≡ ops =
     ap (λ (s : Stacks). (stack_of s c.args.p).operands) before ∙ operands_written stacks c.args.to (take j ws) c.args.p in
     let word : to_z w64 (of_z w64 c.operand-v.result) ≡ get_or ws j (pos 0) =
-    to_z-of_z w64 c.operand-v.result (record { sfits = c.operand-v.type_inv }) ∙ c.operand-v.ensures ∙ ap (λ (held : List ℤ). operand held (c.args.k + (c.args.z - 1 - j))) same
+    to_z-of_z w64 c.operand-v.result (record { sfits = c.operand-v.type_inv }) ∙ c.operand-v.ensures ∙
+    ap (λ (held : List ℤ). operand held (c.args.k + (c.args.z - 1 - j))) same
     ∙ word_at_depth ops c.args.k c.args.z j c.requires.held c.loop-j-test.true in
     let live : AreLive stacks c.args.to (length ws) = (let kept = c.requires.live in omega arith) in
     c.set_cell.ensures ∙ ap (λ (s : Stacks). with_cell s c.args.to.process (c.args.to.cell + j) (to_z w64 (of_z w64 c.operand-v.result))) before

@@ -16,7 +16,8 @@ loop-preserved c =
     let count : c.args.accepts - c.loop.counter ≡ suc left = omega arith in
     ap (λ fs. frames_view fs ++ accept_frames b a left c.in_ok-scope.scope c.in_ok-first.first) c.in_ok-push-2.ensures.items
     ∙ ap (λ fs. fs ++ accept_frames b a left c.in_ok-scope.scope c.in_ok-first.first) (map-append frame_view c.loop.frames.items (pushed ∷ []))
-    ∙ ap₂ (λ i first. (frames ++ frame_view pushed ∷ []) ++ accept_frames b a left i first) c.in_ok-scope.ensures (c.in_ok-first.ensures ∙ ap (λ n. c.loop.first + n) c.laid_count.ensures)
+    ∙ ap₂ (λ i first. (frames ++ frame_view pushed ∷ []) ++ accept_frames b a left i first) c.in_ok-scope.ensures (c.in_ok-first.ensures ∙
+    ap (λ n. c.loop.first + n) c.laid_count.ensures)
     ∙ accept_next b frames a left c.loop.scope c.loop.first
     ∙ ap (λ n. frames ++ accept_frames b a n c.loop.scope c.loop.first) (sym count)
     ∙ c.loop.invariant

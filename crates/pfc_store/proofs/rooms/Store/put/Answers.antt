@@ -27,7 +27,8 @@ returns-in-Some-place_of c =
     change_found c.args.self.now.rooms.items c.args.l.now.activation c.in-Some-place_of.i c.index_mut.result.now c.in-Some-place_of.ensures.there
     (main_view c.args.self.now.main) (put_change k (value_view c.args.v) c.args.l.now.selectors.items) c.put.new.self
     (c.put.ensures.same ∙ ap (λ r. r.activation) c.index_mut.ensures.value)
-    (c.put.ensures.put ∙ ap₂ (λ s r. put_change k (value_view c.args.v) s (values_view r.values.items)) c.deref-in-Some-place_of.ensures.value c.index_mut.ensures.value)
+    (c.put.ensures.put ∙ ap₂ (λ s r. put_change k (value_view c.args.v) s
+    (values_view r.values.items)) c.deref-in-Some-place_of.ensures.value c.index_mut.ensures.value)
 
 pub returns-in_default-place_of : goal.returns-in_default-place_of
 returns-in_default-place_of c =

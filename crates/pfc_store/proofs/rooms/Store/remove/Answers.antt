@@ -5,7 +5,8 @@ use Rattle.pfc_store.proofs.Living.{main_gone, removed, without_found, nowhere, 
 use Rattle.pfc_store.proofs.rooms.Store.remove.Goals as goal
 
 pub returns-then-activation-eq0 : goal.returns-then-activation-eq0
-returns-then-activation-eq0 c = sym (ap (λ a. without (store_view c.args.self.now) a) c.if-activation-eq0.true ∙ main_gone c.args.self.now.rooms.items c.args.self.now.main)
+returns-then-activation-eq0 c = sym (ap (λ a. without (store_view c.args.self.now) a) c.if-activation-eq0.true ∙
+    main_gone c.args.self.now.rooms.items c.args.self.now.main)
 
 pub returns-in-Some : goal.returns-in-Some
 returns-in-Some c =
@@ -18,4 +19,5 @@ returns-in-Some c =
 
 pub returns-in_default : goal.returns-in_default
 returns-in_default c =
-    sym (without_none c.args.activation (store_view c.args.self.now) (nowhere c.args.activation c.args.self.now.rooms.items c.args.self.now.main (omega arith) (c.in_default.ensures.none refl)))
+    sym (without_none c.args.activation (store_view c.args.self.now) (nowhere c.args.activation c.args.self.now.rooms.items c.args.self.now.main
+    (omega arith) (c.in_default.ensures.none refl)))

@@ -23,4 +23,5 @@ returns-in-Some-place_of c =
 
 pub returns-in-None-place_of : goal.returns-in-None-place_of
 returns-in-None-place_of c =
-    sym (values_none c.args.activation (store_view c.args.self.now) (nowhere c.args.activation c.args.self.now.rooms.items c.args.self.now.main (omega arith) (c.in-None-place_of.ensures.none refl)))
+    sym (values_none c.args.activation (store_view c.args.self.now) (nowhere c.args.activation c.args.self.now.rooms.items c.args.self.now.main (omega arith)
+    (c.in-None-place_of.ensures.none refl)))

@@ -6,7 +6,8 @@ use Rattle.pfc_tree.proofs.writer.Writer.+stmts.Given as goal
 
 abbrev pub invariant-alt-loop-s : goal.invariant-alt-loop-s
 invariant-alt-loop-s l =
-    l.self.kinds.items ++ semicolon_stmts_tokens (stmts_shape (drop l.s-index l.s-items)) ≡ l.initial.self.kinds.items ++ semicolon_stmts_tokens (stmts_shape l.s-items)
+    l.self.kinds.items ++ semicolon_stmts_tokens (stmts_shape (drop l.s-index l.s-items)) ≡ l.initial.self.kinds.items ++ semicolon_stmts_tokens
+    (stmts_shape l.s-items)
 
 abbrev pub invariant-alts-loop-a : goal.invariant-alts-loop-a
 invariant-alts-loop-a l =
@@ -18,4 +19,5 @@ invariant-arms-loop-a l =
 
 abbrev pub invariant-stmts-loop-s : goal.invariant-stmts-loop-s
 invariant-stmts-loop-s l =
-    l.self.kinds.items ++ semicolon_stmts_tokens (stmts_shape (drop l.s-index l.rest)) ≡ l.initial.self.kinds.items ++ semicolon_stmts_tokens (stmts_shape l.rest)
+    l.self.kinds.items ++ semicolon_stmts_tokens (stmts_shape (drop l.s-index l.rest)) ≡ l.initial.self.kinds.items ++ semicolon_stmts_tokens
+    (stmts_shape l.rest)

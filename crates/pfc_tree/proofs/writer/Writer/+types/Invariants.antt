@@ -6,4 +6,5 @@ use Rattle.pfc_tree.proofs.writer.Writer.+types.Given as goal
 
 abbrev pub invariant-fields-loop-v : goal.invariant-fields-loop-v
 invariant-fields-loop-v l =
-    l.self.kinds.items ++ semicolon_fields_tokens (vars_shape (drop l.v-index l.rest)) ≡ l.initial.self.kinds.items ++ semicolon_fields_tokens (vars_shape l.rest)
+    l.self.kinds.items ++ semicolon_fields_tokens (vars_shape (drop l.v-index l.rest)) ≡ l.initial.self.kinds.items ++ semicolon_fields_tokens
+    (vars_shape l.rest)

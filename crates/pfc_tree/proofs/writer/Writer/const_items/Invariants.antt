@@ -6,4 +6,5 @@ use Rattle.pfc_tree.proofs.writer.Writer.const_items.Given as goal
 
 abbrev pub invariant-loop-i : goal.invariant-loop-i
 invariant-loop-i l =
-    l.self.kinds.items ++ const_items_tokens (map forget_const_item (drop l.i-index l.items)) ≡ l.initial.self.kinds.items ++ const_items_tokens (map forget_const_item l.items)
+    l.self.kinds.items ++ const_items_tokens (map forget_const_item (drop l.i-index l.items)) ≡
+    l.initial.self.kinds.items ++ const_items_tokens (map forget_const_item l.items)

@@ -6,4 +6,5 @@ use Rattle.pfc_tree.proofs.writer.Writer.constants.Given as goal
 
 abbrev pub invariant-loop-c : goal.invariant-loop-c
 invariant-loop-c l =
-    l.self.kinds.items ++ comma_constants_tokens (map forget_constant (drop l.c-index l.rest)) ≡ l.initial.self.kinds.items ++ comma_constants_tokens (map forget_constant l.rest)
+    l.self.kinds.items ++ comma_constants_tokens (map forget_constant (drop l.c-index l.rest)) ≡ l.initial.self.kinds.items ++ comma_constants_tokens
+    (map forget_constant l.rest)

@@ -6,4 +6,5 @@ use Rattle.pfc_tree.proofs.writer.Writer.formals.Given as goal
 
 abbrev pub invariant-loop-g : goal.invariant-loop-g
 invariant-loop-g l =
-    l.self.kinds.items ++ semicolon_groups_tokens (groups_shape (drop l.g-index l.rest)) ≡ l.initial.self.kinds.items ++ semicolon_groups_tokens (groups_shape l.rest)
+    l.self.kinds.items ++ semicolon_groups_tokens (groups_shape (drop l.g-index l.rest)) ≡ l.initial.self.kinds.items ++ semicolon_groups_tokens
+    (groups_shape l.rest)

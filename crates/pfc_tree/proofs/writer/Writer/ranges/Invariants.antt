@@ -6,4 +6,5 @@ use Rattle.pfc_tree.proofs.writer.Writer.ranges.Given as goal
 
 abbrev pub invariant-loop-r : goal.invariant-loop-r
 invariant-loop-r l =
-    l.self.kinds.items ++ comma_ranges_tokens (map forget_range (drop l.r-index l.rest)) ≡ l.initial.self.kinds.items ++ comma_ranges_tokens (map forget_range l.rest)
+    l.self.kinds.items ++ comma_ranges_tokens (map forget_range (drop l.r-index l.rest)) ≡
+    l.initial.self.kinds.items ++ comma_ranges_tokens (map forget_range l.rest)

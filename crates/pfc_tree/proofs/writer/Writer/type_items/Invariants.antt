@@ -6,4 +6,5 @@ use Rattle.pfc_tree.proofs.writer.Writer.type_items.Given as goal
 
 abbrev pub invariant-loop-i : goal.invariant-loop-i
 invariant-loop-i l =
-    l.self.kinds.items ++ type_items_tokens (type_items_shape (drop l.i-index l.items)) ≡ l.initial.self.kinds.items ++ type_items_tokens (type_items_shape l.items)
+    l.self.kinds.items ++ type_items_tokens (type_items_shape (drop l.i-index l.items)) ≡
+    l.initial.self.kinds.items ++ type_items_tokens (type_items_shape l.items)

@@ -9,9 +9,11 @@ pub returns-in_default : goal.returns-in_default
 returns-in_default c =
     let later : c.args.self.now.moment < c.in-Some.due.moment = omega arith in
     not-due c.args.self.now.moment c.in-Some.due.moment (earliest c.args.self.now.rows)
-    (sym (ap (λ w. earliest w.rows) c.self.view_is) ∙ earliest-first c.self.inside.rows.rows c.self.inside.index.dues c.in-Some.due c.self.invariant.indexed.dues c.in-Some.ensures) later
+    (sym (ap (λ w. earliest w.rows) c.self.view_is) ∙
+    earliest-first c.self.inside.rows.rows c.self.inside.index.dues c.in-Some.due c.self.invariant.indexed.dues c.in-Some.ensures) later
 
 pub returns-in_default-2 : goal.returns-in_default-2
 returns-in_default-2 c =
     ap (λ o. is_due c.args.self.now.moment o)
-    (sym (ap (λ w. earliest w.rows) c.self.view_is) ∙ earliest-nobody c.self.inside.rows.rows c.self.inside.index.dues c.self.invariant.indexed.dues c.in_default.ensures)
+    (sym (ap (λ w. earliest w.rows) c.self.view_is) ∙
+    earliest-nobody c.self.inside.rows.rows c.self.inside.index.dues c.self.invariant.indexed.dues c.in_default.ensures)

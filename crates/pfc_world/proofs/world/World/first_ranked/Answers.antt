@@ -8,7 +8,8 @@ use Rattle.pfc_world.proofs.world.World.first_ranked.Goals as goal
 
 pub returns-clause-first : goal.returns-clause-first
 returns-clause-first c =
-    ranked-first c.args.condition c.self.inside.rows.rows c.self.inside.index.ranks c.first.result c.done-done.ensures.tickets.apart c.self.invariant.indexed.ranks c.first.ensures
+    ranked-first c.args.condition c.self.inside.rows.rows c.self.inside.index.ranks c.first.result c.done-done.ensures.tickets.apart
+    c.self.invariant.indexed.ranks c.first.ensures
     ∙ ap (λ w. first_ranked c.args.condition w.rows) c.self.view_is
 
 pub returns-clause-found : goal.returns-clause-found

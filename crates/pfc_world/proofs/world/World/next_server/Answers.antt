@@ -11,7 +11,8 @@ pub returns-in_default : goal.returns-in_default
 returns-in_default c =
     let listed : AreListed c.self.inside.index.spread c.self.inside.rows.rows c.self.inside.index.waits =
     record { is = c.self.invariant.indexed.spread; members = c.self.invariant.indexed.waits; count = c.self.invariant.indexed.lists } in
-    let empty : IsEmpty c.self.inside.index.waits.members (list_at c.self.inside.index.spread 7 0) = subst (λ n. IsEmpty c.self.inside.index.waits.members n) c.list_of_selects.ensures.list c.in_default.ensures in
+    let empty : IsEmpty c.self.inside.index.waits.members (list_at c.self.inside.index.spread 7 0) =
+    subst (λ n. IsEmpty c.self.inside.index.waits.members n) c.list_of_selects.ensures.list c.in_default.ensures in
     subst (λ w. IsNoServer w.rows) c.self.view_is (no-server c.self.inside.index.spread c.self.inside.rows.rows c.self.inside.index.waits listed empty)
 
 pub returns-then-first-eq0 : goal.returns-then-first-eq0

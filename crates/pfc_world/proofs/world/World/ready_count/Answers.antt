@@ -5,4 +5,5 @@ use Rattle.pfc_world.proofs.world.World.ready_count.Goals as goal
 
 pub returns : goal.returns
 returns c =
-    c.count.ensures ∙ ap length (ready-numbers c.self.inside.rows.rows c.self.inside.index.ready c.self.invariant.indexed.bits) ∙ ap (λ w. length (ready_numbers w.rows)) c.self.view_is
+    c.count.ensures ∙ ap length (ready-numbers c.self.inside.rows.rows c.self.inside.index.ready c.self.invariant.indexed.bits) ∙
+    ap (λ w. length (ready_numbers w.rows)) c.self.view_is

@@ -5,4 +5,5 @@ use Rattle.pfc_world.proofs.world.World.some_ready.Goals as goal
 
 pub returns : goal.returns
 returns c =
-    ap (λ n. nat_lt 0 n) c.count.ensures ∙ ready-some c.self.inside.rows.rows c.self.inside.index.ready c.self.invariant.indexed.bits ∙ ap (λ w. some_ready w.rows) c.self.view_is
+    ap (λ n. nat_lt 0 n) c.count.ensures ∙ ready-some c.self.inside.rows.rows c.self.inside.index.ready c.self.invariant.indexed.bits ∙
+    ap (λ w. some_ready w.rows) c.self.view_is

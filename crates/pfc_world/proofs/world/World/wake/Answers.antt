@@ -10,15 +10,20 @@ use Rattle.pfc_world.proofs.world.World.wake.Goals as goal
 pub wake-requires-2 : goal.wake-requires-2
 wake-requires-2 c =
     let waits : IsWaiting (at c.self.inside.rows.rows c.args.p) = subst (λ w. IsWaiting (at w.rows c.args.p)) (sym c.self.view_is) c.requires in
-    is-listed c.self.inside.rows.rows c.self.inside.index c.args.p c.may_end-ends.result (waits-within c.self.inside.rows.rows c.args.p waits) waits c.may_end-ends.ensures c.self.invariant.indexed
+    is-listed c.self.inside.rows.rows c.self.inside.index c.args.p c.may_end-ends.result
+    (waits-within c.self.inside.rows.rows c.args.p waits) waits c.may_end-ends.ensures c.self.invariant.indexed
 
 pub invariant_of-self : goal.invariant_of-self
 invariant_of-self c = record {
   indexed =
       let waits : IsWaiting (at c.self.inside.rows.rows c.args.p) = subst (λ w. IsWaiting (at w.rows c.args.p)) (sym c.self.view_is) c.requires in
-      woken-index c.self.inside.rows.rows c.wake.new.self.rows c.args.p c.may_end-ends.result c.self.inside.index c.wake-2.new.self (waits-within c.self.inside.rows.rows c.args.p waits) waits
-      c.may_end-ends.ensures (ap (λ w. w.rows) c.wake.ensures.table) c.self.invariant.indexed c.wake-2.ensures.wait c.wake-2.ensures.ready c.wake-2.ensures.unfinished;
-  offered = withdrawn-offered c.self.inside.rows.rows c.wake.new.self.rows c.self.inside.offers c.withdraw.new.self c.args.p Is_ready (waits-within c.self.inside.rows.rows c.args.p (subst (λ w. IsWaiting (at w.rows c.args.p)) (sym c.self.view_is) c.requires)) (ap (λ w. w.rows) c.wake.ensures.table) ready-none c.self.invariant.offered c.withdraw.ensures.none c.withdraw.ensures.others;
+      woken-index c.self.inside.rows.rows c.wake.new.self.rows c.args.p c.may_end-ends.result c.self.inside.index c.wake-2.new.self
+      (waits-within c.self.inside.rows.rows c.args.p waits) waits
+      c.may_end-ends.ensures (ap (λ w. w.rows) c.wake.ensures.table) c.self.invariant.indexed c.wake-2.ensures.wait
+      c.wake-2.ensures.ready c.wake-2.ensures.unfinished;
+  offered = withdrawn-offered c.self.inside.rows.rows c.wake.new.self.rows c.self.inside.offers c.withdraw.new.self c.args.p Is_ready
+      (waits-within c.self.inside.rows.rows c.args.p (subst (λ w. IsWaiting (at w.rows c.args.p)) (sym c.self.view_is) c.requires))
+      (ap (λ w. w.rows) c.wake.ensures.table) ready-none c.self.invariant.offered c.withdraw.ensures.none c.withdraw.ensures.others;
   room = c.withdraw.ensures.others.room ∙ c.self.invariant.room ∙ ap (λ w. w.room) (sym c.wake.ensures.table);
 }
 
@@ -31,4 +36,5 @@ pub withdraw-requires-clause-room : goal.withdraw-requires-clause-room
 withdraw-requires-clause-room c = subst (λ n. n ≤ c.self.inside.offers.room) (sym c.arm_count-arms.ensures) (c.self.invariant.offered.few c.args.p)
 
 pub withdraw-requires-clause-only : goal.withdraw-requires-clause-only
-withdraw-requires-clause-only c = within-offered c.self.inside.rows.rows c.self.inside.offers c.args.p c.arm_count-arms.result c.arm_count-arms.ensures c.self.invariant.offered
+withdraw-requires-clause-only c =
+    within-offered c.self.inside.rows.rows c.self.inside.offers c.args.p c.arm_count-arms.result c.arm_count-arms.ensures c.self.invariant.offered

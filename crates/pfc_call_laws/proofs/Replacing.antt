@@ -13,7 +13,7 @@ use Rattle.pfc_semantics.specs.Configurations.{Config}
 use Rattle.pfc_semantics.specs.Calls.{new_number, new_display}
 use Rattle.pfc_translation.specs.Sites.{is_mains}
 use Rattle.pfc_stacks.specs.Refs.{word_of}
-use Rattle.pfc_stacks.specs.Stacks.{Stack, Stacks, no_stack, stack_of, operands_of, cells_of, own_cells, link_place, block_place, under_place, own_number}
+use Rattle.pfc_stacks.specs.Stacks.{Stack, Stacks, no_stack, stack_of, operands_of, cells_of, own_cells, link_place, block_place, under_place, own_count}
 use Rattle.pfc_stacks.specs.Stacks.{last_activation}
 use Rattle.pfc_stacks.specs.Activations.{has_place, block_cells, arguments, main_link, replaced, returned}
 use Rattle.pfc_cells.specs.Shapes.{AreCounted}
@@ -276,7 +276,7 @@ module _ (g : Setting) (homes : Homes) (entries : Entries) (c : Config) (stacks 
 module _ (stacks : Stacks) (p k at room : ℕ) (ops : List ℤ) (w : ℤ) (code : ImageBlock) (stands : StandsAt stacks p at ops room w)
     (looks : (stack_of stacks p).looks_from ≡ None) where
   abbrev others : List ℤ
-  others = drop (length ops - own_number (stack_of stacks p) under_place) ops
+  others = drop (length ops - own_count (stack_of stacks p) under_place) ops
 
   pub stands_replaced : (i : ℕ) → StandsAt (set stacks p (replaced k code (stack_of stacks p))) p code.entry others (length others + code.operands)
       (word_of (own_place (home_at p (stack_of stacks p).base i)))
@@ -284,7 +284,7 @@ module _ (stacks : Stacks) (p k at room : ℕ) (ops : List ℤ) (w : ℤ) (code 
       record {
         process = subst (λ n. p < n) (sym (length-set stacks p after_it)) stands.process;
         address = ap (λ (x : Stack). x.at) now;
-        operands = ap (λ (x : Stack). x.operands) now ∙ ap (λ os. drop (length os - own_number (stack_of stacks p) under_place) os) stands.operands;
+        operands = ap (λ (x : Stack). x.operands) now ∙ ap (λ os. drop (length os - own_count (stack_of stacks p) under_place) os) stands.operands;
         has_room = has_room;
         from = ap (λ (x : Stack). word_of (last_activation (set stacks p after_it) (unwrap_or x.looks_from p))) now
             ∙ ap (λ o. word_of (last_activation (set stacks p after_it) (unwrap_or o p))) looks
@@ -303,8 +303,8 @@ module _ (stacks : Stacks) (p k at room : ℕ) (ops : List ℤ) (w : ℤ) (code 
       has_room : length others + code.operands ≤ (stack_of (set stacks p after_it) p).room
       has_room =
           let s : Stack = stack_of stacks p in
-          let left : List ℤ = drop (length s.operands - own_number s under_place) s.operands in
-          let under : length left ≡ length others = ap (λ os. length (drop (length os - own_number s under_place) os)) stands.operands in
+          let left : List ℤ = drop (length s.operands - own_count s under_place) s.operands in
+          let under : length left ≡ length others = ap (λ os. length (drop (length os - own_count s under_place) os)) stands.operands in
           let is : (stack_of (set stacks p after_it) p).room ≡ max s.room (length left + code.operands + s.spare) = ap (λ (x : Stack). x.room) now in
           let enough = most_of s.room (length left + code.operands + s.spare) in
           omega (arith, under, is, enough)

@@ -18,7 +18,7 @@ ghost use Rattle.pfc_semantics.specs.Calls.{new_number, new_values, new_display,
 ghost use Rattle.pfc_semantics.specs.Processes.{process_display};
 ghost use Rattle.pfc_stacks.specs.declared.marks.Mark.{Mark};
 ghost use Rattle.pfc_stacks.specs.Refs.{word_of};
-ghost use Rattle.pfc_stacks.specs.Stacks.{Stack, Stacks, stack_of, operands_of, cells_of, own_number, in_view, link_place, block_place, under_place};
+ghost use Rattle.pfc_stacks.specs.Stacks.{Stack, Stacks, stack_of, operands_of, cells_of, own_count, in_view, link_place, block_place, under_place};
 ghost use Rattle.pfc_stacks.specs.Activations.{
   has_place,
   own_words,
@@ -230,7 +230,7 @@ pub fn replacements_are_seen()
         (with_room (without c.store e.activation) a values) (set stacks p (replaced k code (stack_of stacks p)))) }
     ensures stands { (stacks : Stacks) (p k at room i : ℕ) (ops : List ℤ) (w : ℤ) (code : ImageBlock)
         → StandsAt stacks p at ops room w → (stack_of stacks p).looks_from ≡ None
-        → (let left = drop (length ops - own_number (stack_of stacks p) under_place) ops in
+        → (let left = drop (length ops - own_count (stack_of stacks p) under_place) ops in
         StandsAt (set stacks p (replaced k code (stack_of stacks p))) p code.entry left (length left + code.operands)
         (word_of (own_place (home_at p (stack_of stacks p).base i)))) }
 {}

@@ -9,6 +9,7 @@ use Rattle.pfc_stacks.specs.declared.marks.Mark.TheVariants.{Plain, Monitor}
 use Rattle.pfc_stacks.specs.Marks.{word_of_mark, mark_of}
 use Rattle.pfc_stacks.specs.Refs.{number_of}
 use Rattle.pfc_stacks.specs.Stacks.{Stack, Stacks, stack_of, own_cells, address_place, block_place, mark_place, caller_place, under_place, own_word, own_number}
+use Rattle.pfc_stacks.specs.Stacks.{own_count}
 
 -- ## Limits
 
@@ -111,7 +112,7 @@ created k b p from stacks =
 -- that the caller keeps are popped.
 abbrev pub replaced : ℕ → Block → Stack → Stack
 replaced k b s =
-    let left = drop (length s.operands - own_number s under_place) s.operands in
+    let left = drop (length s.operands - own_count s under_place) s.operands in
     record s {
       at = b.entry;
       cells = set (take (s.base + own_cells) s.cells) (s.base + block_place) (pos k) ++ block_cells (arguments b s.operands) (b.cells - b.params);

@@ -1,5 +1,6 @@
 -- The stacks of processes.
-use Rattle.std.specs.Prelude.{ℕ, zero, suc, ◌+◌, ℤ, pos, ◌+ℤ◌, List, [], ◌++◌, length, take, drop, get_or, set, Option, None}
+use Rattle.std.specs.Prelude.{ℕ, zero, suc, ◌+◌, ℤ, pos, unsigned_abs, ◌+ℤ◌, List, [], ◌++◌, length, take, drop, get_or, set}
+use Rattle.std.specs.Prelude.{Option, None}
 use Rattle.std.specs.Option.{unwrap_or}
 use Rattle.pfc_stacks.specs.declared.refs.Ref.{Ref}
 use Rattle.pfc_stacks.specs.Refs.{word_of, ref_of, number_of}
@@ -95,6 +96,10 @@ own_word s k = get_or s.cells (s.base + k) (pos 0)
 
 abbrev pub own_number : Stack → ℕ → ℕ
 own_number s k = number_of (own_word s k)
+
+-- the same of a count of operands, which may have more than 32 bits
+abbrev pub own_count : Stack → ℕ → ℕ
+own_count s k = unsigned_abs (own_word s k)
 
 -- ## Static links
 

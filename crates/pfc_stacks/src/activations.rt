@@ -97,7 +97,7 @@ impl ProcessStack {
         if !has_place(base, size, most) {
             return Err(CallFault::Stack);
         }
-        let under = self.own_number(UNDER_PLACE) as usize;
+        let under = self.own_count(UNDER_PLACE);
         let left = self.operands.len().min(under);
         self.cells.reserve(size)?;
         self.operands

@@ -2,7 +2,7 @@
 ghost use Rattle.std.specs.Prelude.{◌≡◌, ◌≤◌, ◌<◌, ◌+◌, ◌^◌, ℤ, pos, [], ◌∷◌, length, ◌++◌, take, drop, set, get_or, reverse, IfOk, IfSome, Ok};
 ghost use Rattle.pfc_stacks.specs.Answers.{own_effect_by, Changes};
 ghost use Rattle.pfc_stacks.specs.Effects.{with_outcome};
-ghost use Rattle.pfc_stacks.specs.Stacks.{operand, idle_stack, own_word, own_number};
+ghost use Rattle.pfc_stacks.specs.Stacks.{operand, idle_stack, own_count, own_word, own_number};
 ghost use Rattle.pfc_stacks.specs.Starts.{numbered};
 ghost use Rattle.pfc_stacks.specs.Activations.{entered, first_own, own_words, block_cells};
 
@@ -173,6 +173,14 @@ impl ProcessStack {
         ensures { result ≡ own_number self.now k }
     {
         number_in(self.own_word(k))
+    }
+
+    /// How many operands it counts, which may have more than 32 bits.
+    pub(crate) fn own_count(&self, k: usize) -> usize
+        requires { k < 8 }
+        ensures { result ≡ own_count self.now k }
+    {
+        self.own_word(k).unsigned_abs() as usize
     }
 
     /// Writes the cell at a place, from 0, where there is one.

@@ -15,4 +15,5 @@ values_follow_anywhere g b x checked =
 pub locations_follow_anywhere : (g : Setting) (b : Block) (x : Context) → LocationsFollow g b x
 locations_follow_anywhere g b x checked =
     anywhere g b x (λ y. LocationsFollow g b y) checked
-    (λ known goal t l w at ops arms few room lies is. location_follows g b x.env.view x.env.around known x.line goal t l w at ops arms few room lies is) checked
+    (λ known goal t l w at ops arms few room lies may is lends.
+    location_follows g b x.env.view x.env.around known x.line goal t l w at ops arms few room lies may is lends) checked

@@ -19,9 +19,10 @@ use Rattle.pfc_translation.specs.Expressions.{expr_code, args_code}
 use Rattle.pfc_translation.specs.Calls.{formals_cells}
 use Rattle.pfc_standing_code.specs.Shapes.{a_number, shape_of, shape_cells, is_object_type}
 use Rattle.pfc_standing_code.proofs.ValueTypes.{awaited_value}
-use Rattle.pfc_standing_code.specs.Settings.{Setting, site_of}
+use Rattle.pfc_standing_code.specs.Settings.{Setting, MayRead, site_of}
 use Rattle.pfc_standing_code.specs.Effects.{Arm}
-use Rattle.pfc_standing_code.specs.Words.{IsWord, IsObject, IsChecked, none_held, one_more}
+use Rattle.pfc_standing_code.specs.Words.{IsWord, IsObject, IsChecked, none_held, one_more, LendsAt}
+use Rattle.pfc_standing_code.proofs.Lends.{lends_variable}
 use Rattle.pfc_standing_code.specs.Performs.{into_variable, Performs}
 use Rattle.pfc_standing_code.specs.Awaits.{ObjectThen, TakesLocation, CallsAt}
 use Rattle.pfc_standing_code.specs.Following.{Follows, arrives}
@@ -61,9 +62,9 @@ module _ (g : Setting) (b : Block) (names : List Level) (around : Around) (check
 
   pub location_follows :
       (goal : AwaitsLocation) (t : Option TypeId) (l : TypedSpot) (w : ℤ) (at : ℕ) (ops : List ℤ) (arms : List Arm)
-      → length arms ≤ g.arms → suc (length ops) ≤ g.room → IsWord g.view s l.spot t w → TakesLocation g b x at ops arms t goal
-      → Follows g (from_location x goal l) at (w ∷ ops) arms
-  location_follows (read_for u) t l w at ops arms few room lies h =
+      → length arms ≤ g.arms → suc (length ops) ≤ g.room → IsWord g.view s l.spot t w → MayRead g l.spot.scope
+      → TakesLocation g b x at ops arms t goal → LendsAt s l.spot goal → Follows g (from_location x goal l) at (w ∷ ops) arms
+  location_follows (read_for u) t l w at ops arms few room lies may h lends =
       arrives at (w ∷ ops) arms (
         b,
         checked,
@@ -78,17 +79,18 @@ module _ (g : Setting) (b : Block) (names : List Level) (around : Around) (check
           h.4,
           awaited_value g b (record { env = env_in g names around; line = line })
               (at + 1) ops arms h.0 u h.4,
+          may,
         ),
       )
-  location_follows (assign_to e k) t l w at ops arms few room lies h =
+  location_follows (assign_to e k) t l w at ops arms few room lies may h lends =
       let p = h.1 in
       cleared at (w ∷ ops) arms h.0.1
       (stored_follows g b names around checked none h.0.0 line l.spot p.0 e k w at p.4 ops (typed l.spot t (Some p.0) w p.1 lies) p.2 p.3 p.7 p.5 p.6)
-  location_follows (input_to u k) t l w at ops arms few room lies h =
+  location_follows (input_to u k) t l w at ops arms few room lies may h lends =
       let p = h.1 in
       cleared at (w ∷ ops) arms h.0.1 (arrives at (w ∷ ops) []
       (b, checked, ((h.0.0, refl), (w, ops, refl, (p.0, p.2, typed l.spot t (Some p.0) w p.1 lies), p.3, p.4))))
-  location_follows (pass_variable rest args given call) t l w at ops arms few room lies h =
+  location_follows (pass_variable rest args given call) t l w at ops arms few room lies may h lends =
       let before = h.0 in
       let f = h.1 in
       let below = h.2 in
@@ -96,7 +98,8 @@ module _ (g : Setting) (b : Block) (names : List Level) (around : Around) (check
       let calls = subst (λ (fs : List Formal). CallsAt g b x (at + code.size) below arms fs call) (sym (append_assoc before (f ∷ []) rest)) h.9 in
       arguments_follow g b x checked arms few args rest h.6 (before ++ f ∷ []) (given ++ by_reference l.spot ∷ []) call at h.7 (w ∷ ops) below
       (one_more before given ops below f (by_reference l.spot) (w ∷ []) h.5 (w, h.3, typed l.spot t f.t w (sym h.4) lies, refl)) h.8 calls
-  location_follows (ask_empty u) t l w at ops arms few room lies h =
+      (lends_variable s given l.spot rest args call lends h.10)
+  location_follows (ask_empty u) t l w at ops arms few room lies may h lends =
       let p = h.1 in
       let lies_there = typed l.spot t (Some condition) w p.0 lies in
       object_follows g b names around checked line arms few l.spot (Some condition) w at ops lies_there refl p.1 p.2
@@ -116,7 +119,7 @@ module _ (g : Setting) (b : Block) (names : List Level) (around : Around) (check
           ),
         ),
       ))
-  location_follows (activate_with formals args k) t l w at ops arms few room lies h =
+  location_follows (activate_with formals args k) t l w at ops arms few room lies may h lends =
       let p = h.1 in
       let inner = args_code s formals args in
       let i = NEW (block_number g.program (process_at g.program.state.blocks p.0).scope) in
@@ -132,8 +135,8 @@ module _ (g : Setting) (b : Block) (names : List Level) (around : Around) (check
       (process_is_object s p.0 l.spot (Some p.1) p.3) there
       (λ j object. arguments_follow g b x checked [] none args formals p.7 [] [] (to_process l.spot k) (at + 1) there.1 (j ∷ ops) (j ∷ ops)
       (none_held (j ∷ ops))
-      (front g inner (one s i) st) ((h.0.0, refl), (Some p.1, p.0, j, ops, p.3, p.4, p.5, p.8, refl, object, lone g s (λ at n. i) last, after))))
-  location_follows (enter_with entry formals args k) t l w at ops arms few room lies h =
+      (front g inner (one s i) st) ((h.0.0, refl), (Some p.1, p.0, j, ops, p.3, p.4, p.5, p.8, refl, object, lone g s (λ at n. i) last, after)) tt))
+  location_follows (enter_with entry formals args k) t l w at ops arms few room lies may h lends =
       let p = h.1 in
       let inner = args_code s formals args in
       let z = formals_cells g.program.state.forms formals in
@@ -149,48 +152,48 @@ module _ (g : Setting) (b : Block) (names : List Level) (around : Around) (check
       (process_is_object s p.0 l.spot (Some p.1) p.3) there
       (λ j object. arguments_follow g b x checked [] none args formals p.7 [] [] (to_entry l.spot entry k) (at + 1) there.1 (j ∷ ops) (j ∷ ops)
       (none_held (j ∷ ops)) (front g inner (one s i) st)
-      ((h.0.0, refl), (Some p.1, p.0, j, ops, p.3, p.4, p.5, refl, object, lone g s (λ at n. i) last, after))))
-  location_follows (initial_to e k) t l w at ops arms few room lies h =
+      ((h.0.0, refl), (Some p.1, p.0, j, ops, p.3, p.4, p.5, refl, object, lone g s (λ at n. i) last, after)) tt))
+  location_follows (initial_to e k) t l w at ops arms few room lies may h lends =
       let p = h.1 in
       cleared at (w ∷ ops) arms h.0.1
       (object_then l.spot (Some semaphore) w at ops (expr_code s e ⨾ one s SINI) (λ end. Performs g b (env_in g names around) end ops [] k)
       (typed l.spot t (Some semaphore) w p.0 lies) refl p.2
       (λ i object. count_follows g b names around checked none h.0.0 line l.spot e k (at + 1) p.2.1 i ops p.1 object p.2.2 p.2.3))
-  location_follows (wait_at k) t l w at ops arms few room lies h =
+  location_follows (wait_at k) t l w at ops arms few room lies may h lends =
       let p = h.1 in
       cleared at (w ∷ ops) arms h.0.1
       (object_then l.spot (Some semaphore) w at ops (one s SWAIT) (λ end. Performs g b (env_in g names around) end ops [] k)
       (typed l.spot t (Some semaphore) w p.0 lies) refl p.1
       (λ i object. arrives (at + 1) (i ∷ ops) [] (b, checked, ((h.0.0, refl), (i, ops, refl, object, lone g s (λ at n. SWAIT) p.1.2, p.1.3)))))
-  location_follows (signal_at k) t l w at ops arms few room lies h =
+  location_follows (signal_at k) t l w at ops arms few room lies may h lends =
       let p = h.1 in
       cleared at (w ∷ ops) arms h.0.1
       (object_then l.spot (Some semaphore) w at ops (one s SSIG) (λ end. Performs g b (env_in g names around) end ops [] k)
       (typed l.spot t (Some semaphore) w p.0 lies) refl p.1
       (λ i object. arrives (at + 1) (i ∷ ops) [] (b, checked, ((h.0.0, refl), (i, ops, refl, object, lone g s (λ at n. SSIG) p.1.2, p.1.3)))))
-  location_follows (delay_at rank k) t l w at ops arms few room lies h =
+  location_follows (delay_at rank k) t l w at ops arms few room lies may h lends =
       let p = h.1 in
       cleared at (w ∷ ops) arms h.0.1
       (object_then l.spot (Some condition) w at ops _ (λ end. Performs g b (env_in g names around) end ops [] k)
       (typed l.spot t (Some condition) w p.0 lies) refl p.2
       (λ i object. rank_follows g b names around checked none h.0.0 line l.spot rank k (at + 1) p.2.1 i ops p.1 object p.2.2 p.2.3))
-  location_follows (resume_at k) t l w at ops arms few room lies h =
+  location_follows (resume_at k) t l w at ops arms few room lies may h lends =
       let p = h.1 in
       cleared at (w ∷ ops) arms h.0.1
       (object_then l.spot (Some condition) w at ops (one s RESUME) (λ end. Performs g b (env_in g names around) end ops [] k)
       (typed l.spot t (Some condition) w p.0 lies) refl p.1
       (λ i object. arrives (at + 1) (i ∷ ops) [] (b, checked, ((h.0.0, refl), (i, ops, refl, object, lone g s (λ at n. RESUME) p.1.2, p.1.3)))))
-  location_follows (send_to m k) t l w at ops arms few room lies h =
+  location_follows (send_to m k) t l w at ops arms few room lies may h lends =
       let p = h.1 in
       cleared at (w ∷ ops) arms h.0.1
       (object_then l.spot t w at ops _ (λ end. Performs g b (env_in g names around) end ops [] k) lies (channel_is_object g.program.state.forms t p.0 p.1) p.3
       (λ i object. sent_follows g b names around checked none h.0.0 line l.spot t p.0 i m k (at + 1) p.3.1 ops p.1 object p.2 p.3.2 p.3.3))
-  location_follows (receive_from d k) t l w at ops arms few room lies h =
+  location_follows (receive_from d k) t l w at ops arms few room lies may h lends =
       let p = h.1 in
       cleared at (w ∷ ops) arms h.0.1
       (object_then l.spot t w at ops _ (λ end. Performs g b (env_in g names around) end ops [] k) lies (channel_is_object g.program.state.forms t p.0 p.1) p.3
       (λ i object. received_follows g b names around checked none h.0.0 line l.spot t p.0 i d k (at + 1) p.3.1 ops p.1 object p.2 p.3.2 p.3.3))
-  location_follows (receive_into channel k) t l w at ops arms few room lies h =
+  location_follows (receive_into channel k) t l w at ops arms few room lies may h lends =
       let p = h.1 in
       let z = shape_cells g.program.state.forms (shape_of p.1) in
       let here = typed l.spot t (Some p.1) w p.4 lies in
@@ -214,21 +217,21 @@ module _ (g : Setting) (b : Block) (names : List Level) (around : Around) (check
           ),
         ),
       ))
-  location_follows (offer_to m a rest sel k) t l w at ops arms few room lies h =
+  location_follows (offer_to m a rest sel k) t l w at ops arms few room lies may h lends =
       let p = h.1 in
       let c = p.5 in
       let inner : suc (length ops) ≤ g.room = room_for g c.stands in
       object_follows g b names around checked line arms few l.spot t w at ops lies (channel_is_object g.program.state.forms t p.0 p.1) p.3 inner
       (λ i object. message_follows g b names around checked h.0 line k l.spot t p.0 i m a rest sel (at + 1) ops arms
       (all_follow g b names around checked h.0 line k rest) p.4 p.1 object p.2 c)
-  location_follows (offer_from d a rest sel k) t l w at ops arms few room lies h =
+  location_follows (offer_from d a rest sel k) t l w at ops arms few room lies may h lends =
       let p = h.1 in
       let c = p.5 in
       let inner : suc (length ops) ≤ g.room = room_for g c.stands in
       object_follows g b names around checked line arms few l.spot t w at ops lies (channel_is_object g.program.state.forms t p.0 p.1) p.3 inner
       (λ i object. receiver_follows g b names around checked h.0 line k l.spot t p.0 i d a rest sel (at + 1) ops arms
       (all_follow g b names around checked h.0 line k rest) p.4 p.1 object p.2 c)
-  location_follows (offer_into channel a rest sel k) t l w at ops arms few room lies h =
+  location_follows (offer_into channel a rest sel k) t l w at ops arms few room lies may h lends =
       let p = h.1 in
       let below = p.3 in
       let held = ap (λ (y : List ℤ). length y) p.7 in

@@ -40,7 +40,8 @@ use Rattle.pfc_standing_code.specs.Shapes.{Shape, a_number, a_whole, shape_of, s
 use Rattle.pfc_standing_code.specs.Settings.{Setting, of_own, site_of, IsAt, Stands}
 use Rattle.pfc_standing_code.specs.Effects.{Arm}
 use Rattle.pfc_standing_code.specs.Typed.{AreSelectors, AreIndices}
-use Rattle.pfc_standing_code.specs.Words.{IsChecked, one_more}
+use Rattle.pfc_standing_code.specs.Words.{IsChecked, one_more, LendsWhole}
+use Rattle.pfc_standing_code.proofs.Lends.{lends_value}
 use Rattle.pfc_standing_code.specs.Performs.{StmtThen, of_message, Performs}
 use Rattle.pfc_standing_code.specs.Awaits.{finishing, pass_code, TakesValue, CallsAt}
 use Rattle.pfc_standing_code.specs.Following.{of_value, Follows, arrives}
@@ -128,7 +129,7 @@ module _ (g : Setting) (b : Block) (names : List Level) (around : Around) (check
       let calls = subst (λ (fs : List Formal). CallsAt g b x (at + code.size) below arms fs call) (sym (append_assoc before (f ∷ []) rest)) p.11 in
       arguments_follow g b x checked arms few args rest p.8 (before ++ f ∷ []) (given ++ by_value v ∷ []) call at p.9 (reverse (words_of v) ++ ops) below
       (one_more before given ops below f (by_value v) (words_of v) p.7 (t, p.4, p.5, is, refl))
-      (stands_over g (length (reverse (words_of v) ++ ops)) size p.10) calls
+      (stands_over g (length (reverse (words_of v) ++ ops)) size p.10) calls (lends_value s given v rest args call p.13)
 
   stored_value :
       (h : Shape) (v : Value) (spot : Spot) (k : Remainder) (at : ℕ) (ops : List ℤ) (arms : List Arm) → IsShaped forms h v
@@ -285,9 +286,9 @@ module _ (g : Setting) (b : Block) (names : List Level) (around : Around) (check
       let last_end : at + 1 + inner.size ≡ mid = omega arith in
       operands v at ops (w ∷ below) arms is.4
       (element_follows g b names around checked line arms few part w v (λ inside. from_indices x inside es ss goal
-      (λ deep. from_selectors x deep ss goal (from_location x goal))) at below is.5 is.6
+      (λ deep. from_selectors x deep ss goal (from_location x goal))) at below is.5 is.14 is.6
       (head g s (λ at n. index_instr forms (form_in forms part.t)) inner is.10) fit
-      (λ inside y inside_is same.
+      (λ inside y inside_is inside_may same within_it.
       let e_are : AreIndices s inside.t es = subst (λ (z : Option TypeId). AreIndices s z es) (sym same) is.7 in
       let e_after : AreSelectors s (type_behind forms inside.t es) ss t =
       subst (λ (z : Option TypeId). AreSelectors s (type_behind forms z es) ss t) (sym same) is.8 in
@@ -300,13 +301,14 @@ module _ (g : Setting) (b : Block) (names : List Level) (around : Around) (check
       let e_end : mid + (selectors_code s (type_behind forms inside.t es) ss).size ≡ to =
       subst (λ (z : Option TypeId). mid + (selectors_code s (type_behind forms z es) ss).size ≡ to) (sym same) refl in
       indices_follow g b names around checked line arms few es inside y ss t goal (λ deep. from_selectors x deep ss goal (from_location x goal)) (at + 1)
-      (i + 0) mid m to below inside_is e_are e_after e_last e_last_end e_rest e_end is.13
-      (λ deep z deep_is deep_same.
-      selectors_follow g b names around checked line arms few ss deep z t goal (from_location x goal) mid m to below deep_is
+      (i + 0) mid m to below inside_is inside_may e_are e_after e_last e_last_end e_rest e_end is.13
+      (subst (λ (o : Spot). LendsWhole s o goal) (sym within_it) is.15)
+      (λ deep z deep_is deep_may deep_same deep_lends.
+      selectors_follow g b names around checked line arms few ss deep z t goal (from_location x goal) mid m to below deep_is deep_may
       (subst (λ (o : Option TypeId). AreSelectors s o ss t) (sym deep_same) e_after)
       (subst (λ (o : Option TypeId). Stands g mid m (suc (length below)) (selectors_code s o ss)) (sym deep_same) e_rest)
-      (subst (λ (o : Option TypeId). mid + (selectors_code s o ss).size ≡ to) (sym deep_same) e_end) is.13
-      (λ l n lies. location_follows g b names around checked line goal t l n to below arms few fit lies is.13))))
+      (subst (λ (o : Option TypeId). mid + (selectors_code s o ss).size ≡ to) (sym deep_same) e_end) is.13 deep_lends
+      (λ l n lies may lends. location_follows g b names around checked line goal t l n to below arms few fit lies may is.13 lends))))
   numbers_follow (pass_value rest args given call) v at ops arms few room is =
       passed_value a_number (ordinal v) rest args given call at ops arms few (v, refl) is
   numbers_follow (store_at spot k) v at ops arms few room is = stored_value a_number (ordinal v) spot k at ops arms (v, refl) is
@@ -356,7 +358,7 @@ module _ (g : Setting) (b : Block) (names : List Level) (around : Around) (check
       let to = at + (expr_code s e ⨾ pass_code s down m t).size in
       cleared at (v ∷ ops) arms is.0.1
       (operands v at ops (p.1 ∷ below) [] p.3
-      (second_follows g b names around checked none is.0.0 line m spot v p.1 down e t k (from_remainder x.env k) at p.7 to below p.4 p.5 p.6
+      (second_follows g b names around checked none is.0.0 line m spot v p.1 down e t k (from_remainder x.env k) at p.7 to below p.4 p.5 p.6 p.10
       (stands_over g (suc (suc (length below))) same p.8) refl p.9 (left k to below fit p.9)))
   numbers_follow (count_to m spot a down t k) v at ops arms few room is =
       let p = is.1 in
@@ -368,7 +370,8 @@ module _ (g : Setting) (b : Block) (names : List Level) (around : Around) (check
       cleared at (v ∷ ops) arms is.0.1
       (operands v at ops (a ∷ p.1 ∷ below) [] p.3
       (bounds_follow g b names around checked none is.0.0 (counting x m spot (ordinal a) (ordinal v) down t) k
-      (from_remainder x.env k) p.1 at p.6 to below p.4 p.5 (stands_over g (suc (suc (suc (length below)))) same p.7) refl p.8 (left k to below fit p.8)))
+      (from_remainder x.env k) p.1 at p.6 to below p.4 p.5 p.9 (stands_over g (suc (suc (suc (length below)))) same p.7) refl p.8
+      (left k to below fit p.8)))
   numbers_follow (show t k) v at ops arms few room is =
       cleared at (v ∷ ops) arms is.0.1 (shows g b names around checked none is.0.0 line t k v at ops is.1.1 is.1.2)
   numbers_follow (show_wide t e k) v at ops arms few room is =

@@ -9,9 +9,9 @@ use Rattle.pfc_semantics.specs.Rewriting.{from_value, from_location}
 use Rattle.pfc_translation.specs.Sites.{forms_of}
 use Rattle.pfc_cells.specs.Shapes.{words_of}
 use Rattle.pfc_standing_code.specs.Shapes.{Shape, IsShaped}
-use Rattle.pfc_standing_code.specs.Settings.{Setting, site_of}
+use Rattle.pfc_standing_code.specs.Settings.{Setting, MayRead, site_of}
 use Rattle.pfc_standing_code.specs.Effects.{Arm}
-use Rattle.pfc_standing_code.specs.Words.{IsWord, IsChecked}
+use Rattle.pfc_standing_code.specs.Words.{IsWord, IsChecked, LendsAt}
 use Rattle.pfc_standing_code.specs.Awaits.{TakesValue, TakesLocation}
 use Rattle.pfc_standing_code.specs.Following.{Follows}
 
@@ -25,5 +25,5 @@ ValuesFollow g b x =
 abbrev pub LocationsFollow : Setting → Block → Context → Type 0
 LocationsFollow g b x =
     IsChecked g b x.env → (goal : AwaitsLocation) (t : Option TypeId) (l : TypedSpot) (w : ℤ) (at : ℕ) (ops : List ℤ) (arms : List Arm)
-    → length arms ≤ g.arms → suc (length ops) ≤ g.room → IsWord g.view (site_of g b x) l.spot t w → TakesLocation g b x at ops arms t goal
-    → Follows g (from_location x goal l) at (w ∷ ops) arms
+    → length arms ≤ g.arms → suc (length ops) ≤ g.room → IsWord g.view (site_of g b x) l.spot t w → MayRead g l.spot.scope
+    → TakesLocation g b x at ops arms t goal → LendsAt (site_of g b x) l.spot goal → Follows g (from_location x goal l) at (w ∷ ops) arms

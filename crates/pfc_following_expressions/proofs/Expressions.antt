@@ -2,7 +2,7 @@
 --
 -- The names in view are given with the program's own types and blocks.
 use Rattle.std.proofs.Common.{◌≡◌, ℕ, suc, ◌+◌, ◌≤◌, ℤ, pos, ◌+ℤ◌, ◌-ℤ◌, nat_abs, Bool, true, false, if◌then◌else◌, List, [], ◌∷◌, ◌++◌, length, option_map}
-use Rattle.std.proofs.Common.{Option, Some, None, Ok, Err, refl, sym, ap, ◌∙◌, subst, arith, append_assoc, append-nil}
+use Rattle.std.proofs.Common.{Option, Some, None, Ok, Err, refl, sym, ap, ◌∙◌, subst, arith, append_assoc, append-nil, inl, inr}
 use Rattle.pfc_base.specs.declared.places.Place.{Place}
 use Rattle.pfc_base.specs.declared.faults.RunFault.TheVariants.{Index}
 use Rattle.pfc_code.specs.declared.instructions.Instr.{Instr}
@@ -22,7 +22,7 @@ use Rattle.pfc_tree.specs.trees.Exprs.{actual_width, no_actuals, more_actuals}
 use Rattle.pfc_types.specs.Types.{Forms, condition, array_form, is_simple, field_form, cells_in}
 use Rattle.pfc_types.specs.Scopes.{Level, meaning_of}
 use Rattle.pfc_types.specs.Blocks.{sub_at}
-use Rattle.pfc_types.specs.rules.Expressions.{Env, find, first_type, field_type, selected}
+use Rattle.pfc_types.specs.rules.Expressions.{Env, find, as_desig, first_type, field_type, selected}
 use Rattle.pfc_types.specs.declared.types.TypeId.{TypeId}
 use Rattle.pfc_types.specs.declared.types.TypeForm.{TypeForm}
 use Rattle.pfc_types.specs.declared.types.TypeForm.TheVariants.{Channel, Array, Record, Process as AProcess}
@@ -60,17 +60,18 @@ use Rattle.pfc_code_laws.proofs.Expressions.{plain_args, plain_selectors, plain_
 use Rattle.pfc_standing_code.specs.Sizes.{IsSized}
 use Rattle.pfc_cells.specs.Shapes.{IsPath, here}
 use Rattle.pfc_standing_code.specs.Shapes.{Shape, a_number, a_whole, shape_of, shape_cells, is_number, is_object_type}
-use Rattle.pfc_standing_code.specs.Settings.{Setting, of_own, site_of, IsAt, Stands}
+use Rattle.pfc_standing_code.specs.Settings.{Setting, of_own, MayRead, site_of, IsAt, Stands}
 use Rattle.pfc_standing_code.specs.Effects.{Arm, of_own_effect, numbered, CanPerform}
 use Rattle.pfc_standing_code.specs.ValueTypes.{IsValueType}
 use Rattle.pfc_standing_code.proofs.ValueTypes.{awaited_value}
-use Rattle.pfc_standing_code.specs.Typed.{unlined, IsDeclared, IsArray, IsField, InExpressions, IsSub, Either, IsPassed, IsFunction, IsUse, HasShape}
+use Rattle.pfc_standing_code.specs.Typed.{unlined, whole_of, IsDeclared, IsArray, IsField, InExpressions, IsSub, Either, IsPassed, IsFunction, IsUse, HasShape}
 use Rattle.pfc_standing_code.specs.Typed.{HasShapeSimple, AreSummands, HasShapeTerm, AreMultipliers, HasShapeFactor, IsGivenFirst, IsLentFirst, IsGiven, IsLent}
-use Rattle.pfc_standing_code.specs.Typed.{IsVariable, AreArguments, AreSelectors, AreIndices}
-use Rattle.pfc_standing_code.specs.Words.{first_word, IsWord, IsPart, IsObject, IsChecked, AreHeld, none_held, one_more}
+use Rattle.pfc_standing_code.specs.Typed.{IsVariable, AreArguments, AreSelectors, AreIndices, desig_spot, lent_spot}
+use Rattle.pfc_standing_code.specs.Words.{first_word, IsWord, IsPart, IsObject, IsChecked, AreHeld, none_held, one_more, Lends, LendsWhole, LendsAt}
 use Rattle.pfc_standing_code.specs.Awaits.{has_argument, is_asked, finishing, TakesValue, TakesLocation, CallsAt}
 use Rattle.pfc_standing_code.specs.Following.{Follows, arrives}
-use Rattle.pfc_standing_code.proofs.Trials.{sub_own, asked_own}
+use Rattle.pfc_standing_code.proofs.Lends.{lends_rest, lends_next, lends_value, lends_variable}
+use Rattle.pfc_standing_code.proofs.Trials.{calls_own, sub_own, asked_own, named_read}
 use Rattle.pfc_standing_code.proofs.Sizes.{sized_plain, sized_base, sized_both}
 use Rattle.pfc_following_expressions.proofs.Glue.{held_behind, held_after, room_for, room_after, front, back, head, lone, tail, stands_moved, stands_over}
 use Rattle.pfc_following_expressions.proofs.Held.{held_grown, changes_one, shaped_cells, sign_changes, base_changes, expr_changes, simple_changes, term_changes}
@@ -129,22 +130,31 @@ module _ (g : Setting) (b : Block) (names : List Level) (around : Around) (check
       at + code.size ≡ to → TakesValue g b x to ops arms h u
       → ((v : ℤ) → h ≡ a_number → Follows g (go (ordinal v)) to (v ∷ ops) arms) → Follows g (from u go) at ops arms
 
-  -- code that leads to the address of a part
-  abbrev pub Locates : Code → Option TypeId → (AwaitsLocation → (TypedSpot → Action) → Action) → Type 0
-  Locates code t from =
+  -- code that leads to the address of a part of this variable, which may be read there
+  abbrev pub Reaches : Code → Option TypeId → Spot → (AwaitsLocation → (TypedSpot → Action) → Action) → Type 0
+  Reaches code t v from =
       (goal : AwaitsLocation) (go : TypedSpot → Action) (at n to : ℕ) (ops : List ℤ) → Stands g at n (length ops) code →
-      at + code.size ≡ to → TakesLocation g b x to ops arms t goal
-      → ((l : TypedSpot) (w : ℤ) → IsWord g.view s l.spot t w → Follows g (go l) to (w ∷ ops) arms) → Follows g (from goal go) at ops arms
+      at + code.size ≡ to → TakesLocation g b x to ops arms t goal → LendsAt s v goal
+      → ((l : TypedSpot) (w : ℤ) → IsWord g.view s l.spot t w → MayRead g l.spot.scope → LendsAt s l.spot goal → Follows g (go l) to (w ∷ ops) arms)
+      → Follows g (from goal go) at ops arms
+
+  -- code that leads to the address of a part
+  abbrev pub Locates : Code → Option TypeId → Spot → (AwaitsLocation → (TypedSpot → Action) → Action) → Type 0
+  Locates code t v from =
+      (goal : AwaitsLocation) (go : TypedSpot → Action) (at n to : ℕ) (ops : List ℤ) → Stands g at n (length ops) code →
+      at + code.size ≡ to → TakesLocation g b x to ops arms t goal → LendsAt s v goal
+      → ((l : TypedSpot) (w : ℤ) → IsWord g.view s l.spot t w → LendsAt s l.spot goal → Follows g (go l) to (w ∷ ops) arms)
+      → Follows g (from goal go) at ops arms
 
   -- code that goes on from the address of a part
   abbrev pub Selects : SelectorTrees → Type 0
   Selects ss =
       (part : TypedSpot) (w : ℤ) (t : Option TypeId) (goal : AwaitsLocation) (go : TypedSpot → Action) (at n to : ℕ) (ops : List ℤ)
-      → IsPart g.view s part w → AreSelectors s part.t ss t → Stands g at n (suc (length ops)) (selectors_code s part.t ss) →
-      at + (selectors_code s part.t ss).size ≡ to
-      → TakesLocation g b x to ops arms t goal
-      → ((l : TypedSpot) (v : ℤ) → IsWord g.view s l.spot t v → Follows g (go l) to (v ∷ ops) arms) →
-      Follows g (from_selectors x part ss goal go) at (w ∷ ops) arms
+      → IsPart g.view s part w → MayRead g part.spot.scope → AreSelectors s part.t ss t
+      → Stands g at n (suc (length ops)) (selectors_code s part.t ss) → at + (selectors_code s part.t ss).size ≡ to
+      → TakesLocation g b x to ops arms t goal → LendsAt s part.spot goal
+      → ((l : TypedSpot) (v : ℤ) → IsWord g.view s l.spot t v → MayRead g l.spot.scope → LendsAt s l.spot goal → Follows g (go l) to (v ∷ ops) arms)
+      → Follows g (from_selectors x part ss goal go) at (w ∷ ops) arms
 
   -- ## Parts of variables
 
@@ -154,7 +164,16 @@ module _ (g : Setting) (b : Block) (names : List Level) (around : Around) (check
       record {
         whole = v.t;
         behind = 0;
-        declared = record { seen = d.seen; own = d.own; meaning = d.meaning; laid = d.laid; variable = d.variable; typed = d.typed; whole = refl };
+        declared = record {
+          seen = d.seen;
+          own = d.own;
+          meaning = d.meaning;
+          laid = d.laid;
+          variable = d.variable;
+          typed = d.typed;
+          whole = refl;
+          named = d.named;
+        };
         path = subst (λ (p : List ℕ). IsPath forms v.t p v.t 0) (sym (ap (λ (p : List Selector). path_of p) d.whole)) (here v.t);
         word = ap pos (omega arith);
       }
@@ -207,10 +226,12 @@ module _ (g : Setting) (b : Block) (names : List Level) (around : Around) (check
 
   pub element_follows :
       (part : TypedSpot) (w i : ℤ) (go : TypedSpot → Action) (at : ℕ) (ops : List ℤ)
-      → IsPart g.view s part w → IsArray forms part.t → IsAt g at (index_instr forms (form_in forms part.t)) line → suc (length ops) ≤ g.room
-      → ((inside : TypedSpot) (v : ℤ) → IsPart g.view s inside v → inside.t ≡ element_in forms part.t → Follows g (go inside) (at + 1) (v ∷ ops) arms)
+      → IsPart g.view s part w → MayRead g part.spot.scope → IsArray forms part.t → IsAt g at (index_instr forms (form_in forms part.t)) line
+      → suc (length ops) ≤ g.room
+      → ((inside : TypedSpot) (v : ℤ) → IsPart g.view s inside v → MayRead g inside.spot.scope → inside.t ≡ element_in forms part.t
+      → whole_of inside.spot ≡ whole_of part.spot → Follows g (go inside) (at + 1) (v ∷ ops) arms)
       → Follows g (with_element x (element_spot forms part i) go) at (i ∷ w ∷ ops) arms
-  element_follows part w i go at ops is array at_index room on =
+  element_follows part w i go at ops is may array at_index room on =
       subst (λ (a : Option TypeForm). Follows g (with_element x (element_within a part.spot i) go) at (i ∷ w ∷ ops) arms) (sym form)
       (by (is_within array.low array.high i) refl)
     where
@@ -245,11 +266,11 @@ module _ (g : Setting) (b : Block) (names : List Level) (around : Around) (check
           let inside : TypedSpot = record { spot = within part.spot (record { place = nat_abs (i -ℤ array.low); index = i }); t = Some array.element } in
           next_move g arms few at (i ∷ w ∷ ops) (IDX array.low array.high (cells_in forms array.element)) line (v ∷ ops) at_it can
           (ap (λ (r : Bool). of_own_effect (with_outcome at ops (if r then Ok v else Err Index)) arms) e) room
-          (on inside v (kept e) (sym (ap (λ (a : Option TypeForm). option_map (λ (both : TypeId × TypeId). both.1) (array_form a)) form)))
+          (on inside v (kept e) may (sym (ap (λ (a : Option TypeForm). option_map (λ (both : TypeId × TypeId). both.1) (array_form a)) form)) refl)
       by false e =
           let v = element_word array.low (cells_in forms array.element) i w in
           fault_at g arms few b x Index at (i ∷ w ∷ ops) (IDX array.low array.high (cells_in forms array.element)) at_it can
-          (ap (λ (r : Bool). of_own_effect (with_outcome at ops (if r then Ok v else Err Index)) arms) e)
+          (ap (λ (r : Bool). of_own_effect (with_outcome at ops (if r then Ok v else Err Index)) arms) e) (inr refl)
 
   -- the number of an object takes the place of its address
   pub object_follows :
@@ -271,27 +292,27 @@ module _ (g : Setting) (b : Block) (names : List Level) (around : Around) (check
       → TakesValue g b x to ops arms a_number u
       → ((m : ℤ) → Follows g (go (ordinal m)) to (m ∷ ops) arms) → Follows g (finish_call x f t u go (ordinal v)) at (v ∷ ops) arms
   finish_follows abs t u go v at n to ops has own st e waits on =
-      outcome_move g arms few b x (magnitude_of v) go at (v ∷ ops) ops ABS (lone g s (λ at n. ABS) st) (fits g arms ABS (v ∷ ops) (omega arith) tt tt) refl
+      outcome_move g arms few b x (magnitude_of v) go at (v ∷ ops) ops ABS (lone g s (λ at n. ABS) st) (fits g arms ABS (v ∷ ops) (omega arith) tt tt) refl refl
       (room_for g st) (λ m. follows_moved g arms few to (at + 1) (sym e ∙ omega arith) (on m))
   finish_follows sqr t u go v at n to ops has own st e waits on =
-      outcome_move g arms few b x (square_of v) go at (v ∷ ops) ops SQR (lone g s (λ at n. SQR) st) (fits g arms SQR (v ∷ ops) (omega arith) tt tt) refl
+      outcome_move g arms few b x (square_of v) go at (v ∷ ops) ops SQR (lone g s (λ at n. SQR) st) (fits g arms SQR (v ∷ ops) (omega arith) tt tt) refl refl
       (room_for g st) (λ m. follows_moved g arms few to (at + 1) (sym e ∙ omega arith) (on m))
   finish_follows odd t u go v at n to ops has own st e waits on =
       next_move g arms few at (v ∷ ops) ODD line (is_odd v ∷ ops) (lone g s (λ at n. ODD) st) (fits g arms ODD (v ∷ ops) (omega arith) tt tt) refl
       (room_for g st) (follows_moved g arms few to (at + 1) (sym e ∙ omega arith) (on (is_odd v)))
   finish_follows ord t u go v at n to ops has own st e waits on = follows_moved g arms few to at (sym e ∙ omega arith) (on v)
   finish_follows chr t u go v at n to ops has own st e waits on =
-      outcome_move g arms few b x (char_of v) go at (v ∷ ops) ops CHR (lone g s (λ at n. CHR) st) (fits g arms CHR (v ∷ ops) (omega arith) tt tt) refl
+      outcome_move g arms few b x (char_of v) go at (v ∷ ops) ops CHR (lone g s (λ at n. CHR) st) (fits g arms CHR (v ∷ ops) (omega arith) tt tt) refl refl
       (room_for g st) (λ m. follows_moved g arms few to (at + 1) (sym e ∙ omega arith) (on m))
   finish_follows succ t u go v at n to ops has own st e waits on =
       let i = SUCC (simple_number (simple_of t)) in
       outcome_move g arms few b x (next_of (simple_of t) v) go at (v ∷ ops) ops i (lone g s (λ at n. i) st) (fits g arms i (v ∷ ops) (omega arith) tt tt)
-      (ap (λ (k : Simple). of_own_effect (with_outcome at ops (next_of k v)) arms) (type_by_number (simple_of t))) (room_for g st)
+      (ap (λ (k : Simple). of_own_effect (with_outcome at ops (next_of k v)) arms) (type_by_number (simple_of t))) refl (room_for g st)
       (λ m. follows_moved g arms few to (at + 1) (sym e ∙ omega arith) (on m))
   finish_follows pred t u go v at n to ops has own st e waits on =
       let i = PRED (simple_number (simple_of t)) in
       outcome_move g arms few b x (before_of (simple_of t) v) go at (v ∷ ops) ops i (lone g s (λ at n. i) st) (fits g arms i (v ∷ ops) (omega arith) tt tt)
-      (ap (λ (k : Simple). of_own_effect (with_outcome at ops (before_of k v)) arms) (type_by_number (simple_of t))) (room_for g st)
+      (ap (λ (k : Simple). of_own_effect (with_outcome at ops (before_of k v)) arms) (type_by_number (simple_of t))) refl (room_for g st)
       (λ m. follows_moved g arms few to (at + 1) (sym e ∙ omega arith) (on m))
   finish_follows random t u go v at n to ops has own st e waits on =
       arrives at (v ∷ ops) arms (
@@ -334,14 +355,14 @@ module _ (g : Setting) (b : Block) (names : List Level) (around : Around) (check
   function_follows :
       (f : Function) (t : Option TypeId) (h : Shape) (u : AwaitsValue) (go : Value → Action) (value : AwaitsValue → (Value → Action) →
       Action) (variable : AwaitsLocation → (TypedSpot → Action) → Action)
-      (code address : Code) (V A : Type 0) (at n to : ℕ) (ops : List ℤ)
+      (code address : Code) (lending : Spot) (V A : Type 0) (at n to : ℕ) (ops : List ℤ)
       → IsFunction f h V A → (is_asked f ≡ true → g.trial ≡ of_own) → IsSized code → IsSized address
       → (V → (at n held : ℕ) → held_after g.program held (code.put at n) ≡ 1 + held) →
       (A → (at n held : ℕ) → held_after g.program held (address.put at n) ≡ 1 + held)
-      → (V → Evaluates code a_number value) → (A → Locates address (Some condition) variable)
+      → (V → Evaluates code a_number value) → (g.trial ≡ of_own → A → Locates address (Some condition) lending variable)
       → Stands g at n (length ops) (function_code s f t code address) → at + (function_code s f t code address).size ≡ to → TakesValue g b x to ops arms h u
       → ((v : ℤ) → h ≡ a_number → Follows g (go (ordinal v)) to (v ∷ ops) arms) → Follows g (from_function x f t u go value variable) at ops arms
-  function_follows eof t h u go value variable code address V A at n to ops is own sized lent held lent_held evaluates locates st e waits on =
+  function_follows eof t h u go value variable code address lending V A at n to ops is own sized lent held lent_held evaluates locates st e waits on =
       let left = value_moved to (at + 1) ops h u (sym e) waits in
       arrives at ops arms (
         b,
@@ -351,7 +372,7 @@ module _ (g : Setting) (b : Block) (names : List Level) (around : Around) (check
           (lone g s (λ at n. EOF) st, asked_room EOF at n ops refl refl st, subst (λ (k : Shape). TakesValue g b x (at + 1) ops arms k u) is left),
         ),
       )
-  function_follows eoln t h u go value variable code address V A at n to ops is own sized lent held lent_held evaluates locates st e waits on =
+  function_follows eoln t h u go value variable code address lending V A at n to ops is own sized lent held lent_held evaluates locates st e waits on =
       let left = value_moved to (at + 1) ops h u (sym e) waits in
       arrives at ops arms (
         b,
@@ -361,7 +382,7 @@ module _ (g : Setting) (b : Block) (names : List Level) (around : Around) (check
           (lone g s (λ at n. EOLN) st, asked_room EOLN at n ops refl refl st, subst (λ (k : Shape). TakesValue g b x (at + 1) ops arms k u) is left),
         ),
       )
-  function_follows clock t h u go value variable code address V A at n to ops is own sized lent held lent_held evaluates locates st e waits on =
+  function_follows clock t h u go value variable code address lending V A at n to ops is own sized lent held lent_held evaluates locates st e waits on =
       let left = value_moved to (at + 1) ops h u (sym e) waits in
       arrives at ops arms (
         b,
@@ -371,7 +392,7 @@ module _ (g : Setting) (b : Block) (names : List Level) (around : Around) (check
           (lone g s (λ at n. CLOCK) st, asked_room CLOCK at n ops refl refl st, subst (λ (k : Shape). TakesValue g b x (at + 1) ops arms k u) is left),
         ),
       )
-  function_follows empty t h u go value variable code address V A at n to ops is own sized lent held lent_held evaluates locates st e waits on =
+  function_follows empty t h u go value variable code address lending V A at n to ops is own sized lent held lent_held evaluates locates st e waits on =
       let last = one s OBJ ⨾ one s EMPTY in
       let mid = at + address.size in
       let behind = back g address last (suc (length ops)) lent (lent_held is.1 at n (length ops) ∙ omega arith) st in
@@ -382,18 +403,18 @@ module _ (g : Setting) (b : Block) (names : List Level) (around : Around) (check
       let same : mid + 2 ≡ mid + 1 + 1 = omega arith in
       let left : TakesValue g b x (mid + 2) ops arms a_number u =
       value_moved to (mid + 2) ops a_number u end (subst (λ (k : Shape). TakesValue g b x to ops arms k u) is.0 waits) in
-      locates is.1 (ask_empty u) (λ l. asks_empty x l.spot u) at n mid ops (front g address last st) refl
-      (own refl, (refl, obj, room_for g behind, asking, left))
-      (λ l w lies. object_follows l.spot (Some condition) w mid ops lies refl obj (room_for g behind)
+      locates (own refl) is.1 (ask_empty u) (λ l. asks_empty x l.spot u) at n mid ops (front g address last st) refl
+      (own refl, (refl, obj, room_for g behind, asking, left)) tt
+      (λ l w lies lent. object_follows l.spot (Some condition) w mid ops lies refl obj (room_for g behind)
       (λ i object. arrives (mid + 1) (i ∷ ops) arms
       (b, checked, (own refl, (i, ops, refl, object, asking, value_moved (mid + 2) (mid + 1 + 1) ops a_number u same left)))))
-  function_follows abs t h u go value variable code address V A at n to ops is own sized lent held lent_held evaluates locates st e waits on =
+  function_follows abs t h u go value variable code address lending V A at n to ops is own sized lent held lent_held evaluates locates st e waits on =
       argued_follows abs refl own t h u go value code at n to ops is.0 sized (held is.1) (evaluates is.1) st e waits on
-  function_follows sqr t h u go value variable code address V A at n to ops is own sized lent held lent_held evaluates locates st e waits on =
+  function_follows sqr t h u go value variable code address lending V A at n to ops is own sized lent held lent_held evaluates locates st e waits on =
       argued_follows sqr refl own t h u go value code at n to ops is.0 sized (held is.1) (evaluates is.1) st e waits on
-  function_follows odd t h u go value variable code address V A at n to ops is own sized lent held lent_held evaluates locates st e waits on =
+  function_follows odd t h u go value variable code address lending V A at n to ops is own sized lent held lent_held evaluates locates st e waits on =
       argued_follows odd refl own t h u go value code at n to ops is.0 sized (held is.1) (evaluates is.1) st e waits on
-  function_follows ord t h u go value variable code address V A at n to ops is own sized lent held lent_held evaluates locates st e waits on =
+  function_follows ord t h u go value variable code address lending V A at n to ops is own sized lent held lent_held evaluates locates st e waits on =
       let left : TakesValue g b x to ops arms a_number u = subst (λ (k : Shape). TakesValue g b x to ops arms k u) is.0 waits in
       let none : Stands g (at + code.size) n (suc (length ops)) nothing =
       record { has = tt; texts = tt; room = room_after g (suc (length ops)) (held is.1 at n (length ops) ∙ omega arith) st; arms = omega arith } in
@@ -401,15 +422,16 @@ module _ (g : Setting) (b : Block) (names : List Level) (around : Around) (check
       evaluates is.1 (apply ord t u) (finish_call x ord t u go) at n to ops st e
       (refl, refl, own, n, stands_moved g to e none, value_moved to (to + 0) ops a_number u (omega arith) left)
       (λ v k. on v is.0)
-  function_follows chr t h u go value variable code address V A at n to ops is own sized lent held lent_held evaluates locates st e waits on =
+  function_follows chr t h u go value variable code address lending V A at n to ops is own sized lent held lent_held evaluates locates st e waits on =
       argued_follows chr refl own t h u go value code at n to ops is.0 sized (held is.1) (evaluates is.1) st e waits on
-  function_follows succ t h u go value variable code address V A at n to ops is own sized lent held lent_held evaluates locates st e waits on =
+  function_follows succ t h u go value variable code address lending V A at n to ops is own sized lent held lent_held evaluates locates st e waits on =
       argued_follows succ refl own t h u go value code at n to ops is.0 sized (held is.1) (evaluates is.1) st e waits on
-  function_follows pred t h u go value variable code address V A at n to ops is own sized lent held lent_held evaluates locates st e waits on =
+  function_follows pred t h u go value variable code address lending V A at n to ops is own sized lent held lent_held evaluates locates st e waits on =
       argued_follows pred refl own t h u go value code at n to ops is.0 sized (held is.1) (evaluates is.1) st e waits on
-  function_follows random t h u go value variable code address V A at n to ops is own sized lent held lent_held evaluates locates st e waits on =
+  function_follows random t h u go value variable code address lending V A at n to ops is own sized lent held lent_held evaluates locates st e waits on =
       argued_follows random refl own t h u go value code at n to ops is.0 sized (held is.1) (evaluates is.1) st e waits on
-  function_follows no_function t h u go value variable code address V A at n to ops is own sized lent held lent_held evaluates locates st e waits on = absurd is
+  function_follows no_function t h u go value variable code address lending V A at n to ops is own sized lent held lent_held evaluates locates st e waits on =
+      absurd is
 
   -- ## Names
 
@@ -422,24 +444,24 @@ module _ (g : Setting) (b : Block) (names : List Level) (around : Around) (check
 
   -- a variable with its selectors; how these follow is given
   pub address_follows :
-      (v : TypedSpot) (ss : SelectorTrees) (t : Option TypeId) → IsDeclared s v.spot v.t → AreSelectors s v.t ss t → Selects ss →
-      Locates (base_code s v.spot ⨾ selectors_code s v.t ss) t (λ goal go. from_selectors x v ss goal go)
-  address_follows v ss t d are select goal go at n to ops st e waits on =
+      (v : TypedSpot) (ss : SelectorTrees) (t : Option TypeId) → IsDeclared s v.spot v.t → MayRead g v.spot.scope → AreSelectors s v.t ss t → Selects ss →
+      Reaches (base_code s v.spot ⨾ selectors_code s v.t ss) t v.spot (λ goal go. from_selectors x v ss goal go)
+  address_follows v ss t d may are select goal go at n to ops st e waits lends on =
       let base = base_code s v.spot in
       let code = selectors_code s v.t ss in
       let behind = back g base code (suc (length ops)) (sized_base s v.spot) (held_grown g.program base 1 (base_changes g.program s v.spot) at n (length ops) ∙
       omega arith) st in
       let end : at + 1 + code.size ≡ to = omega arith in
       base_follows v at n ops d (front g base code st)
-      (select v (pos (first_word g.view s v.spot)) t goal go (at + 1) (n + length base.texts) to ops (whole_part v d) are behind end waits on)
+      (select v (pos (first_word g.view s v.spot)) t goal go (at + 1) (n + length base.texts) to ops (whole_part v d) may are behind end waits lends on)
 
   -- the value of a variable is read
   pub load_follows :
-      (code : Code) (u : TypeId) (h : Shape) (z : ℕ) (from : AwaitsLocation → (TypedSpot → Action) → Action)
+      (code : Code) (u : TypeId) (h : Shape) (z : ℕ) (lending : Spot) (from : AwaitsLocation → (TypedSpot → Action) → Action)
       → h ≡ shape_of u → z ≡ shape_cells forms (shape_of u) → IsSized code →
-      ((at n held : ℕ) → held_after g.program held (code.put at n) ≡ 1 + held) → Locates code (Some u) from
+      ((at n held : ℕ) → held_after g.program held (code.put at n) ≡ 1 + held) → Reaches code (Some u) lending from
       → Evaluates (code ⨾ one s (LOAD z)) h (λ waits go. from (read_for waits) (λ l. reads x l.spot waits))
-  load_follows code u h z from e cells sized held locates waits go at n to ops st ends left on =
+  load_follows code u h z lending from e cells sized held locates waits go at n to ops st ends left on =
       let mid = at + code.size in
       let k = n + length code.texts in
       let behind = back g code (one s (LOAD z)) (suc (length ops)) sized (held at n (length ops) ∙ omega arith) st in
@@ -449,23 +471,24 @@ module _ (g : Setting) (b : Block) (names : List Level) (around : Around) (check
       let after : TakesValue g b x (mid + 1) ops arms (shape_of u) waits =
       subst (λ (y : Shape). TakesValue g b x (mid + 1) ops arms y waits) e (value_moved to (mid + 1) ops h waits (sym ends ∙ omega arith) left) in
       locates (read_for waits) (λ l. reads x l.spot waits) at n mid ops (front g code (one s (LOAD z)) st) refl
-      (u, refl, load, room, after)
-      (λ l w lies. arrives mid (w ∷ ops) arms (b, checked, (u, w, ops, refl, lies, load, room, after, awaited_value g b x (mid + 1) ops arms u waits after)))
+      (u, refl, load, room, after) tt
+      (λ l w lies may lent. arrives mid (w ∷ ops) arms
+      (b, checked, (u, w, ops, refl, lies, load, room, after, awaited_value g b x (mid + 1) ops arms u waits after, may)))
 
   -- arguments behind those that are given, for the parameters behind those that have one
-  abbrev pub Passes : Code → List Formal → (List Argument → Call → Action) → Type 0
-  Passes code formals from =
+  abbrev pub Passes : Code → List Formal → ActualTrees → (List Argument → Call → Action) → Type 0
+  Passes code formals args from =
       (before : List Formal) (given : List Argument) (call : Call) (at n to : ℕ) (ops below : List ℤ)
       → AreHeld g.view s before given ops below → Stands g at n (length ops) code → at + code.size ≡ to → CallsAt g b x to below arms (before ++ formals) call
-      → Follows g (from given call) at ops arms
+      → Lends s given formals args call → Follows g (from given call) at ops arms
 
   -- the call of a function, behind its arguments
   called_follows :
-      (head : SubHead) (args : Code) (h : Shape) (from : List Argument → Call → Action)
+      (head : SubHead) (args : Code) (trees : ActualTrees) (h : Shape) (from : List Argument → Call → Action)
       → h ≡ a_number → IsSub s head 1 InExpressions → g.trial ≡ of_own → IsSized args
-      → ((at n held : ℕ) → held_after g.program held (args.put at n) ≡ formals_cells forms head.formals + held) → Passes args head.formals from
+      → ((at n held : ℕ) → held_after g.program held (args.put at n) ≡ formals_cells forms head.formals + held) → Passes args head.formals trees from
       → Evaluates (args ⨾ one s (call_instr s head)) h (λ u go. from [] (to_function head.scope u))
-  called_follows sub args h from e is own sized held passes u go at n to ops st ends waits on =
+  called_follows sub args trees h from e is own sized held passes u go at n to ops st ends waits on =
       let i = call_instr s sub in
       let mid = at + args.size in
       let behind = back g args (one s i) (formals_cells forms sub.formals + length ops) sized (held at n (length ops)) st in
@@ -481,61 +504,71 @@ module _ (g : Setting) (b : Block) (names : List Level) (around : Around) (check
           value_moved to (mid + 1) ops a_number u (sym ends ∙ omega arith)
               (subst (λ (k : Shape). TakesValue g b x to ops arms k u) e waits),
         ),
-      )
+      ) tt
 
   -- A name with its selectors or arguments. How selectors, arguments and predeclared functions follow is given.
   name_follows :
-      (m : Option Meaning) (h : Shape) (ss : SelectorTrees) (v : TypedSpot) (args : List Formal → Code) (predeclared : Function → Code)
+      (m : Option Meaning) (h : Shape) (ss : SelectorTrees) (v : TypedSpot) (trees : ActualTrees) (args : List Formal → Code) (predeclared : Function → Code)
       (from_all : List Formal → List Argument → Call → Action) (from_predeclared : Function → AwaitsValue → (Value → Action) →
       Action) (A : List Formal → Type 0) (F : Function → Type 0)
-      → IsUse s m h (IsDeclared s v.spot v.t) (λ u. AreSelectors s v.t ss u) ss A F → ((k : ℕ) → m ≡ Some (ASub k) → g.trial ≡ of_own) → Selects ss
+      → IsUse s m h (IsDeclared s v.spot v.t) (λ u. AreSelectors s v.t ss u) ss A F → ((k : ℕ) → m ≡ Some (ASub k) → g.trial ≡ of_own)
+      → ((t : TypeId) (r : Bool) → m ≡ Some (Variable t r) → MayRead g v.spot.scope) → Selects ss
       → ((formals : List Formal) → A formals → IsSized (args formals) ×
       ((at n held : ℕ) → held_after g.program held ((args formals).put at n) ≡ formals_cells forms formals + held) ×
-      Passes (args formals) formals (from_all formals))
+      Passes (args formals) formals trees (from_all formals))
       → ((k : ℕ) → m ≡ Some (Predeclared k) → F (function_of k) → Evaluates (predeclared (function_of k)) h (from_predeclared (function_of k)))
       → Evaluates (name_code s m ss (base_code s v.spot ⨾ selectors_code s v.t ss) args predeclared) h
       (λ u go. from_name x m u go (λ goal arrive. from_selectors x v ss goal arrive) (λ formals call. from_all formals [] call) (λ f. from_predeclared f u go))
-  name_follows (Some (Constant t c)) h ss v args predeclared from_all from_predeclared A F is own select passes functions u go at n to ops st e waits on =
+  name_follows (Some (Constant t c)) h ss v trees args predeclared from_all from_predeclared A F
+      is own may select passes functions u go at n to ops st e waits on =
       literal_follows c at n to ops st e (on c is)
-  name_follows (Some (Variable t r)) h ss v args predeclared from_all from_predeclared A F is own select passes functions u go at n to ops st e waits on =
+  name_follows (Some (Variable t r)) h ss v trees args predeclared from_all from_predeclared A F
+      is own may select passes functions u go at n to ops st e waits on =
       let code = base_code s v.spot ⨾ selectors_code s v.t ss in
       let z = type_cells forms (selected s.env (Some t) ss) in
       let cells : z ≡ shape_cells forms (shape_of is.0) = ap (λ (k : Option TypeId). type_cells forms k) is.3 ∙ sym (shaped_cells forms checked.sound is.0) in
-      load_follows code is.0 h z (λ goal arrive. from_selectors x v ss goal arrive) is.4 cells
+      load_follows code is.0 h z v.spot (λ goal arrive. from_selectors x v ss goal arrive) is.4 cells
       (sized_both (base_code s v.spot) (selectors_code s v.t ss) (sized_base s v.spot) (sized_plain (selectors_code s v.t ss) (plain_selectors s v.t ss)))
       (held_grown g.program code 1 (part_changes s checked.sound v ss (Some is.0) is.2))
-      (address_follows v ss (Some is.0) is.1 is.2 select) u go at n to ops st e waits on
-  name_follows (Some (ASub k)) h ss v args predeclared from_all from_predeclared A F is own select passes functions u go at n to ops st e waits on =
+      (address_follows v ss (Some is.0) is.1 (may t r refl) is.2 select) u go at n to ops st e waits on
+  name_follows (Some (ASub k)) h ss v trees args predeclared from_all from_predeclared A F is own may select passes functions u go at n to ops st e waits on =
       let sub = sub_at g.program.state.blocks k in
       let all = passes sub.formals is.2 in
-      called_follows sub (args sub.formals) h (from_all sub.formals) is.0 is.1 (own k refl) all.0 all.1 all.2 u go at n to ops st e waits on
-  name_follows (Some (Predeclared k)) h ss v args predeclared from_all from_predeclared A F is own select passes functions u go at n to ops st e waits on =
+      called_follows sub (args sub.formals) trees h (from_all sub.formals) is.0 is.1 (own k refl) all.0 all.1 all.2 u go at n to ops st e waits on
+  name_follows (Some (Predeclared k)) h ss v trees args predeclared from_all from_predeclared A F
+      is own may select passes functions u go at n to ops st e waits on =
       functions k refl is u go at n to ops st e waits on
-  name_follows None h ss v args predeclared from_all from_predeclared A F is own select passes functions u go at n to ops st e waits on = absurd is
-  name_follows (Some (Named t)) h ss v args predeclared from_all from_predeclared A F is own select passes functions u go at n to ops st e waits on = absurd is
-  name_follows (Some (Module k)) h ss v args predeclared from_all from_predeclared A F is own select passes functions u go at n to ops st e waits on = absurd is
-  name_follows (Some (Process k)) h ss v args predeclared from_all from_predeclared A F is own select passes functions u go at n to ops st e waits on =
+  name_follows None h ss v trees args predeclared from_all from_predeclared A F is own may select passes functions u go at n to ops st e waits on =
       absurd is
-  name_follows (Some (Entry k)) h ss v args predeclared from_all from_predeclared A F is own select passes functions u go at n to ops st e waits on = absurd is
-  name_follows (Some Faulty) h ss v args predeclared from_all from_predeclared A F is own select passes functions u go at n to ops st e waits on = absurd is
+  name_follows (Some (Named t)) h ss v trees args predeclared from_all from_predeclared A F is own may select passes functions u go at n to ops st e waits on =
+      absurd is
+  name_follows (Some (Module k)) h ss v trees args predeclared from_all from_predeclared A F is own may select passes functions u go at n to ops st e waits on =
+      absurd is
+  name_follows (Some (Process k)) h ss v trees args predeclared from_all from_predeclared A F
+      is own may select passes functions u go at n to ops st e waits on =
+      absurd is
+  name_follows (Some (Entry k)) h ss v trees args predeclared from_all from_predeclared A F is own may select passes functions u go at n to ops st e waits on =
+      absurd is
+  name_follows (Some Faulty) h ss v trees args predeclared from_all from_predeclared A F is own may select passes functions u go at n to ops st e waits on =
+      absurd is
 
   -- ## Arguments
 
   -- an argument for a parameter, before others; how it follows is given, as a variable and as a value
   pub passed_follows :
-      (f : Formal) (formals : List Formal) (args : ActualTrees) (lent given_code : Code) (from_l : AwaitsLocation → (TypedSpot → Action) →
+      (f : Formal) (formals : List Formal) (a : ActualTree) (args : ActualTrees) (lent given_code : Code) (from_l : AwaitsLocation → (TypedSpot → Action) →
       Action) (from_v : AwaitsValue → (Value → Action) → Action)
       (L : Type 0) (G : Shape → Type 0) → IsPassed forms f L G → AreArguments s formals args
-      → (L → IsSized lent × ((at n held : ℕ) → held_after g.program held (lent.put at n) ≡ 1 + held) × Locates lent f.t from_l)
+      → (L → IsSized lent × ((at n held : ℕ) → held_after g.program held (lent.put at n) ≡ 1 + held) × Locates lent f.t (lent_spot s a) from_l)
       → ((h : Shape) → G h → IsSized given_code × ((at n held : ℕ) → held_after g.program held (given_code.put at n) ≡ shape_cells forms h + held) ×
       Evaluates given_code h from_v)
-      → Passes (args_code s formals args) formals (λ given call. from_args x formals args given call)
-      → Passes ((if f.reference then lent else given_code) ⨾ args_code s formals args) (f ∷ formals)
+      → Passes (args_code s formals args) formals args (λ given call. from_args x formals args given call)
+      → Passes ((if f.reference then lent else given_code) ⨾ args_code s formals args) (f ∷ formals) (more_actuals a args)
       (λ given call.
       if f.reference
       then from_l (pass_variable formals args given call) (λ l. from_args x formals args (given ++ by_reference l.spot ∷ []) call)
       else from_v (pass_value formals args given call) (λ v. from_args x formals args (given ++ by_value v ∷ []) call))
-  passed_follows f formals args lent given_code from_l from_v L G is are lends gives on before given call at n to ops below held st e waits =
+  passed_follows f formals a args lent given_code from_l from_v L G is are lends gives on before given call at n to ops below held st e waits lending =
       by f.reference refl is st e
     where
       by : (r : Bool) → f.reference ≡ r → Either r L ((t : TypeId) × (f.t ≡ Some t) × G (shape_of t) × IsValueType forms t)
@@ -557,9 +590,11 @@ module _ (g : Setting) (b : Block) (names : List Level) (around : Around) (check
           subst (λ (fs : List Formal). CallsAt g b x to below arms fs call) (sym (append_assoc before (f ∷ []) formals)) waits in
           known.2 (pass_variable formals args given call) (λ l. from_args x formals args (given ++ by_reference l.spot ∷ []) call)
           at n mid ops (front g lent rest st) refl
-          (before, f, below, r, refl, held, are, k, behind, after)
-          (λ l w lies. on (before ++ f ∷ []) (given ++ by_reference l.spot ∷ []) call mid k to (w ∷ ops) below
-          (one_more before given ops below f (by_reference l.spot) (w ∷ []) held (w, r, lies, refl)) behind end others)
+          (before, f, below, r, refl, held, are, k, behind, after, lends_rest s given f formals a args call lending)
+          (lends_next s given f formals a args call r lending)
+          (λ l w lies lasting. on (before ++ f ∷ []) (given ++ by_reference l.spot ∷ []) call mid k to (w ∷ ops) below
+          (one_more before given ops below f (by_reference l.spot) (w ∷ []) held (w, r, lies, refl)) behind end others
+          (lends_variable s given l.spot formals args call lasting (lends_rest s given f formals a args call lending)))
       by false r is st e =
           let rest = args_code s formals args in
           let t = is.0 in
@@ -575,12 +610,13 @@ module _ (g : Setting) (b : Block) (names : List Level) (around : Around) (check
           subst (λ (fs : List Formal). CallsAt g b x to below arms fs call) (sym (append_assoc before (f ∷ []) formals)) waits in
           known.2 (pass_value formals args given call)
           (λ v. from_args x formals args (given ++ by_value v ∷ []) call) at n mid ops (front g given_code rest st) refl
-          (before, f, t, below, r, is.1, refl, held, are, k, behind, after, is.3)
+          (before, f, t, below, r, is.1, refl, held, are, k, behind, after, is.3, lends_rest s given f formals a args call lending)
           (λ v simple.
           let more : shape_cells forms h + length ops ≡ suc (length ops) = ap (λ (y : Shape). shape_cells forms y + length ops) simple ∙ omega arith in
           on (before ++ f ∷ []) (given ++ by_value (ordinal v) ∷ []) call mid k to (v ∷ ops) below
           (one_more before given ops below f (by_value (ordinal v)) (v ∷ []) held (t, r, is.1, is_number t v (simple_shape t simple), refl))
-          (stands_over g (suc (length ops)) more behind) end others)
+          (stands_over g (suc (length ops)) more behind) end others
+          (lends_value s given (ordinal v) formals args call (lends_rest s given f formals a args call lending)))
 
   -- ## Signs, sums and products
 
@@ -592,7 +628,7 @@ module _ (g : Setting) (b : Block) (names : List Level) (around : Around) (check
   sign_follows (Some (Plus, p)) a go at n ops st on = follows_moved g arms few (at + 0) at (omega arith) (on a)
   sign_follows (Some (Minus, p)) a go at n ops st on =
       outcome_move g arms few b x (negative_of a) go at (a ∷ ops) ops NEG (lone g s (λ at n. NEG) st)
-      (fits g arms NEG (a ∷ ops) (omega arith) tt tt) refl (room_for g st) on
+      (fits g arms NEG (a ∷ ops) (omega arith) tt tt) refl refl (room_for g st) on
 
   abbrev pub Adds : SummandTrees → Type 0
   Adds rest =
@@ -658,16 +694,22 @@ module _ (g : Setting) (b : Block) (names : List Level) (around : Around) (check
   index_held (Some (Record fields)) held = omega arith
   index_held (Some (AProcess k)) held = omega arith
 
+  -- the variable that the first argument names
+  abbrev pub first_lent : ActualTrees → Spot
+  first_lent no_actuals = desig_spot s None
+  first_lent (more_actuals a rest) = lent_spot s a
+
   -- the indices in front of selectors
   abbrev pub Indexes : ExprTrees → Type 0
   Indexes es =
       (part : TypedSpot) (w : ℤ) (ss : SelectorTrees) (t : Option TypeId) (goal : AwaitsLocation) (go : TypedSpot → Action) (at n mid m to : ℕ) (ops : List ℤ)
-      → IsPart g.view s part w → AreIndices s part.t es → AreSelectors s (type_behind forms part.t es) ss t
+      → IsPart g.view s part w → MayRead g part.spot.scope → AreIndices s part.t es → AreSelectors s (type_behind forms part.t es) ss t
       → Stands g at n (suc (length ops)) (indices_code s part.t es) → at + (indices_code s part.t es).size ≡ mid
       → Stands g mid m (suc (length ops)) (selectors_code s (type_behind forms part.t es) ss) →
       mid + (selectors_code s (type_behind forms part.t es) ss).size ≡ to
-      → TakesLocation g b x to ops arms t goal
-      → ((inside : TypedSpot) (v : ℤ) → IsPart g.view s inside v → inside.t ≡ type_behind forms part.t es → Follows g (go inside) mid (v ∷ ops) arms) →
+      → TakesLocation g b x to ops arms t goal → LendsAt s part.spot goal
+      → ((inside : TypedSpot) (v : ℤ) → IsPart g.view s inside v → MayRead g inside.spot.scope → inside.t ≡ type_behind forms part.t es
+      → LendsAt s inside.spot goal → Follows g (go inside) mid (v ∷ ops) arms) →
       Follows g (from_indices x part es ss goal go) at (w ∷ ops) arms
 
   mutual
@@ -785,28 +827,32 @@ module _ (g : Setting) (b : Block) (names : List Level) (around : Around) (check
     factor_follows (paren e p) h is u go at n to ops st ends waits on = expr_follows e h is u go at n to ops st ends waits on
     factor_follows (used (desig y ss q) args p) h is u go at n to ops st ends waits on =
         let v = spot_of s.env (find s.env y) in
-        name_follows (meaning_of (find s.env y)) h ss v (λ formals. args_code s formals args) (λ f. function_code s f (first_type s.env args)
+        name_follows (meaning_of (find s.env y)) h ss v args (λ formals. args_code s formals args) (λ f. function_code s f (first_type s.env args)
         (first_value s args) (first_address s args))
         (λ formals given call. from_args x formals args given call) (λ f wait done. from_function x f (first_type s.env args) wait done
         (from_argument x args) (from_reference x args))
         (λ formals. AreArguments s formals args) (λ f. IsFunction f h (IsGivenFirst s args) (IsLentFirst s args (Some condition)))
         is.1 (λ k e. sub_own g (env_in g names around) checked.tried (find s.env y) is.0 k e)
-        (λ part w t goal go at n to ops part_is are st ends waits on. selectors_follow ss part w t goal go at n to ops part_is are st ends waits on)
+        (λ t r e. named_read g (env_in g names around) refl checked.tried (find s.env y) is.0 t r e)
+        (λ part w t goal go at n to ops part_is may are st ends waits lends on.
+        selectors_follow ss part w t goal go at n to ops part_is may are st ends waits lends on)
         (λ formals a. (
           sized_plain (args_code s formals args) (plain_args s formals args),
           held_grown g.program (args_code s formals args) (formals_cells forms formals) (args_change s checked.sound formals args a),
-          λ before given call at n to ops below held st ends waits. args_follow args formals a before given call at n to ops below held st ends waits,
+          λ before given call at n to ops below held st ends waits lends.
+              args_follow args formals a before given call at n to ops below held st ends waits lends,
         ))
         (λ i e k wait done at n to ops st ends waits on.
         let f = function_of i in
         function_follows f (first_type s.env args) h wait done (from_argument x args) (from_reference x args) (first_value s args) (first_address s args)
-        (IsGivenFirst s args) (IsLentFirst s args (Some condition)) at n to ops k
+        (first_lent args) (IsGivenFirst s args) (IsLentFirst s args (Some condition)) at n to ops k
         (λ asked. asked_own g (env_in g names around) checked.tried (find s.env y) is.0 i e asked)
         (sized_plain (first_value s args) (plain_first s args)) (sized_plain (first_address s args) (plain_first_address s args))
         (λ i. held_grown g.program (first_value s args) 1 (first_changes s checked.sound args i)) (λ i. held_grown g.program (first_address s args) 1
         (first_address_changes s checked.sound args (Some condition) i))
         (λ i u go at n to ops st ends waits on. first_follows args i u go at n to ops st ends waits on)
-        (λ i goal go at n to ops st ends waits on. reference_follows args (Some condition) i goal go at n to ops st ends waits on)
+        (λ own i goal go at n to ops st ends waits lends on.
+        reference_follows own args (Some condition) i goal go at n to ops st ends waits lends on)
         st ends waits on)
         u go at n to ops st ends waits on
 
@@ -814,65 +860,73 @@ module _ (g : Setting) (b : Block) (names : List Level) (around : Around) (check
     first_follows no_actuals is u go at n to ops st ends waits on = absurd is
     first_follows (more_actuals a rest) is u go at n to ops st ends waits on = given_follows a a_number is u go at n to ops st ends waits on
 
-    pub reference_follows : (args : ActualTrees) (t : Option TypeId) → IsLentFirst s args t →
-        Locates (first_address s args) t (λ goal go. from_reference x args goal go)
-    reference_follows no_actuals t is goal go at n to ops st ends waits on = absurd is
-    reference_follows (more_actuals a rest) t is goal go at n to ops st ends waits on = lent_follows a t is goal go at n to ops st ends waits on
+    pub reference_follows : g.trial ≡ of_own → (args : ActualTrees) (t : Option TypeId) → IsLentFirst s args t →
+        Locates (first_address s args) t (first_lent args) (λ goal go. from_reference x args goal go)
+    reference_follows own no_actuals t is goal go at n to ops st ends waits lends on = absurd is
+    reference_follows own (more_actuals a rest) t is goal go at n to ops st ends waits lends on =
+        lent_follows own a t is goal go at n to ops st ends waits lends on
 
     pub given_follows : (a : ActualTree) (h : Shape) → IsGiven s a h → Evaluates (actual_code s a) h (λ u go. from_actual x a u go)
     given_follows (actual e) h is u go at n to ops st ends waits on = expr_follows e h is u go at n to ops st ends waits on
     given_follows (actual_width e w) h is u go at n to ops st ends waits on = expr_follows e h is u go at n to ops st ends waits on
 
-    pub lent_follows : (a : ActualTree) (t : Option TypeId) → IsLent s a t → Locates (lent_code s a) t (λ goal go. from_lent x a goal go)
-    lent_follows (actual e) t is goal go at n to ops st ends waits on = variable_follows e t is goal go at n to ops st ends waits on
-    lent_follows (actual_width e w) t is goal go at n to ops st ends waits on = variable_follows e t is goal go at n to ops st ends waits on
+    pub lent_follows : g.trial ≡ of_own → (a : ActualTree) (t : Option TypeId) → IsLent s a t
+        → Locates (lent_code s a) t (lent_spot s a) (λ goal go. from_lent x a goal go)
+    lent_follows own (actual e) t is goal go at n to ops st ends waits lends on = variable_follows own e t is goal go at n to ops st ends waits lends on
+    lent_follows own (actual_width e w) t is goal go at n to ops st ends waits lends on = variable_follows own e t is goal go at n to ops st ends waits lends on
 
-    pub variable_follows : (e : ExprTree) (t : Option TypeId) → IsVariable s e t → Locates (variable_code s e) t (λ goal go. from_variable x e goal go)
-    variable_follows (related a r u q) t is goal go at n to ops st ends waits on = absurd is
-    variable_follows (plain (sum (Some sign) k us) q) t is goal go at n to ops st ends waits on = absurd is
-    variable_follows (plain (sum None (product (number k r) ms) us) q) t is goal go at n to ops st ends waits on = absurd is
-    variable_follows (plain (sum None (product (literal y r) ms) us) q) t is goal go at n to ops st ends waits on = absurd is
-    variable_follows (plain (sum None (product (negation f r) ms) us) q) t is goal go at n to ops st ends waits on = absurd is
-    variable_follows (plain (sum None (product (paren e r) ms) us) q) t is goal go at n to ops st ends waits on = absurd is
-    variable_follows (plain (sum None (product (used (desig y ss r) (more_actuals a args) o) ms) us) q) t is goal go at n to ops st ends waits on = absurd is
-    variable_follows (plain (sum None (product (used (desig y ss r) no_actuals o) (more_multipliers op f ms)) us) q) t is goal go at n to ops st ends waits on =
+    pub variable_follows : g.trial ≡ of_own → (e : ExprTree) (t : Option TypeId) → IsVariable s e t →
+        Locates (variable_code s e) t (desig_spot s (as_desig e)) (λ goal go. from_variable x e goal go)
+    variable_follows own (related a r u q) t is goal go at n to ops st ends waits lends on = absurd is
+    variable_follows own (plain (sum (Some sign) k us) q) t is goal go at n to ops st ends waits lends on = absurd is
+    variable_follows own (plain (sum None (product (number k r) ms) us) q) t is goal go at n to ops st ends waits lends on = absurd is
+    variable_follows own (plain (sum None (product (literal y r) ms) us) q) t is goal go at n to ops st ends waits lends on = absurd is
+    variable_follows own (plain (sum None (product (negation f r) ms) us) q) t is goal go at n to ops st ends waits lends on = absurd is
+    variable_follows own (plain (sum None (product (paren e r) ms) us) q) t is goal go at n to ops st ends waits lends on = absurd is
+    variable_follows own (plain (sum None (product (used (desig y ss r) (more_actuals a args) o) ms) us) q) t is goal go at n to ops st ends waits lends on =
         absurd is
-    variable_follows (plain (sum None (product (used (desig y ss r) no_actuals o) no_multipliers) (more_summands op k us)) q) t is goal go
-        at n to ops st ends waits on = absurd is
-    variable_follows (plain (sum None (product (used (desig y ss r) no_actuals o) no_multipliers) no_summands) q) t is goal go at n to ops st ends waits on =
-        address_follows (spot_of s.env (find s.env y)) ss t is.0 is.1
-        (λ part w t goal go at n to ops part_is are st ends waits on. selectors_follow ss part w t goal go at n to ops part_is are st ends waits on)
-        goal go at n to ops st ends waits on
+    variable_follows own (plain (sum None (product (used (desig y ss r) no_actuals o) (more_multipliers op f ms)) us) q) t is goal go
+        at n to ops st ends waits lends on = absurd is
+    variable_follows own (plain (sum None (product (used (desig y ss r) no_actuals o) no_multipliers) (more_summands op k us)) q) t is goal go
+        at n to ops st ends waits lends on = absurd is
+    variable_follows own (plain (sum None (product (used (desig y ss r) no_actuals o) no_multipliers) no_summands) q) t is goal go
+        at n to ops st ends waits lends on =
+        address_follows (spot_of s.env (find s.env y)) ss t is.0 (inl own) is.1
+        (λ part w t goal go at n to ops part_is may are st ends waits lends on.
+        selectors_follow ss part w t goal go at n to ops part_is may are st ends waits lends on)
+        goal go at n to ops st ends waits lends (λ l w lies may lent. on l w lies lent)
 
     pub args_follow : (args : ActualTrees) (formals : List Formal) → AreArguments s formals args →
-        Passes (args_code s formals args) formals (λ given call. from_args x formals args given call)
-    args_follow no_actuals [] is before given call at n to ops below held st ends waits =
+        Passes (args_code s formals args) formals args (λ given call. from_args x formals args given call)
+    args_follow no_actuals [] is before given call at n to ops below held st ends waits lends =
         let here : CallsAt g b x at below arms before call =
         subst (λ (fs : List Formal). CallsAt g b x at below arms fs call) (append-nil before)
         (subst (λ (y : ℕ). CallsAt g b x y below arms (before ++ []) call) (sym ends ∙ omega arith) waits) in
-        arrives at ops arms (b, checked, (before, below, held, here))
-    args_follow no_actuals (f ∷ formals) is before given call at n to ops below held st ends waits = absurd is
-    args_follow (more_actuals a rest) [] is before given call at n to ops below held st ends waits = absurd is
-    args_follow (more_actuals a rest) (f ∷ formals) is before given call at n to ops below held st ends waits =
-        passed_follows f formals rest (lent_code s a) (actual_code s a) (λ goal go. from_lent x a goal go) (λ u go. from_actual x a u go)
+        arrives at ops arms (b, checked, (before, below, held, here, lends))
+    args_follow no_actuals (f ∷ formals) is before given call at n to ops below held st ends waits lends = absurd is
+    args_follow (more_actuals a rest) [] is before given call at n to ops below held st ends waits lends = absurd is
+    args_follow (more_actuals a rest) (f ∷ formals) is before given call at n to ops below held st ends waits lends =
+        let own = calls_own g b x to below arms (before ++ f ∷ formals) call waits in
+        passed_follows f formals a rest (lent_code s a) (actual_code s a) (λ goal go. from_lent x a goal go) (λ u go. from_actual x a u go)
         (IsLent s a f.t) (λ h. IsGiven s a h) is.0 is.1
         (λ l. (
           sized_plain (lent_code s a) (plain_lent s a),
           held_grown g.program (lent_code s a) 1 (lent_changes s checked.sound a f.t l),
-          λ goal go at n to ops st ends waits on. lent_follows a f.t l goal go at n to ops st ends waits on,
+          λ goal go at n to ops st ends waits lends on. lent_follows own a f.t l goal go at n to ops st ends waits lends on,
         ))
         (λ h v. (
           sized_plain (actual_code s a) (plain_actual s a),
           held_grown g.program (actual_code s a) (shape_cells forms h) (given_changes s checked.sound a h v),
           λ u go at n to ops st ends waits on. given_follows a h v u go at n to ops st ends waits on,
         ))
-        (λ before given call at n to ops below held st ends waits. args_follow rest formals is.1 before given call at n to ops below held st ends waits)
-        before given call at n to ops below held st ends waits
+        (λ before given call at n to ops below held st ends waits lends.
+        args_follow rest formals is.1 before given call at n to ops below held st ends waits lends)
+        before given call at n to ops below held st ends waits lends
 
     pub selectors_follow : (ss : SelectorTrees) → Selects ss
-    selectors_follow no_selectors part w t goal go at n to ops is are st ends waits on =
-        follows_moved g arms few to at (sym ends ∙ omega arith) (on part w (subst (λ (k : Option TypeId). IsWord g.view s part.spot k w) are is))
-    selectors_follow (more_selectors (index es p) ss) part w t goal go at n to ops is are st ends waits on =
+    selectors_follow no_selectors part w t goal go at n to ops is may are st ends waits lends on =
+        follows_moved g arms few to at (sym ends ∙ omega arith) (on part w (subst (λ (k : Option TypeId). IsWord g.view s part.spot k w) are is) may lends)
+    selectors_follow (more_selectors (index es p) ss) part w t goal go at n to ops is may are st ends waits lends on =
         let inner = indices_code s part.t es in
         let rest = selectors_code s (type_behind forms part.t es) ss in
         let mid = at + inner.size in
@@ -880,14 +934,14 @@ module _ (g : Setting) (b : Block) (names : List Level) (around : Around) (check
         let behind = back g inner rest (suc (length ops)) (sized_plain inner (plain_indices s part.t es)) (indices_change s checked.sound es part.t are.0 at n
         (length ops) ∙ omega arith) (stands_over g (1 + length ops) (omega arith) st) in
         let end : mid + rest.size ≡ to = omega arith in
-        indices_follow es part w ss t goal (λ inside. from_selectors x inside ss goal go) at n mid k to ops is are.0 are.1
-        (front g inner rest st) refl behind end waits
-        (λ inside v inside_is same.
-        selectors_follow ss inside v t goal go mid k to ops inside_is
+        indices_follow es part w ss t goal (λ inside. from_selectors x inside ss goal go) at n mid k to ops is may are.0 are.1
+        (front g inner rest st) refl behind end waits lends
+        (λ inside v inside_is inside_may same lasting.
+        selectors_follow ss inside v t goal go mid k to ops inside_is inside_may
         (subst (λ (y : Option TypeId). AreSelectors s y ss t) (sym same) are.1)
         (subst (λ (y : Option TypeId). Stands g mid k (suc (length ops)) (selectors_code s y ss)) (sym same) behind)
-        (subst (λ (y : Option TypeId). mid + (selectors_code s y ss).size ≡ to) (sym same) end) waits on)
-    selectors_follow (more_selectors (field y p) ss) part w t goal go at n to ops is are st ends waits on =
+        (subst (λ (y : Option TypeId). mid + (selectors_code s y ss).size ≡ to) (sym same) end) waits lasting on)
+    selectors_follow (more_selectors (field y p) ss) part w t goal go at n to ops is may are st ends waits lends on =
         let c = field_cell forms (form_in forms part.t) y in
         let rest = selectors_code s (field_type forms part.t y) ss in
         let behind = tail g s (λ at n. FLD c) rest (suc (length ops)) (omega arith) st in
@@ -896,12 +950,12 @@ module _ (g : Setting) (b : Block) (names : List Level) (around : Around) (check
         next_move g arms few at (w ∷ ops) (FLD c) line ((w +ℤ pos c) ∷ ops) (head g s (λ at n. FLD c) rest st)
         (fits g arms (FLD c) (w ∷ ops) (omega arith) (word_is_address g b (env_in g names around) checked (field_spot forms part y).spot
         (field_spot forms part y).t (w +ℤ pos c) inside) tt) refl (room_for g behind)
-        (selectors_follow ss (field_spot forms part y) (w +ℤ pos c) t goal go (at + 1) (n + 0) to ops inside are.1 behind end waits on)
+        (selectors_follow ss (field_spot forms part y) (w +ℤ pos c) t goal go (at + 1) (n + 0) to ops inside may are.1 behind end waits lends on)
 
     pub indices_follow : (es : ExprTrees) → Indexes es
-    indices_follow no_exprs part w ss t goal go at n mid m to ops is are after st ends rest end waits on =
-        follows_moved g arms few mid at (sym ends ∙ omega arith) (on part w is refl)
-    indices_follow (more_exprs e es) part w ss t goal go at n mid m to ops is are after st ends rest end waits on =
+    indices_follow no_exprs part w ss t goal go at n mid m to ops is may are after st ends rest end waits lends on =
+        follows_moved g arms few mid at (sym ends ∙ omega arith) (on part w is may refl lends)
+    indices_follow (more_exprs e es) part w ss t goal go at n mid m to ops is may are after st ends rest end waits lends on =
         let first = expr_code s e in
         let i = index_instr forms (form_in forms part.t) in
         let within = element_in forms part.t in
@@ -918,10 +972,10 @@ module _ (g : Setting) (b : Block) (names : List Level) (around : Around) (check
         location_moved to (left + (one s i ⨾ inner).size + code.size) ops t goal (omega arith) waits in
         expr_follows e a_number are.1 (index_into part es ss goal) (λ j. with_element x (element_spot forms part (ordinal_of j))
         (λ inside. from_indices x inside es ss goal go)) at n left (w ∷ ops) (front g first (one s i ⨾ inner) st) refl
-        (refl, w, ops, t, refl, is, are.0, are.2, after, k, behind, m, stands_moved g (left + (one s i ⨾ inner).size) (sym inner_end) rest, there)
-        (λ v simple. element_follows part w v (λ inside. from_indices x inside es ss goal go) left ops is are.0
+        (refl, w, ops, t, refl, is, are.0, are.2, after, k, behind, m, stands_moved g (left + (one s i ⨾ inner).size) (sym inner_end) rest, there, may, lends)
+        (λ v simple. element_follows part w v (λ inside. from_indices x inside es ss goal go) left ops is may are.0
         (head g s (λ at n. i) inner behind) (room_for g last)
-        (λ inside y inside_is same.
+        (λ inside y inside_is inside_may same within_it.
         let e_are : AreIndices s inside.t es = subst (λ (z : Option TypeId). AreIndices s z es) (sym same) are.2 in
         let e_after : AreSelectors s (type_behind forms inside.t es) ss t =
         subst (λ (z : Option TypeId). AreSelectors s (type_behind forms z es) ss t) (sym same) after in
@@ -933,5 +987,7 @@ module _ (g : Setting) (b : Block) (names : List Level) (around : Around) (check
         subst (λ (z : Option TypeId). Stands g mid m (suc (length ops)) (selectors_code s (type_behind forms z es) ss)) (sym same) rest in
         let e_end : mid + (selectors_code s (type_behind forms inside.t es) ss).size ≡ to =
         subst (λ (z : Option TypeId). mid + (selectors_code s (type_behind forms z es) ss).size ≡ to) (sym same) end in
-        indices_follow es inside y ss t goal go (left + 1) (k + 0) mid m to ops inside_is e_are e_after e_last e_last_end e_rest e_end waits
-        (λ deep z deep_is deep_same. on deep z deep_is (deep_same ∙ ap (λ (o : Option TypeId). type_behind forms o es) same))))
+        indices_follow es inside y ss t goal go (left + 1) (k + 0) mid m to ops inside_is inside_may e_are e_after e_last e_last_end e_rest e_end waits
+        (subst (λ (o : Spot). LendsWhole s o goal) (sym within_it) lends)
+        (λ deep z deep_is deep_may deep_same lasting.
+        on deep z deep_is deep_may (deep_same ∙ ap (λ (o : Option TypeId). type_behind forms o es) same) lasting)))

@@ -1,5 +1,5 @@
 -- Quiet instructions: each leads to what follows behind it.
-use Rattle.std.proofs.Common.{◌≡◌, ℕ, suc, ◌+◌, ◌<◌, ◌≤◌, ℤ, Bool, true, false, if◌then◌else◌, List, ◌∷◌, length, Ok, Err, refl, ap, subst, arith}
+use Rattle.std.proofs.Common.{◌≡◌, ℕ, suc, ◌+◌, ◌<◌, ◌≤◌, ℤ, Bool, true, false, if◌then◌else◌, List, ◌∷◌, length, Ok, Err, refl, ap, subst, arith, inr}
 use Rattle.pfc_base.specs.declared.faults.RunFault.{RunFault}
 use Rattle.pfc_code.specs.declared.instructions.Instr.{Instr}
 use Rattle.pfc_code.specs.declared.instructions.Instr.TheVariants.{ADD, SUB, MUL, DIV, MOD, AND, OR, EQ, NE, LT, LE, GT, GE, JMP, JF}
@@ -20,7 +20,7 @@ use Rattle.pfc_semantics.specs.Programs.{Block}
 use Rattle.pfc_translation.specs.Expressions.{relation_instr, add_instr, multiply_instr}
 use Rattle.pfc_translation.specs.Operands.{reads}
 use Rattle.pfc_standing_code.specs.Settings.{Setting, IsAt, Leads, arrived, jump}
-use Rattle.pfc_standing_code.specs.Effects.{Arm, onward, refuses, of_own_effect, effect_of, InSight, CanPerform}
+use Rattle.pfc_standing_code.specs.Effects.{Arm, onward, refuses, of_own_effect, effect_of, InSight, CanPerform, is_timeout, MayRefuse}
 use Rattle.pfc_standing_code.specs.Following.{of_operands, Follows, arrives, moves}
 
 module _ (g : Setting) (arms : List Arm) where
@@ -47,6 +47,18 @@ module _ (g : Setting) (arms : List Arm) where
   relation_effect Le at a b ops = refl
   relation_effect Gt at a b ops = refl
   relation_effect Ge at a b ops = refl
+
+  -- no operator waits
+  pub add_waits : (op : AddOp) → is_timeout (add_instr op) ≡ false
+  add_waits Add = refl
+  add_waits Sub = refl
+  add_waits Or = refl
+
+  pub multiply_waits : (op : MulOp) → is_timeout (multiply_instr op) ≡ false
+  multiply_waits Mul = refl
+  multiply_waits Div = refl
+  multiply_waits Mod = refl
+  multiply_waits And = refl
 
   -- ## Operands that are there
 
@@ -91,23 +103,25 @@ module _ (g : Setting) (arms : List Arm) (few : length arms ≤ g.arms) where
 
   -- a fault
   pub fault_at : (b : Block) (x : Context) (f : RunFault) (at : ℕ) (ops : List ℤ) (i : Instr) → IsAt g at i x.line → CanPerform g i ops →
-      effect_of g i at ops arms ≡ refuses f → Follows g (faults x f) at ops arms
-  fault_at b x f at ops i is can effect = arrives at ops arms (b, tt, of_operands i is can effect)
+      effect_of g i at ops arms ≡ refuses f → MayRefuse g i → Follows g (faults x f) at ops arms
+  fault_at b x f at ops i is can effect may = arrives at ops arms (b, tt, of_operands i is can effect may)
 
   -- an instruction that leaves a number, or ends in a fault
   pub outcome_move :
       (b : Block) (x : Context) (o : Outcome) (go : Value → Action) (at : ℕ) (ops below : List ℤ) (i : Instr)
-      → IsAt g at i x.line → CanPerform g i ops → effect_of g i at ops arms ≡ of_own_effect (with_outcome at below o) arms → suc (length below) ≤ g.room
+      → IsAt g at i x.line → CanPerform g i ops → effect_of g i at ops arms ≡ of_own_effect (with_outcome at below o) arms → is_timeout i ≡ false
+      → suc (length below) ≤ g.room
       → ((v : ℤ) → Follows g (go (ordinal v)) (at + 1) (v ∷ below) arms) → Follows g (with_number x o go) at ops arms
-  outcome_move b x (Ok v) go at ops below i is can effect room on = next_move at ops i x.line (v ∷ below) is can effect room (on v)
-  outcome_move b x (Err f) go at ops below i is can effect room on = fault_at b x f at ops i is can effect
+  outcome_move b x (Ok v) go at ops below i is can effect none room on = next_move at ops i x.line (v ∷ below) is can effect room (on v)
+  outcome_move b x (Err f) go at ops below i is can effect none room on = fault_at b x f at ops i is can effect (inr none)
 
   pub add_move :
       (b : Block) (x : Context) (op : AddOp) (a c : ℤ) (go : Value → Action) (at : ℕ) (ops : List ℤ)
       → IsAt g at (add_instr op) x.line → suc (length ops) ≤ g.room
       → ((v : ℤ) → Follows g (go (ordinal v)) (at + 1) (v ∷ ops) arms) → Follows g (with_number x (added op a c) go) at (c ∷ a ∷ ops) arms
   add_move b x op a c go at ops is room on =
-      outcome_move b x (added op a c) go at (c ∷ a ∷ ops) ops (add_instr op) is (add_fit g arms op a c ops) (add_effect g arms op at a c ops) room on
+      outcome_move b x (added op a c) go at (c ∷ a ∷ ops) ops (add_instr op) is (add_fit g arms op a c ops) (add_effect g arms op at a c ops)
+      (add_waits g arms op) room on
 
   pub multiply_move :
       (b : Block) (x : Context) (op : MulOp) (a c : ℤ) (go : Value → Action) (at : ℕ) (ops : List ℤ)
@@ -115,7 +129,7 @@ module _ (g : Setting) (arms : List Arm) (few : length arms ≤ g.arms) where
       → ((v : ℤ) → Follows g (go (ordinal v)) (at + 1) (v ∷ ops) arms) → Follows g (with_number x (multiplied op a c) go) at (c ∷ a ∷ ops) arms
   multiply_move b x op a c go at ops is room on =
       outcome_move b x (multiplied op a c) go at (c ∷ a ∷ ops) ops (multiply_instr op) is (multiply_fit g arms op a c ops)
-      (multiply_effect g arms op at a c ops) room on
+      (multiply_effect g arms op at a c ops) (multiply_waits g arms op) room on
 
   pub relation_move :
       {n : Action} (r : Relation) (a c : ℤ) (at : ℕ) (ops : List ℤ) (line : ℕ)

@@ -1,6 +1,6 @@
 -- The alternatives of a select are gone through, up to its decision.
 use Rattle.std.proofs.Common.{◌≡◌, ℕ, suc, ◌+◌, ◌<◌, ◌≤◌, ℤ, pos, Bool, if◌then◌else◌, List, [], ◌∷◌, length, drop, Option, Some, None, refl, sym, ap, ◌∙◌}
-use Rattle.std.proofs.Common.{subst, arith}
+use Rattle.std.proofs.Common.{ap₂, subst, arith}
 use Rattle.pfc_code.specs.declared.instructions.Instr.TheVariants.{LIT, STORE, JF, ARMS, ARMR, ARMA, ARMT, ARMX}
 use Rattle.pfc_tree.specs.trees.Exprs.{ExprTree}
 use Rattle.pfc_tree.specs.trees.Stmts.{StmtTrees, CommTree, accept, accept_do, comm_accept, comm_send, comm_receive, timeout, terminate}
@@ -23,10 +23,10 @@ use Rattle.pfc_translation.specs.Selects.{message_code, message_cells, receiver_
 use Rattle.pfc_translation.specs.Selects.{comm_code, guarded_code, alternative_code, alternatives_code, first_of}
 use Rattle.pfc_standing_code.specs.Shapes.{a_number, a_whole, shape_of, shape_cells, is_number}
 use Rattle.pfc_standing_code.specs.Settings.{Setting, of_own, site_of, IsAt, Stands, arrived}
-use Rattle.pfc_standing_code.specs.Effects.{Arm}
+use Rattle.pfc_standing_code.specs.Effects.{Arm, LeadAhead}
 use Rattle.pfc_standing_code.specs.TypedStatements.{IsReplica, IsGuard}
 use Rattle.pfc_standing_code.specs.Words.{first_word, IsChecked}
-use Rattle.pfc_standing_code.specs.Performs.{BranchAt, CommBranchAt, BranchesAt, DecidesAt, SelectAt, CommAt, Performs}
+use Rattle.pfc_standing_code.specs.Performs.{BranchAt, CommBranchAt, BranchesAt, DecidesAt, alternatives_size, SelectAt, CommAt, Performs}
 use Rattle.pfc_standing_code.specs.Following.{of_value, Follows, arrives}
 use Rattle.pfc_standing_code.proofs.Sizes.{sized_expr, sized_desig, sized_base, sized_replica, sized_alternative}
 use Rattle.pfc_following_expressions.proofs.Glue.{Changes, changes_both, room_for, front, back, head, lone, tail, stands_moved}
@@ -39,13 +39,30 @@ use Rattle.pfc_following_statements.proofs.Simple.{channel_is_object, object_par
 use Rattle.pfc_following_selects.specs.Phrases.{Behind}
 use Rattle.pfc_following_selects.proofs.Arms.{select_moved, OthersFollow, armed_follows, arm_at, seconds_armed, message_follows, receiver_follows}
 
--- how long the code of an alternative is does not hang on its branch
+-- how long the code of alternatives is does not hang on their branches
 pub comm_size : (s : Site) (m : ℕ) (comm : CommTree) (i j : ℕ) → (comm_code s m comm i).size ≡ (comm_code s m comm j).size
 comm_size s m (comm_accept a p) i j = refl
 comm_size s m (comm_send d e p) i j = refl
 comm_size s m (comm_receive d v p) i j = refl
 comm_size s m (timeout e p) i j = refl
 comm_size s m (terminate p) i j = refl
+
+guarded_size : (s : Site) (guard : Option ExprTree) (one other : Code) → one.size ≡ other.size
+    → (guarded_code s guard one).size ≡ (guarded_code s guard other).size
+guarded_size s None one other e = e
+guarded_size s (Some test) one other e = ap (λ (n : ℕ). (expr_code s test).size + (1 + n)) e
+
+alternative_size : (s : Site) (a : Alternative) (i j : ℕ) → (alternative_code s a i).size ≡ (alternative_code s a j).size
+alternative_size s a i j =
+    ap (λ (n : ℕ). (replica_code s a.replica).size + n)
+    (guarded_size s a.guard (comm_code s a.next a.comm i) (comm_code s a.next a.comm j) (comm_size s a.next a.comm i j))
+
+alternatives_same : (s : Site) (alts : List Alternative) (ds es : List ℕ) → (alternatives_code s alts ds).size ≡ (alternatives_code s alts es).size
+alternatives_same s [] ds es = refl
+alternatives_same s (a ∷ rest) ds es =
+    let one = (alternatives_code s rest (drop 1 ds)).size + 1 + first_of ds in
+    let other = (alternatives_code s rest (drop 1 es)).size + 1 + first_of es in
+    ap₂ (λ (m n : ℕ). m + n) (alternative_size s a one other) (alternatives_same s rest (drop 1 ds) (drop 1 es))
 
 -- the same of what an alternative waits for, from another place on
 comm_moved :
@@ -76,14 +93,14 @@ module _ (g : Setting) (b : Block) (names : List Level) (around : Around) (check
   accept_follows :
       (a : Alternative) (acc : Accepting) (rest : List Alternative) (sel : Selecting) (at to : ℕ) (ops : List ℤ) (arms : List Arm)
       → Others rest → IsAt g at (ARMA acc.entry (accept_cell s acc.scope) (accept_cells s acc.scope) to) line →
-      length ops ≤ g.room → length arms + 1 + length rest ≤ g.arms
+      length ops ≤ g.room → length arms + 1 + length rest ≤ g.arms → at + 1 + alternatives_size s rest < to
       → BranchAt g s to (length ops) a.replica (Some acc) (a.next + comm_scopes a.comm) a.stmts (Behind g b x ops k)
       → SelectAt g s x (at + 1) (length ops) rest sel arms (Behind g b x ops k)
       → Follows g (from_alternatives x rest (with_open a sel (to_accept acc)) k) at ops arms
-  accept_follows a acc rest sel at to ops arms others is room few branch there =
+  accept_follows a acc rest sel at to ops arms others is room few far branch there =
       let i = ARMA acc.entry (accept_cell s acc.scope) (accept_cells s acc.scope) to in
       armed_follows g b names around checked own line k a rest sel (to_accept acc) i at ops ops [] arms others is
-      (fits g arms i ops (omega arith) tt tt) refl room few (to, refl, refl, branch) there
+      (fits g arms i ops (omega arith) tt tt) refl room few far (to, refl, refl, branch) there
 
   comm_follows :
       (r : Option Replica) (guard : Option ExprTree) (comm : CommTree) (m : ℕ) (ts : StmtTrees) (rest : List Alternative) (sel : Selecting)
@@ -95,12 +112,12 @@ module _ (g : Setting) (b : Block) (names : List Level) (around : Around) (check
       accept_follows (alternative_of r guard (comm_accept (accept y gs q) p) m ts)
       (accepting_of x m (accept y gs q) p.line) rest sel at (at + 1 + c.between) ops arms others
       (lone g s (λ at n. ARMA (entry_of s (accept y gs q)) (accept_cell s m) (accept_cells s m) (at + 1 + c.between)) c.stands)
-      (room_for g c.stands) c.room c.branch c.others
+      (room_for g c.stands) c.room (let far = c.far in omega arith) c.branch c.others
   comm_follows r guard (comm_accept (accept_do y gs t q) p) m ts rest sel at ops arms others c =
       accept_follows (alternative_of r guard (comm_accept (accept_do y gs t q) p) m ts)
       (accepting_of x m (accept_do y gs t q) p.line) rest sel at (at + 1 + c.between) ops arms others
       (lone g s (λ at n. ARMA (entry_of s (accept_do y gs t q)) (accept_cell s m) (accept_cells s m) (at + 1 + c.between)) c.stands)
-      (room_for g c.stands) c.room c.branch c.others
+      (room_for g c.stands) c.room (let far = c.far in omega arith) c.branch c.others
   comm_follows r guard (comm_send d e p) m ts rest sel at ops arms others c =
       let a = alternative_of r guard (comm_send d e p) m ts in
       let few : length arms ≤ g.arms = (let all = c.room in omega arith) in
@@ -123,8 +140,10 @@ module _ (g : Setting) (b : Block) (names : List Level) (around : Around) (check
         others = select_moved g s x (at + (address.size + 1 + ((message_code s msg).size + 1))) (mid + 1 + ((message_code s msg).size + 1))
             (length ops) rest sel arms (Behind g b x ops k) end c.others;
         room = c.room;
+        far = c.far;
       } in
-      variable_follows g b x checked arms few d is.t is.channel (offer_to msg a rest sel k) (λ channel. from_message x channel.spot msg a rest sel k
+      variable_follows g b x checked own arms few d is.t is.channel (offer_to msg a rest sel k) (λ v. tt)
+      (λ channel. from_message x channel.spot msg a rest sel k
       (λ t. from_alternatives x rest t k)) at c.n ops parts.first
       (own, (is.u, is.carries, is.message, parts.obj, tt, inner))
       (λ l w lies.
@@ -153,8 +172,10 @@ module _ (g : Setting) (b : Block) (names : List Level) (around : Around) (check
         others = select_moved g s x (at + (address.size + 1 + ((receiver_code s target).size + 1))) (mid + 1 + ((receiver_code s target).size + 1))
             (length ops) rest sel arms (Behind g b x ops k) end c.others;
         room = c.room;
+        far = c.far;
       } in
-      variable_follows g b x checked arms few d is.t is.channel (offer_from target a rest sel k) (λ channel. from_receiver x channel.spot target a rest sel k
+      variable_follows g b x checked own arms few d is.t is.channel (offer_from target a rest sel k) (λ v. tt)
+      (λ channel. from_receiver x channel.spot target a rest sel k
       (λ t. from_alternatives x rest t k)) at c.n ops parts.first
       (own, (is.u, is.carries, is.receiver, parts.obj, tt, inner))
       (λ l w lies.
@@ -175,7 +196,7 @@ module _ (g : Setting) (b : Block) (names : List Level) (around : Around) (check
   comm_follows r guard (terminate p) m ts rest sel at ops arms others c =
       armed_follows g b names around checked own line k (alternative_of r guard (terminate p) m ts) rest sel to_end ARMX at ops ops [] arms others
       (lone g s (λ at n. ARMX) c.stands) (fits g arms ARMX ops (omega arith) tt tt) refl
-      (room_for g c.stands) c.room (refl, refl) c.others
+      (room_for g c.stands) c.room tt (refl, refl) c.others
 
   -- ## Guards
 
@@ -225,6 +246,7 @@ module _ (g : Setting) (b : Block) (names : List Level) (around : Around) (check
         branch = subst (λ (y : ℕ). CommBranchAt g s x (y + c.between) (length ops) a a.comm (Behind g b x ops k)) end c.branch;
         others = select_moved g s x (at + (test.size + (1 + inner.size))) out (length ops) rest sel arms (Behind g b x ops k) end c.others;
         room = c.room;
+        far = c.far;
       } in
       expression_follows g b x checked arms few e a_number is (open_if a rest sel k) (from_opened x a rest sel k (λ t. from_alternatives x rest t k)) at c.n ops
       (front g test (over s JF inner.size ⨾ inner) c.stands)
@@ -282,7 +304,7 @@ module _ (g : Setting) (b : Block) (names : List Level) (around : Around) (check
       let code = h.left in
       let at_decision : DecidesAt g s at (length ops) sel.pri sel.otherwise (Behind g b x ops k) =
       subst (λ (y : ℕ). DecidesAt g s y (length ops) sel.pri sel.otherwise (Behind g b x ops k)) (by at) code.decision in
-      arrives at ops arms (b, checked, (own, (at_decision, h.open_ones)))
+      arrives at ops arms (b, checked, (own, (at_decision, h.open_ones, subst (λ (y : ℕ). LeadAhead y arms) (by at) h.ahead)))
     where
       by : (n : ℕ) → n + 0 ≡ n
       by n = omega arith
@@ -311,6 +333,9 @@ module _ (g : Setting) (b : Block) (names : List Level) (around : Around) (check
       let next : at + one_code.size ≡ mid + guarded.size = omega arith in
       let decides : at + (one_code.size + behind.size) ≡ mid + guarded.size + behind.size = omega arith in
       let branch : at + (one_code.size + behind.size) + 1 + first_of ds ≡ mid + guarded.size + between = omega arith in
+      let same_rest : behind.size ≡ alternatives_size s rest = alternatives_same s rest (drop 1 ds) [] in
+      let same_one : one_code.size ≡ (alternative_code s a ((alternatives_code s rest []).size + 1 + 0)).size = alternative_size s a between _ in
+      let ahead : at + alternatives_size s (a ∷ rest) ≡ mid + guarded.size + alternatives_size s rest = omega (arith, same_one) in
       let others : SelectAt g s x (mid + guarded.size) (length ops) rest sel arms P =
       record {
         left = record {
@@ -323,6 +348,7 @@ module _ (g : Setting) (b : Block) (names : List Level) (around : Around) (check
         };
         open_ones = h.open_ones;
         room = omega arith;
+        ahead = subst (λ (y : ℕ). LeadAhead y arms) ahead h.ahead;
         end = h.end;
         left_behind = h.left_behind;
       } in
@@ -335,5 +361,6 @@ module _ (g : Setting) (b : Block) (names : List Level) (around : Around) (check
         branch = subst (λ (y : ℕ). CommBranchAt g s x y (length ops) a a.comm P) branch left.branches.0;
         others = others;
         room = omega arith;
+        far = omega (arith, same_rest);
       } in
       replica_follows a.replica a rest sel at left.n ops arms (all_follow rest) few is.0 is.1 (front g written guarded first) c

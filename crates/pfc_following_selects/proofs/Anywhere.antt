@@ -30,13 +30,14 @@ opening_follows_anywhere g b x checked =
 pub select_follows_anywhere : (g : Setting) (b : Block) (x : Context) → SelectFollows g b x
 select_follows_anywhere g b x checked =
     anywhere g b x (λ y. SelectFollows g b y) checked
-    (λ known own pri m alts k is at n ops st left. select_follows g b x.env.view x.env.around known own x.line k ops pri m alts at n is st left) checked
+    (λ known own pri m alts k is accepts at n ops st left.
+    select_follows g b x.env.view x.env.around known own x.line k ops accepts pri m alts at n is st left) checked
 
 pub select_else_follows_anywhere : (g : Setting) (b : Block) (x : Context) → SelectElseFollows g b x
 select_else_follows_anywhere g b x checked =
     anywhere g b x (λ y. SelectElseFollows g b y) checked
-    (λ known own pri m alts ts k is typed at n ops st left.
+    (λ known own pri m alts ts k is typed accepts at n ops st left.
     let s = site_of g b (inside g x) in
     let other = stmts_code s (m + alts_scopes alts) ts in
-    select_else_follows g b x.env.view x.env.around known own x.line k ops pri m alts ts at n other
+    select_else_follows g b x.env.view x.env.around known own x.line k ops accepts pri m alts ts at n other
     (branches_code s m alts other.size) is typed refl refl st left) checked

@@ -1,6 +1,6 @@
 -- An alternative that is found open becomes one of the machine's, and on go those behind it.
 use Rattle.std.proofs.Common.{◌≡◌, ℕ, zero, suc, ◌+◌, ◌<◌, ◌≤◌, ℤ, pos, Bool, true, false, if◌then◌else◌, List, [], ◌∷◌, ◌++◌, length, take, drop, reverse}
-use Rattle.std.proofs.Common.{Option, Some, None, refl, sym, ap, ◌∙◌, subst, arith}
+use Rattle.std.proofs.Common.{Option, Some, None, refl, sym, ap, ◌∙◌, subst, arith, inl}
 use Rattle.std.specs.Prelude.{int_lt}
 use Rattle.std.proofs.lemmas.Bool.Decides.{nat_tests}
 use Rattle.std.proofs.lemmas.List.{length-append}
@@ -29,11 +29,11 @@ use Rattle.pfc_standing_code.specs.Sizes.{IsSized}
 use Rattle.pfc_cells.specs.Shapes.{words_of}
 use Rattle.pfc_standing_code.specs.Shapes.{Shape, shape_of, shape_cells, IsShaped}
 use Rattle.pfc_standing_code.specs.Settings.{Setting, of_own, site_of, IsAt}
-use Rattle.pfc_standing_code.specs.Effects.{Arm, onward, refuses, arming, effect_of, CanPerform}
+use Rattle.pfc_standing_code.specs.Effects.{Arm, LeadsAhead, LeadAhead, onward, refuses, arming, effect_of, CanPerform}
 use Rattle.pfc_standing_code.specs.TypedStatements.{IsChannel, IsCarried, IsMessage, IsReceiver}
 use Rattle.pfc_standing_code.specs.Words.{IsWord, IsObject, IsChecked}
 use Rattle.pfc_standing_code.specs.Performs.{BranchAt, CommBranchAt, AlternativesAt, SelectAt, CommAt, IsOpen, AreOpen, of_message, of_signal, into_variable}
-use Rattle.pfc_standing_code.specs.Performs.{into_nothing}
+use Rattle.pfc_standing_code.specs.Performs.{into_nothing, alternatives_size}
 use Rattle.pfc_standing_code.specs.Awaits.{ArmAt, HasMessage}
 use Rattle.pfc_standing_code.specs.Following.{Follows, moves}
 use Rattle.pfc_standing_code.proofs.Sizes.{sized_expr, sized_desig}
@@ -71,6 +71,11 @@ plain_branch g s x to held P a (comm_accept c p) has h = absurd has
 plain_branch g s x to held P a (timeout e p) has h = absurd has
 plain_branch g s x to held P a (terminate p) has h = absurd has
 
+-- the branch of one more stands ahead as well
+lead_more : (at : ℕ) (arms : List Arm) (arm : Arm) → LeadAhead at arms → LeadsAhead at arm.by → LeadAhead at (arms ++ arm ∷ [])
+lead_more at [] arm h is = (is, tt)
+lead_more at (a ∷ arms) arm h is = (h.0, lead_more at arms arm h.1 is)
+
 -- so many are gone through at another place
 pub select_moved :
     (g : Setting) (s : Site) (x : Context) (at to held : ℕ) (alts : List Alternative) (sel : Selecting) (arms : List Arm) (P : ℕ → Type 0) → at ≡ to
@@ -101,11 +106,11 @@ module _ (g : Setting) (b : Block) (names : List Level) (around : Around) (check
       (a : Alternative) (rest : List Alternative) (sel : Selecting) (offer : Offer) (i : Instr) (at : ℕ) (all below taken : List ℤ) (arms : List Arm)
       → OthersFollow rest → IsAt g at i line → CanPerform g i all
       → effect_of g i at all arms ≡ onward (at + 1) below (arms ++ record { by = i; operands = taken } ∷ [])
-      → length below ≤ g.room → length arms + 1 + length rest ≤ g.arms
+      → length below ≤ g.room → length arms + 1 + length rest ≤ g.arms → LeadsAhead (at + 1 + alternatives_size s rest) i
       → IsOpen g s (length below) (opened a offer) offer (record { by = i; operands = taken }) (Behind g b x below k)
       → SelectAt g s x (at + 1) (length below) rest sel arms (Behind g b x below k)
       → Follows g (from_alternatives x rest (with_open a sel offer) k) at all arms
-  armed_follows a rest sel offer i at all below taken arms others is can effect room few open_one there =
+  armed_follows a rest sel offer i at all below taken arms others is can effect room few far open_one there =
       let arm : Arm = record { by = i; operands = taken } in
       let longer : length (arms ++ arm ∷ []) ≡ length arms + 1 = length-append arms (arm ∷ []) in
       let fit : length (arms ++ arm ∷ []) ≤ g.arms = omega (arith, longer) in
@@ -115,7 +120,14 @@ module _ (g : Setting) (b : Block) (names : List Level) (around : Around) (check
       record { typed = left.typed; distances = left.distances; n = left.n; code = left.code; decision = left.decision; branches = left.branches } in
       moves at all arms i line (at + 1) below (arms ++ arm ∷ []) is can effect (omega arith) room fit
       (others (with_open a sel offer) (at + 1) below (arms ++ arm ∷ []) fit
-      (record { left = stands; open_ones = all_open; room = omega (arith, longer); end = there.end; left_behind = there.left_behind }))
+      (record {
+        left = stands;
+        open_ones = all_open;
+        room = omega (arith, longer);
+        ahead = lead_more (at + 1 + alternatives_size s rest) arms arm there.ahead far;
+        end = there.end;
+        left_behind = there.left_behind;
+      }))
 
   -- the instruction that stands behind what an alternative waits for
   pub arm_at :
@@ -133,6 +145,7 @@ module _ (g : Setting) (b : Block) (names : List Level) (around : Around) (check
         branch = plain to (subst (λ (y : ℕ). CommBranchAt g s x y held a a.comm P) same c.branch);
         others = select_moved g s x (at + (first.size + 1)) (at + first.size + 1) held rest sel arms P next c.others;
         room = c.room;
+        far = (let far = c.far in omega arith);
       }
 
   -- ## Messages
@@ -155,7 +168,7 @@ module _ (g : Setting) (b : Block) (names : List Level) (around : Around) (check
       ap (λ (y : List ℤ). onward (at + 1) y (arms ++ record { by = instr; operands = take (z + 1) ops } ∷ [])) (words_dropped (words_of v) below i z count)
       ∙ ap (λ (y : List ℤ). onward (at + 1) below (arms ++ record { by = instr; operands = y } ∷ [])) (words_taken (words_of v) below i z count) in
       armed_follows a rest sel (to_send channel v) instr at ops below (reverse (words_of v) ++ i ∷ []) arms others ar.makes
-      (fits g arms instr ops (omega (arith, size)) tt tt) effect room ar.room
+      (fits g arms instr ops (omega (arith, size)) tt tt) effect room ar.room ar.far
       (ar.to, z, refl, of_message t u i carries object some is (ap (λ (y : Shape). shape_cells forms y) e) refl, ar.branch) ar.others
 
   receives_two : (z : ℕ) → 0 < z → receiving z ≡ 2
@@ -175,7 +188,7 @@ module _ (g : Setting) (b : Block) (names : List Level) (around : Around) (check
       let two = receives_two z some.0 in
       armed_follows a rest sel (to_receive channel (Some target)) instr at (w ∷ i ∷ below) below (w ∷ i ∷ []) arms others ar.makes
       (fits g arms instr (w ∷ i ∷ below) (omega (arith, two)) tt tt)
-      (ap (λ (y : ℕ). onward (at + 1) (drop y (w ∷ i ∷ below)) (arms ++ record { by = instr; operands = take y (w ∷ i ∷ below) } ∷ [])) two) room ar.room
+      (ap (λ (y : ℕ). onward (at + 1) (drop y (w ∷ i ∷ below)) (arms ++ record { by = instr; operands = take y (w ∷ i ∷ below) } ∷ [])) two) room ar.room ar.far
       (ar.to, z, refl, into_variable t u i w target carries object some lies refl refl, ar.branch) ar.others
 
   -- the seconds of a `timeout`
@@ -190,11 +203,11 @@ module _ (g : Setting) (b : Block) (names : List Level) (around : Around) (check
       by true e =
           let few : length arms ≤ g.arms = (let all = ar.room in omega arith) in
           fault_at g arms few b x Below at (v ∷ ops) (ARMT ar.to) ar.makes (fits g arms (ARMT ar.to) (v ∷ ops) (omega arith) tt tt)
-          (ap (λ (r : Bool). if r then refuses Below else arming (ARMT ar.to) 1 at (v ∷ ops) arms) e)
+          (ap (λ (r : Bool). if r then refuses Below else arming (ARMT ar.to) 1 at (v ∷ ops) arms) e) (inl own)
       by false e =
           armed_follows a rest sel (to_wait v) (ARMT ar.to) at (v ∷ ops) ops (v ∷ []) arms others ar.makes
           (fits g arms (ARMT ar.to) (v ∷ ops) (omega arith) tt tt)
-          (ap (λ (r : Bool). if r then refuses Below else arming (ARMT ar.to) 1 at (v ∷ ops) arms) e) room ar.room
+          (ap (λ (r : Bool). if r then refuses Below else arming (ARMT ar.to) 1 at (v ∷ ops) arms) e) room ar.room ar.far
           (ar.to, refl, refl, e, ar.branch) ar.others
 
   -- ## Behind the number of a channel
@@ -213,7 +226,7 @@ module _ (g : Setting) (b : Block) (names : List Level) (around : Around) (check
       let room : length ops ≤ g.room = (let all = room_for g c.stands in omega arith) in
       follows_moved g arms few (at + 0) at (omega arith)
       (armed_follows a rest sel (to_send channel a_signal) (ARMS 0 ar.to) (at + 0) (i ∷ ops) ops (i ∷ []) arms others ar.makes
-      (fits g arms (ARMS 0 ar.to) (i ∷ ops) (omega arith) tt tt) refl room ar.room
+      (fits g arms (ARMS 0 ar.to) (i ∷ ops) (omega arith) tt tt) refl room ar.room ar.far
       (ar.to, 0, refl, of_signal t u i carries object is refl refl refl, ar.branch) ar.others)
   message_follows channel t u i (Some e) a rest sel at ops arms others has carries object is c =
       let few : length arms ≤ g.arms = (let all = c.room in omega arith) in
@@ -246,7 +259,7 @@ module _ (g : Setting) (b : Block) (names : List Level) (around : Around) (check
       let room : length ops ≤ g.room = (let all = room_for g c.stands in omega arith) in
       follows_moved g arms few (at + 0) at (omega arith)
       (armed_follows a rest sel (to_receive channel None) (ARMR 0 ar.to) (at + 0) (i ∷ ops) ops (i ∷ []) arms others ar.makes
-      (fits g arms (ARMR 0 ar.to) (i ∷ ops) (omega arith) tt tt) refl room ar.room
+      (fits g arms (ARMR 0 ar.to) (i ∷ ops) (omega arith) tt tt) refl room ar.room ar.far
       (ar.to, 0, refl, into_nothing t u i carries object is refl refl, ar.branch) ar.others)
   receiver_follows channel t u i (Some d) a rest sel at ops arms others has carries object is c =
       let few : length arms ≤ g.arms = (let all = c.room in omega arith) in
@@ -258,7 +271,7 @@ module _ (g : Setting) (b : Block) (names : List Level) (around : Around) (check
       let ar = subst (λ (z : ℕ). ArmAt g s x (at + target.size) (length ops) a rest sel arms (λ to. ARMR z to) (Behind g b x ops k)) is.1 made in
       let some = is.2 in
       let room : length ops ≤ g.room = (let all = room_for g c.stands in omega arith) in
-      variable_follows g b x checked arms few d (Some u) is.0 (offer_into channel a rest sel k)
+      variable_follows g b x checked own arms few d (Some u) is.0 (offer_into channel a rest sel k) (λ v. tt)
       (λ v. from_alternatives x rest (with_open a sel (to_receive channel (Some v.spot))) k) at c.n (i ∷ ops)
       (front g target (over s (λ to. ARMR (receiver_cells s (Some d)) to) c.between) c.stands)
       (own, (t, u, i, ops, refl, some, carries, refl, object, ar))

@@ -14,6 +14,7 @@ use Rattle.pfc_standing_code.specs.Settings.{Setting, of_own, site_of, with_acce
 use Rattle.pfc_standing_code.specs.TypedStatements.{IsReplica}
 use Rattle.pfc_standing_code.specs.Words.{IsChecked}
 use Rattle.pfc_standing_code.specs.Performs.{StmtsAt, MetAt, BranchAt, Performs}
+use Rattle.pfc_standing_code.proofs.Accepts.{sees_met}
 use Rattle.pfc_translation.specs.Sites.{in_accept}
 use Rattle.pfc_kept_code.proofs.Seen.{stands_shown, leads_shown}
 use Rattle.pfc_following_selects.specs.Phrases.{Behind, BranchPerforms, MeetingPerforms}
@@ -72,6 +73,7 @@ module _ (g : Setting) (b : Block) (x : Context) (own : g.trial ≡ of_own) wher
         typed = (then.1.typed, tt);
         code = stands_alone inside at then.0 (length ops) code (stands_shown g g.view (a.scope ∷ g.accepts)
             (caller ∷ g.meetings) at then.0 (length ops) code then.1.code);
+        accepts = sees_met g (site_of g b x) a.scope caller h.2;
       } in
       let left = part_from caller a.line (in_names x.env (behind m ts k)) in
       let parts : Performs inside b (within_accept x.env a.scope) to ops [] left =

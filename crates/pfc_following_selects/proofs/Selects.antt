@@ -26,11 +26,12 @@ use Rattle.pfc_translation.specs.Selects.{replica_code, alternatives_code}
 use Rattle.pfc_translation.specs.Statements.{spread_of, spread_replicas, chosen_code, replica_branches, branches_from, sel_code, select_code, stmt_code}
 use Rattle.pfc_translation.specs.Statements.{stmts_code, met_code, branch_code, branches_code, distances}
 use Rattle.pfc_standing_code.specs.Sizes.{IsSized}
-use Rattle.pfc_standing_code.specs.Settings.{Setting, of_own, site_of, IsAt, Stands, arrived, jump}
+use Rattle.pfc_standing_code.specs.Settings.{Setting, of_own, site_of, SeesAccepts, IsAt, Stands, arrived, jump}
 use Rattle.pfc_standing_code.specs.TypedStatements.{IsSimpleVariable, IsReplica, IsSpread, AcceptsEntry, AreTyped, IsMetTyped, IsAltTyped, AreAltsTyped}
 use Rattle.pfc_standing_code.specs.Words.{IsChecked}
 use Rattle.pfc_standing_code.specs.Performs.{MetAt, BranchAt, accepted_in, CommBranchAt, BranchesAt, DecidesAt, SelectAt, StmtThen, StmtsThen}
 use Rattle.pfc_standing_code.specs.Following.{Follows}
+use Rattle.pfc_standing_code.proofs.Accepts.{see_accepts, sees_inside}
 use Rattle.pfc_standing_code.proofs.Sizes.{sized_then, sized_nothing, sized_replica, sized_chosen, sized_alternatives, sized_stmt, sized_stmts, sized_met}
 use Rattle.pfc_standing_code.proofs.Sizes.{sized_branch, sized_branches}
 use Rattle.pfc_following_expressions.proofs.Glue.{Changes, changes_both, front, back, head, lone, tail, stands_moved}
@@ -81,7 +82,7 @@ branch_size s m (alt spread guard (comm_receive d v p) ss) i j = refl
 branch_size s m (alt spread guard (timeout e p) ss) i j = refl
 
 module _ (g : Setting) (b : Block) (names : List Level) (around : Around) (checked : IsChecked g b (env_in g names around)) (own : g.trial ≡ of_own)
-    (line : ℕ) (k : Remainder) (ops : List ℤ) where
+    (line : ℕ) (k : Remainder) (ops : List ℤ) (accepts : SeesAccepts g (site_of g b (record { env = env_in g names around; line = line }))) where
   abbrev x : Context
   x = record { env = env_in g names around; line = line }
 
@@ -122,7 +123,11 @@ module _ (g : Setting) (b : Block) (names : List Level) (around : Around) (check
   -- statements, and the jump behind them
   stmts_then : (m between at n : ℕ) (ss : StmtTrees) → AreTyped s m ss → Stands g at n held (stmts_code s m ss ⨾ over s JMP between) →
       P (at + (stmts_code s m ss).size) → StmtsThen g s at held m ss P
-  stmts_then m between at n ss typed st end = (n, record { typed = typed; code = front g (stmts_code s m ss) (over s JMP between) st }, end)
+  stmts_then m between at n ss typed st end = (
+    n,
+    record { typed = typed; code = front g (stmts_code s m ss) (over s JMP between) st; accepts = see_accepts g s ss accepts },
+    end,
+  )
 
   plain_met :
       (m between at n : ℕ) (ss : StmtTrees) → AreTyped s m ss → Stands g at n held (nothing ⨾ stmts_code s m ss ⨾ over s JMP between) →
@@ -152,8 +157,11 @@ module _ (g : Setting) (b : Block) (names : List Level) (around : Around) (check
         parts.ended,
         stmts_then m between (to + 1) parts.left.0 ss typed parts.left.1 (performs_at g b x.env k (at + ((inner.size + 1) + code.size))
             (to + 1 + code.size) ops (omega arith) end),
-      ) in
-      (entry, (first.0, first.1, subst (λ (y : ℕ). IsAt g y EACC a.line × StmtsThen g s (y + 1) held m ss P) (sym first.2) left))
+      ) in (
+        entry,
+        (first.0, first.1, subst (λ (y : ℕ). IsAt g y EACC a.line × StmtsThen g s (y + 1) held m ss P) (sym first.2) left),
+        accepts,
+      )
 
   met_stands :
       (comm : CommTree) (m between at n : ℕ) (ss : StmtTrees) → IsMetTyped s m comm → AreTyped s (m + comm_scopes comm) ss
@@ -163,12 +171,13 @@ module _ (g : Setting) (b : Block) (names : List Level) (around : Around) (check
   met_stands (comm_accept (accept y gs q) p) m between at n ss is typed st end =
       let acc = comm_accept (accept y gs q) p in
       accept_met (accepting_of x m (accept y gs q) p.line) (m + comm_scopes acc) between at n nothing ss refl sized_nothing (changes_nothing g.program 0) is
-      (λ n inner. (n, record { typed = tt; code = inner }, refl)) typed st end
+      (λ n inner. (n, record { typed = tt; code = inner; accepts = sees_inside g s m accepts }, refl)) typed st end
   met_stands (comm_accept (accept_do y gs t q) p) m between at n ss is typed st end =
       let acc = comm_accept (accept_do y gs t q) p in
       let inner = stmt_code (in_accept s m) (m + 1) t in
       accept_met (accepting_of x m (accept_do y gs t q) p.line) (m + comm_scopes acc) between at n inner ss refl (sized_stmt (in_accept s m) (m + 1) t)
-      (stmt_changes t (in_accept s m) (m + 1) checked.sound is.1) is.0 (λ n inner_at. (n, record { typed = is.1; code = inner_at }, refl)) typed st end
+      (stmt_changes t (in_accept s m) (m + 1) checked.sound is.1) is.0
+      (λ n inner_at. (n, record { typed = is.1; code = inner_at; accepts = sees_inside g s m accepts }, refl)) typed st end
   met_stands (comm_send d e p) m between at n ss is typed st end = plain_met (m + comm_scopes (comm_send d e p)) between at n ss typed st end
   met_stands (comm_receive d v p) m between at n ss is typed st end = plain_met (m + comm_scopes (comm_receive d v p)) between at n ss typed st end
   met_stands (timeout e p) m between at n ss is typed st end = plain_met (m + comm_scopes (timeout e p)) between at n ss typed st end
@@ -342,6 +351,7 @@ module _ (g : Setting) (b : Block) (names : List Level) (around : Around) (check
         };
         open_ones = tt;
         room = omega arith;
+        ahead = tt;
         end = end;
         left_behind = left;
       } in
@@ -409,7 +419,11 @@ module _ (g : Setting) (b : Block) (names : List Level) (around : Around) (check
         omega arith,
         (
           i + length branches.texts,
-          record { typed = typed; code = subst (λ (c : Code). Stands g to (i + length branches.texts) held c) e others },
+          record {
+            typed = typed;
+            code = subst (λ (c : Code). Stands g to (i + length branches.texts) held c) e others;
+            accepts = see_accepts g s ts accepts;
+          },
           performs_at g b x.env k (at + (code ⨾ last).size) (to + (stmts_code s next ts).size) ops end left,
         ),
       ) in

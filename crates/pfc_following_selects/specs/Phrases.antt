@@ -11,7 +11,7 @@ use Rattle.pfc_semantics.specs.Statements.{behind}
 use Rattle.pfc_translation.specs.Codes.{Code, nothing}
 use Rattle.pfc_translation.specs.Selects.{comm_code, guarded_code}
 use Rattle.pfc_translation.specs.Statements.{stmts_code, branches_code, distances, select_code}
-use Rattle.pfc_standing_code.specs.Settings.{Setting, of_own, site_of, with_accept}
+use Rattle.pfc_standing_code.specs.Settings.{Setting, of_own, site_of, with_accept, SeesAccepts}
 use Rattle.pfc_standing_code.specs.Effects.{Arm}
 use Rattle.pfc_standing_code.specs.TypedStatements.{AreTyped, IsGuard, AreAltsTyped}
 use Rattle.pfc_standing_code.specs.Words.{IsChecked}
@@ -50,7 +50,7 @@ OpeningFollows g b x =
 abbrev pub SelectFollows : Setting → Block → Context → Type 0
 SelectFollows g b x =
     IsChecked g b x.env → g.trial ≡ of_own → (pri : Bool) (m : ℕ) (alts : AltTrees) (k : Remainder) → AreAltsTyped (site_of g b x) m alts
-    → CodeFollows g b x
+    → SeesAccepts g (site_of g b x) → CodeFollows g b x
     (select_code (site_of g b x) pri (alternatives x m alts) (distances (site_of g b x) m 0 alts) (branches_code (site_of g b x) m alts 0) None nothing) k
     (from_alternatives x (alternatives x m alts) (select_begun pri) k)
 
@@ -58,7 +58,7 @@ SelectFollows g b x =
 abbrev pub SelectElseFollows : Setting → Block → Context → Type 0
 SelectElseFollows g b x =
     IsChecked g b x.env → g.trial ≡ of_own → (pri : Bool) (m : ℕ) (alts : AltTrees) (ts : StmtTrees) (k : Remainder) → AreAltsTyped (site_of g b x) m alts
-    → AreTyped (site_of g b x) (m + alts_scopes alts) ts
+    → AreTyped (site_of g b x) (m + alts_scopes alts) ts → SeesAccepts g (site_of g b x)
     → (let other = stmts_code (site_of g b x) (m + alts_scopes alts) ts in
     let branches = branches_code (site_of g b x) m alts other.size in
     CodeFollows g b x (select_code (site_of g b x) pri (alternatives x m alts) (distances (site_of g b x) m 0 alts) branches (Some branches.size) other) k

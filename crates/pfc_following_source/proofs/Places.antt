@@ -34,7 +34,7 @@ module _ (g : Setting) (at : ℕ) where
   of_piece (newline e f is) = there _ _ is
 
   of_fault : {line : ℕ} {ops : List ℤ} {arms : List Arm} {f : RunFault} → IsFault g line at ops arms f → There g at
-  of_fault (of_operands i is can effect) = there _ _ is
+  of_fault (of_operands i is can effect may) = there _ _ is
   of_fault (of_number_width t n w below e h is) = there _ _ is
   of_fault (of_string_width s w text below e f h is) = there _ _ is
 

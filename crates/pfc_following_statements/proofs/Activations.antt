@@ -1,5 +1,6 @@
 -- The code of an activation and of the call of an entry follows the next action of its source text, and so does that of every call.
 use Rattle.std.proofs.Common.{◌≡◌, ℕ, suc, ◌+◌, ◌≤◌, ℤ, pos, List, [], ◌∷◌, length, option_map, Option, Some, None, refl, sym, ap, ◌∙◌, subst, arith}
+use Rattle.std.proofs.Common.{inl}
 use Rattle.pfc_base.specs.declared.places.Place.{Place}
 use Rattle.pfc_code.specs.declared.instructions.Instr.{Instr}
 use Rattle.pfc_code.specs.declared.instructions.Instr.TheVariants.{OBJ, NEW, ECALL}
@@ -37,7 +38,7 @@ use Rattle.pfc_standing_code.specs.Settings.{Setting, of_own, site_of, IsAt, Sta
 use Rattle.pfc_standing_code.specs.Typed.{IsDeclared, IsField as IsPartField, AreArguments, AreSelectors, AreIndices}
 use Rattle.pfc_standing_code.specs.TypedStatements.{HasProcessForm, IsProcessType, IsActivation, IsEntryCall, IsEntry, IsProcess, IsField, IsCalledVariable}
 use Rattle.pfc_standing_code.specs.TypedStatements.{IsCalledProcess, IsExported, IsModuleCall, IsCalled, IsCall}
-use Rattle.pfc_standing_code.specs.Words.{first_word, IsWord, IsObject, IsChecked, none_held}
+use Rattle.pfc_standing_code.specs.Words.{first_word, IsWord, IsObject, IsChecked, none_held, Lends, LendsAt}
 use Rattle.pfc_standing_code.specs.Performs.{Performs}
 use Rattle.pfc_standing_code.specs.Awaits.{ObjectThen, TakesLocation, CallsAt}
 use Rattle.pfc_standing_code.specs.Following.{Follows}
@@ -120,10 +121,11 @@ module _ (g : Setting) (b : Block) (names : List Level) (around : Around) (check
   reached_part :
       (q : ℕ) (v : TypedSpot) (ss : SelectorTrees) (u : TypeId) (code : Code) (goal : AwaitsLocation) (k : Remainder)
       → ((at : ℕ) (ops : List ℤ) → HasProcessForm s q u → ObjectThen g s at ops code (λ end. left end ops k) → TakesLocation g b x at ops [] (Some u) goal)
-      → Reaches q v ss (Some u) code goal k
-  reached_part q v ss u code goal k met go at n mid ops declared selects is st ends object on =
-      address_follows g b names around checked line [] few v ss (Some u) declared selects (selectors_follow g b names around checked line [] few ss) goal go
-      at n mid ops st ends (met mid ops is object) (λ p y lies. on p y is lies)
+      → LendsAt s v.spot goal → Reaches q v ss (Some u) code goal k
+  reached_part q v ss u code goal k met lends go at n mid ops declared selects is st ends object on =
+      address_follows g b names around checked line [] few v ss (Some u) declared (inl own) selects
+      (selectors_follow g b names around checked line [] few ss) goal go at n mid ops st ends (met mid ops is object) lends
+      (λ p y lies may lent. on p y is lies)
 
   reached_single : (q : ℕ) (v : TypedSpot) (ss : SelectorTrees) (code : Code) (goal : AwaitsLocation) (k : Remainder) → Reaches q v ss None code goal k
   reached_single q v ss code goal k go at n mid ops declared selects is st ends object on =
@@ -144,8 +146,9 @@ module _ (g : Setting) (b : Block) (names : List Level) (around : Around) (check
       → at + (part v ss ⨾ one s OBJ ⨾ args_code s formals args ⨾ one s i).size ≡ to → left to ops k
       → ((p : TypedSpot) (at : ℕ) (j : ℤ) → IsProcessType s q p.spot t → IsObject g s p.spot t j → IsAt g at i line → left (at + 1) ops k
       → CallsAt g b x at (j ∷ ops) [] formals (call p))
+      → ((p : TypedSpot) → Lends s [] formals args (call p))
       → Follows g (from_selectors x v ss goal (λ p. from_args x formals args [] (call p))) at ops []
-  process_then q v ss t formals args i goal call k at n to ops reach declared selects process fit st ends rest calls =
+  process_then q v ss t formals args i goal call k at n to ops reach declared selects process fit st ends rest calls lends =
       let address = part v ss in
       let inner = args_code s formals args in
       let code = inner ⨾ one s i in
@@ -163,7 +166,7 @@ module _ (g : Setting) (b : Block) (names : List Level) (around : Around) (check
       reach (λ p. from_args x formals args [] (call p)) at n mid ops declared selects process parts.first refl (parts.obj, parts.i, parts.behind, after)
       (λ p y is lies. numbered_follows g b names around checked few own line p.spot t y mid ops lies (process_is_object s q p.spot t is) parts.obj parts.room
       (λ j object. arguments_follow g b x checked [] few args formals fit [] [] (call p) (mid + 1) parts.i (j ∷ ops) (j ∷ ops) (none_held (j ∷ ops))
-      (front g inner (one s i) parts.behind) (calls p (mid + 1 + inner.size) j is object is_it after_last)))
+      (front g inner (one s i) parts.behind) (calls p (mid + 1 + inner.size) j is object is_it after_last) (lends p)))
 
   pub activation_follows :
       (q : ℕ) (v : TypedSpot) (ss : SelectorTrees) (args : ActualTrees) (k : Remainder) (at n to : ℕ) (ops : List ℤ)
@@ -173,6 +176,7 @@ module _ (g : Setting) (b : Block) (names : List Level) (around : Around) (check
   activation_follows q v ss args k at n to ops is st ends rest =
       process_then q v ss is.t head.formals args new goal (λ p. to_process p.spot k) k at n to ops (reach is.t) is.called.0 is.called.1 is.process is.arguments
       st ends rest (λ p at j process object there rest. ((own, refl), (is.t, q, j, ops, process, is.among, refl, is.taken, refl, object, there, rest)))
+      (λ p. tt)
     where
       head : ProcessHead
       head = process_at g.program.state.blocks q
@@ -187,7 +191,7 @@ module _ (g : Setting) (b : Block) (names : List Level) (around : Around) (check
       reach None = reached_single q v ss (args_code s head.formals args ⨾ one s new) goal k
       reach (Some u) =
           reached_part q v ss u (args_code s head.formals args ⨾ one s new) goal k
-          (λ at ops process object. ((own, refl), (q, u, refl, process, is.among, refl, object, is.arguments, is.taken)))
+          (λ at ops process object. ((own, refl), (q, u, refl, process, is.among, refl, object, is.arguments, is.taken))) tt
 
   pub entry_call_follows :
       (q entry : ℕ) (v : TypedSpot) (ss : SelectorTrees) (args : ActualTrees) (k : Remainder) (go : Action) (at n to : ℕ) (ops : List ℤ)
@@ -197,6 +201,7 @@ module _ (g : Setting) (b : Block) (names : List Level) (around : Around) (check
   entry_call_follows q entry v ss args k go at n to ops is st ends rest =
       process_then q v ss is.t formals args calls goal (λ p. to_entry p.spot entry k) k at n to ops (reach is.t) is.called.0 is.called.1 is.process is.arguments
       st ends rest (λ p at j process object there rest. ((own, refl), (is.t, q, j, ops, process, is.among, refl, refl, object, there, rest)))
+      (λ p. tt)
     where
       formals : List Formal
       formals = entry_at g.program.state.blocks q entry
@@ -211,7 +216,7 @@ module _ (g : Setting) (b : Block) (names : List Level) (around : Around) (check
       reach None = reached_single q v ss (args_code s formals args ⨾ one s calls) goal k
       reach (Some u) =
           reached_part q v ss u (args_code s formals args ⨾ one s calls) goal k
-          (λ at ops process object. ((own, refl), (q, u, refl, process, is.among, refl, object, is.arguments)))
+          (λ at ops process object. ((own, refl), (q, u, refl, process, is.among, refl, object, is.arguments))) tt
 
   -- ## Every call
 

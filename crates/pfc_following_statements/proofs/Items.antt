@@ -1,6 +1,7 @@
 -- The code of `write` and of `read` follows the next action of its source text, and so do calls of subs and requeues.
 use Rattle.std.proofs.Common.{◌≡◌, ℕ, suc, ◌+◌, ◌≤◌, ℤ, Bool, true, false, List, [], ◌∷◌, length, Option, Some, None, Result, Ok, Err, refl, sym, ap, ◌∙◌}
 use Rattle.std.proofs.Common.{subst, arith}
+use Rattle.std.proofs.lemmas.List.Elements.{All-nil}
 use Rattle.pfc_base.specs.declared.faults.RunFault.{RunFault}
 use Rattle.pfc_code.specs.declared.instructions.Instr.TheVariants.{REQ, WRNL, RDNL}
 use Rattle.pfc_tree.specs.Symbols.{Text}
@@ -27,9 +28,9 @@ use Rattle.pfc_translation.specs.Calls.{write_instr, read_instr, plain_item, wid
 use Rattle.pfc_translation.specs.Calls.{enter_instr, resource_of, sub_code}
 use Rattle.pfc_standing_code.specs.Shapes.{a_number}
 use Rattle.pfc_standing_code.specs.Settings.{Setting, of_own, AreOver, site_of, IsAt, Stands, arrived}
-use Rattle.pfc_standing_code.specs.Typed.{ByName, FromOutside, ByRequeue, HasShape}
-use Rattle.pfc_standing_code.specs.TypedStatements.{IsItem, IsWritten, AreWritten, IsRead, AreRead, IsSubCall}
-use Rattle.pfc_standing_code.specs.Words.{IsChecked, none_held}
+use Rattle.pfc_standing_code.specs.Typed.{ByName, FromOutside, HasShape}
+use Rattle.pfc_standing_code.specs.TypedStatements.{IsItem, IsWritten, AreWritten, IsRead, AreRead, IsSubCall, IsSubRequeue}
+use Rattle.pfc_standing_code.specs.Words.{IsChecked, none_held, IsLasting}
 use Rattle.pfc_standing_code.specs.Performs.{Performs}
 use Rattle.pfc_standing_code.specs.Awaits.{PadAt, of_number, of_string}
 use Rattle.pfc_standing_code.specs.Following.{number, wide_number, string as piece_string, wide_string, newline, of_number_width, of_string_width, Follows}
@@ -191,7 +192,7 @@ module _ (g : Setting) (b : Block) (names : List Level) (around : Around) (check
       (held_grown g.program code 1 (desig_changes s checked.sound d (Some is.0) is.2) at n (length ops) ∙ omega arith) st in
       let is_it = lone g s (λ at n. i) last in
       let after = moved (at + (code ⨾ one s i).size) (mid + 1) ops k (omega arith) rest in
-      variable_follows g b x checked [] few d (Some is.0) is.2 (input_to t k) (λ l. inputs x t l.spot k) at n ops (front g code (one s i) st)
+      variable_follows g b x checked own [] few d (Some is.0) is.2 (input_to t k) (λ v. tt) (λ l. inputs x t l.spot k) at n ops (front g code (one s i) st)
       ((own, refl), (is.0, refl, is.1, is_it, after))
       (λ l w lies. arrives mid (w ∷ ops) [] (b, checked, ((own, refl), (w, ops, refl, (is.0, is.1, lies), is_it, after))))
 
@@ -227,7 +228,7 @@ module _ (g : Setting) (b : Block) (names : List Level) (around : Around) (check
       let last = back g code (one s i) (w + length ops) (sized_args s sub.formals args)
       (held_grown g.program code w (args_change s checked.sound sub.formals args is.1) at n (length ops)) st in
       arguments_follow g b x checked [] few args sub.formals is.1 [] [] (to_procedure sub.scope k) at n ops ops (none_held ops) (front g code (one s i) st)
-      ((own, refl), (is.0.headed, is.0.taken, is.0.leaves, lone g s (λ at n. i) last, moved to (at + code.size + 1) ops k (omega arith) rest))
+      ((own, refl), (is.0.headed, is.0.taken, is.0.leaves, lone g s (λ at n. i) last, moved to (at + code.size + 1) ops k (omega arith) rest)) tt
 
   -- of an exported procedure, from outside its module
   pub exported_follows :
@@ -245,13 +246,13 @@ module _ (g : Setting) (b : Block) (names : List Level) (around : Around) (check
       let last = back g code (one s i) (w + length ops) (sized_args s sub.formals args)
       (held_grown g.program code w (args_change s checked.sound sub.formals args is.1) at n (length ops)) st in
       arguments_follow g b x checked [] few args sub.formals is.1 [] [] (to_module m sub.scope k) at n ops ops (none_held ops) (front g code (one s i) st)
-      ((own, refl), (is.0.headed, is.0.taken, lone g s (λ at n. i) last, moved to (at + code.size + 1) ops k (omega arith) rest))
+      ((own, refl), (is.0.headed, is.0.taken, lone g s (λ at n. i) last, moved to (at + code.size + 1) ops k (omega arith) rest)) tt
 
   pub requeue_follows :
       (q : ℕ) (args : ActualTrees) (at n : ℕ) (ops : List ℤ)
       → (let sub = sub_at g.program.state.blocks q in
       let code = args_code s sub.formals args ⨾ one s (REQ (resource_of s) (block_number g.program sub.scope)) in
-      IsSubCall s (ByRequeue b) q args → AreOver g ops → Stands g at n (length ops) code →
+      IsSubRequeue s q args → AreOver g ops → Stands g at n (length ops) code →
       Follows g (from_args x sub.formals args [] (to_requeue sub.scope)) at ops [])
   requeue_follows q args at n ops is over st =
       let sub = sub_at g.program.state.blocks q in
@@ -261,4 +262,4 @@ module _ (g : Setting) (b : Block) (names : List Level) (around : Around) (check
       let last = back g code (one s i) (w + length ops) (sized_args s sub.formals args)
       (held_grown g.program code w (args_change s checked.sound sub.formals args is.1) at n (length ops)) st in
       arguments_follow g b x checked [] few args sub.formals is.1 [] [] (to_requeue sub.scope) at n ops ops (none_held ops) (front g code (one s i) st)
-      ((own, refl), (over, is.0.headed, is.0.taken, lone g s (λ at n. i) last))
+      ((own, refl), (over, is.0.headed, is.0.taken, lone g s (λ at n. i) last)) (All-nil (IsLasting s), is.2)

@@ -23,7 +23,7 @@ use Rattle.pfc_standing_code.specs.Shapes.{a_number, is_object_type}
 use Rattle.pfc_standing_code.specs.Settings.{Setting, of_own, site_of, Stands}
 use Rattle.pfc_standing_code.specs.Typed.{HasShape, IsGivenFirst, IsLentFirst}
 use Rattle.pfc_standing_code.specs.TypedStatements.{IsNumber, IsRank, IsProcedure}
-use Rattle.pfc_standing_code.specs.Words.{IsObject, IsChecked}
+use Rattle.pfc_standing_code.specs.Words.{IsObject, IsChecked, LendsAt}
 use Rattle.pfc_standing_code.specs.Performs.{Performs}
 use Rattle.pfc_standing_code.specs.Awaits.{ObjectThen, TakesLocation}
 use Rattle.pfc_standing_code.specs.Following.{Follows, arrives}
@@ -31,7 +31,7 @@ use Rattle.pfc_standing_code.proofs.Sizes.{sized_plain, sized_expr}
 use Rattle.pfc_following_expressions.proofs.Glue.{room_after, front, back, head, lone, tail}
 use Rattle.pfc_following_expressions.proofs.Held.{held_grown, expr_changes, first_changes, first_address_changes}
 use Rattle.pfc_following_expressions.proofs.Moves.{fits, next_move, follows_moved}
-use Rattle.pfc_following_expressions.proofs.Expressions.{env_in, first_follows, reference_follows}
+use Rattle.pfc_following_expressions.proofs.Expressions.{env_in, first_lent, first_follows, reference_follows}
 use Rattle.pfc_following_expressions.proofs.Anywhere.{expression_follows}
 use Rattle.pfc_following_statements.proofs.Items.{writes_follow, reads_follow}
 use Rattle.pfc_following_statements.proofs.Simple.{performs_moved, object_parts, numbered_follows}
@@ -49,22 +49,23 @@ module _ (g : Setting) (b : Block) (names : List Level) (around : Around) (check
 
   -- An object, and code behind its number. What waits for its address, and how the code behind the number follows, are given.
   object_then :
-      (args : ActualTrees) (t : TypeId) (code : Code) (goal : AwaitsLocation) (go : TypedSpot → Action) (k : Remainder) (at n to : ℕ) (ops : List ℤ)
+      (args : ActualTrees) (t : TypeId) (code : Code) (goal : AwaitsLocation) → ((v : Spot) → LendsAt s v goal)
+      → (go : TypedSpot → Action) (k : Remainder) (at n to : ℕ) (ops : List ℤ)
       → is_object_type g.program.state.forms (Some t) ≡ true → IsLentFirst s args (Some t) → Stands g at n (length ops) (first_object s args ⨾ code) →
       at + (first_object s args ⨾ code).size ≡ to → left to ops k
       → ((at : ℕ) → ObjectThen g s at ops code (λ end. left end ops k) → TakesLocation g b x at ops [] (Some t) goal)
       → ((v : TypedSpot) (at j : ℕ) (i : ℤ) → IsObject g s v.spot (Some t) i → Stands g at j (suc (length ops)) code →
       left (at + code.size) ops k → Follows g (go v) at (i ∷ ops) [])
       → Follows g (from_reference x args goal go) at ops []
-  object_then args t code goal go k at n to ops object lent st ends rest met on =
+  object_then args t code goal lends go k at n to ops object lent st ends rest met on =
       let address = first_address s args in
       let parts = object_parts g b names around checked few own line address code at n (length ops) (sized_plain address (plain_first_address s args))
       (first_address_changes s checked.sound args (Some t) lent) st in
       let mid = at + address.size in
       let after = performs_moved g b names around checked few own line to (mid + 1 + code.size) ops k (sym ends ∙ omega arith) rest in
-      reference_follows g b names around checked line [] few args (Some t) lent goal go at n mid ops parts.first refl
-      (met mid (parts.obj, parts.i, parts.behind, after))
-      (λ v w lies. numbered_follows g b names around checked few own line v.spot (Some t) w mid ops lies object parts.obj parts.room
+      reference_follows g b names around checked line [] few own args (Some t) lent goal go at n mid ops parts.first refl
+      (met mid (parts.obj, parts.i, parts.behind, after)) (lends (first_lent g b names around checked line [] few args))
+      (λ v w lies named. numbered_follows g b names around checked few own line v.spot (Some t) w mid ops lies object parts.obj parts.room
       (λ i is. on v (mid + 1) parts.i i is parts.behind after))
 
   pub wait_follows :
@@ -73,7 +74,7 @@ module _ (g : Setting) (b : Block) (names : List Level) (around : Around) (check
       at + (first_object s args ⨾ one s SWAIT).size ≡ to → left to ops k
       → Follows g (from_reference x args (wait_at k) (λ v. waits x v.spot k)) at ops []
   wait_follows args k at n to ops lent st ends rest =
-      object_then args semaphore (one s SWAIT) (wait_at k) (λ v. waits x v.spot k) k at n to ops refl lent st ends rest
+      object_then args semaphore (one s SWAIT) (wait_at k) (λ v. tt) (λ v. waits x v.spot k) k at n to ops refl lent st ends rest
       (λ at object. ((own, refl), (refl, object)))
       (λ v at j i is st rest. arrives at (i ∷ ops) [] (b, checked, ((own, refl), (i, ops, refl, is, lone g s (λ at n. SWAIT) st, rest))))
 
@@ -83,7 +84,7 @@ module _ (g : Setting) (b : Block) (names : List Level) (around : Around) (check
       at + (first_object s args ⨾ one s SSIG).size ≡ to → left to ops k
       → Follows g (from_reference x args (signal_at k) (λ v. signals x v.spot k)) at ops []
   signal_follows args k at n to ops lent st ends rest =
-      object_then args semaphore (one s SSIG) (signal_at k) (λ v. signals x v.spot k) k at n to ops refl lent st ends rest
+      object_then args semaphore (one s SSIG) (signal_at k) (λ v. tt) (λ v. signals x v.spot k) k at n to ops refl lent st ends rest
       (λ at object. ((own, refl), (refl, object)))
       (λ v at j i is st rest. arrives at (i ∷ ops) [] (b, checked, ((own, refl), (i, ops, refl, is, lone g s (λ at n. SSIG) st, rest))))
 
@@ -93,7 +94,7 @@ module _ (g : Setting) (b : Block) (names : List Level) (around : Around) (check
       at + (first_object s args ⨾ one s RESUME).size ≡ to → left to ops k
       → Follows g (from_reference x args (resume_at k) (λ v. resumes x v.spot k)) at ops []
   resume_follows args k at n to ops lent st ends rest =
-      object_then args condition (one s RESUME) (resume_at k) (λ v. resumes x v.spot k) k at n to ops refl lent st ends rest
+      object_then args condition (one s RESUME) (resume_at k) (λ v. tt) (λ v. resumes x v.spot k) k at n to ops refl lent st ends rest
       (λ at object. ((own, refl), (refl, object)))
       (λ v at j i is st rest. arrives at (i ∷ ops) [] (b, checked, ((own, refl), (i, ops, refl, is, lone g s (λ at n. RESUME) st, rest))))
 
@@ -119,7 +120,7 @@ module _ (g : Setting) (b : Block) (names : List Level) (around : Around) (check
       at + (first_object s args ⨾ expr_code s e ⨾ one s SINI).size ≡ to → left to ops k
       → Follows g (from_reference x args (initial_to e k) (λ v. from_expr x e (set_count v.spot k) (λ c. initials x v.spot (ordinal_of c) k))) at ops []
   initial_follows args e k at n to ops lent num st ends rest =
-      object_then args semaphore (expr_code s e ⨾ one s SINI) (initial_to e k) (λ v. from_expr x e (set_count v.spot k)
+      object_then args semaphore (expr_code s e ⨾ one s SINI) (initial_to e k) (λ v. tt) (λ v. from_expr x e (set_count v.spot k)
       (λ c. initials x v.spot (ordinal_of c) k)) k at n to ops refl lent st ends rest
       (λ at object. ((own, refl), (refl, num, object)))
       (λ v at j i is st rest. count_follows v.spot e k at j i ops num is st rest)
@@ -154,7 +155,8 @@ module _ (g : Setting) (b : Block) (names : List Level) (around : Around) (check
       at + (first_object s args ⨾ rank_code s rank ⨾ one s DELAY).size ≡ to → left to ops k
       → Follows g (from_reference x args (delay_at rank k) (λ v. from_delay x v.spot rank k)) at ops []
   delay_follows args rank k at n to ops lent num st ends rest =
-      object_then args condition (rank_code s rank ⨾ one s DELAY) (delay_at rank k) (λ v. from_delay x v.spot rank k) k at n to ops refl lent st ends rest
+      object_then args condition (rank_code s rank ⨾ one s DELAY) (delay_at rank k) (λ v. tt)
+      (λ v. from_delay x v.spot rank k) k at n to ops refl lent st ends rest
       (λ at object. ((own, refl), (refl, num, object)))
       (λ v at j i is st rest. rank_follows v.spot rank k at j i ops num is st rest)
 

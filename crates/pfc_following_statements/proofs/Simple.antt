@@ -109,7 +109,7 @@ module _ (g : Setting) (b : Block) (names : List Level) (around : Around) (check
       let behind = back g first last (suc (length ops)) (sized_desig s d)
       (held_grown g.program first 1 (desig_changes s checked.sound d (Some is.t) is.target) at n (length ops) ∙ omega arith) st in
       let rest = performs_moved to (mid + last.size) ops k (omega arith) left in
-      variable_follows g b x checked [] few d (Some is.t) is.target (assign_to e k)
+      variable_follows g b x checked own [] few d (Some is.t) is.target (assign_to e k) (λ v. tt)
       (λ v. from_expr x e (store_at v.spot k) (λ a. writes x v.spot a k)) at n ops (front g first last st)
       ((own, refl), (is.t, refl, is.value, is.cells, m, behind, rest, is.values))
       (λ l y lies. stored_follows l.spot is.t e k y mid m ops lies is.value is.cells is.values behind rest)
@@ -214,7 +214,7 @@ module _ (g : Setting) (b : Block) (names : List Level) (around : Around) (check
       let parts = object_parts first last at n (length ops) (sized_desig s d) (desig_changes s checked.sound d is.t is.channel) st in
       let mid = at + first.size in
       let rest = performs_moved to (mid + 1 + last.size) ops k (omega arith) left in
-      variable_follows g b x checked [] few d is.t is.channel (send_to m k) (λ channel. from_sent x channel.spot m k) at n ops parts.first
+      variable_follows g b x checked own [] few d is.t is.channel (send_to m k) (λ v. tt) (λ channel. from_sent x channel.spot m k) at n ops parts.first
       ((own, refl), (is.u, is.carries, is.message, (parts.obj, parts.i, parts.behind, rest)))
       (λ l w lies. numbered_follows l.spot is.t w mid ops lies (channel_is_object g.program.state.forms is.t is.u is.carries) parts.obj parts.room
       (λ i object. sent_follows l.spot is.t is.u i m k (mid + 1) parts.i ops is.carries object is.message parts.behind rest))
@@ -258,8 +258,8 @@ module _ (g : Setting) (b : Block) (names : List Level) (around : Around) (check
       let receive : IsAt g (at + target.size) (RECV w) line =
       subst (λ (y : ℕ). IsAt g (at + target.size) (RECV y) line) is.1 (lone g s (λ at n. RECV z) behind) in
       let rest = performs_moved (at + (target.size + 1)) (at + target.size + 1) ops k (omega arith) left in
-      variable_follows g b x checked [] few d (Some u) is.0 (receive_into channel k) (λ v. meets x (plain_open (to_receive channel (Some v.spot))) k) at n
-      (i ∷ ops) (front g target (one s (RECV z)) st)
+      variable_follows g b x checked own [] few d (Some u) is.0 (receive_into channel k) (λ v. tt)
+      (λ v. meets x (plain_open (to_receive channel (Some v.spot))) k) at n (i ∷ ops) (front g target (one s (RECV z)) st)
       ((own, refl), (t, u, i, ops, refl, is.2, carries, refl, object, receive, rest))
       (λ l y lies. arrives (at + target.size) (y ∷ i ∷ ops) [] (
         b,
@@ -284,7 +284,8 @@ module _ (g : Setting) (b : Block) (names : List Level) (around : Around) (check
       let parts = object_parts first last at n (length ops) (sized_desig s d) (desig_changes s checked.sound d is.t is.channel) st in
       let mid = at + first.size in
       let rest = performs_moved to (mid + 1 + last.size) ops k (omega arith) left in
-      variable_follows g b x checked [] few d is.t is.channel (receive_from r k) (λ channel. from_received x channel.spot r k) at n ops parts.first
+      variable_follows g b x checked own [] few d is.t is.channel (receive_from r k) (λ v. tt)
+      (λ channel. from_received x channel.spot r k) at n ops parts.first
       ((own, refl), (is.u, is.carries, is.receiver, (parts.obj, parts.i, parts.behind, rest)))
       (λ l w lies. numbered_follows l.spot is.t w mid ops lies (channel_is_object g.program.state.forms is.t is.u is.carries) parts.obj parts.room
       (λ i object. received_follows l.spot is.t is.u i r k (mid + 1) parts.i ops is.carries object is.receiver parts.behind rest))

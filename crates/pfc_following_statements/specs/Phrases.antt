@@ -20,8 +20,9 @@ use Rattle.pfc_translation.specs.Calls.{writes_code, reads_code, procedure_code,
 use Rattle.pfc_translation.specs.Selects.{send_code, receive_code}
 use Rattle.pfc_translation.specs.Statements.{assign_code}
 use Rattle.pfc_standing_code.specs.Settings.{Setting, of_own, AreOver, site_of, Stands}
-use Rattle.pfc_standing_code.specs.Typed.{ByName, FromOutside, ByRequeue}
-use Rattle.pfc_standing_code.specs.TypedStatements.{IsAssignment, IsSend, IsReceive, AreWritten, AreRead, IsProcedure, IsSubCall, IsActivation, IsEntryCall}
+use Rattle.pfc_standing_code.specs.Typed.{ByName, FromOutside}
+use Rattle.pfc_standing_code.specs.TypedStatements.{IsAssignment, IsSend, IsReceive, AreWritten, AreRead, IsProcedure, IsSubCall, IsSubRequeue, IsActivation}
+use Rattle.pfc_standing_code.specs.TypedStatements.{IsEntryCall}
 use Rattle.pfc_standing_code.specs.TypedStatements.{IsCall}
 use Rattle.pfc_standing_code.specs.Words.{IsChecked}
 use Rattle.pfc_standing_code.specs.Performs.{Performs}
@@ -78,7 +79,7 @@ ModuleCallFollows g b x =
 
 abbrev pub RequeueFollows : Setting → Block → Context → Type 0
 RequeueFollows g b x =
-    IsChecked g b x.env → g.trial ≡ of_own → (q : ℕ) (args : ActualTrees) (go : Action) → IsSubCall (site_of g b x) (ByRequeue b) q args
+    IsChecked g b x.env → g.trial ≡ of_own → (q : ℕ) (args : ActualTrees) (go : Action) → IsSubRequeue (site_of g b x) q args
     → (at i : ℕ) (ops : List ℤ) → AreOver g ops → Stands g at i (length ops) (requeue_code (site_of g b x) (Some (Sub q)) args)
     → Follows g (from_requeue x (Some (Sub q)) args go) at ops []
 

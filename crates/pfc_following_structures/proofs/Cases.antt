@@ -1,6 +1,6 @@
 -- The tests of a `case` lead to the arm that has its value among the labels, or to a fault.
 use Rattle.std.proofs.Common.{◌≡◌, ℕ, suc, ◌+◌, ◌<◌, ◌≤◌, ℤ, Bool, true, false, ◌||◌, if◌then◌else◌, List, [], ◌∷◌, length, Option, Some, None, refl, sym, ap}
-use Rattle.std.proofs.Common.{◌∙◌, subst, arith}
+use Rattle.std.proofs.Common.{◌∙◌, subst, arith, inr}
 use Rattle.std.specs.Ordering.{int_eq}
 use Rattle.pfc_base.specs.declared.places.Place.{Place}
 use Rattle.pfc_base.specs.declared.faults.RunFault.TheVariants.{Case}
@@ -127,7 +127,7 @@ module _ (g : Setting) (b : Block) (names : List Level) (around : Around) (check
   pub no_arms_follow : ArmsFollow g b env no_arms
   no_arms_follow line m v k go tests i first n from to ops is begin whole_end rest on =
       let x : Context = record { env = env_in g names around; line = line } in
-      fault_at g [] few b x Case tests (v ∷ ops) CERR is.tests_stand.has.0 (fits g [] CERR (v ∷ ops) (omega arith) tt tt) refl
+      fault_at g [] few b x Case tests (v ∷ ops) CERR is.tests_stand.has.0 (fits g [] CERR (v ∷ ops) (omega arith) tt tt) refl (inr refl)
 
   pub more_arms_follow : (ls : List Constant) (t : StmtTree) (arms : ArmTrees) → StatementFollows g b env t → ArmsFollow g b env arms →
       ArmsFollow g b env (more_arms (arm ls t) arms)
@@ -157,9 +157,9 @@ module _ (g : Setting) (b : Block) (names : List Level) (around : Around) (check
       let ended : to ≡ end = sym whole_end ∙ omega arith in
       let here = moved to end ops k ended rest in
       let inner_at : StmtAt g s first n (length ops) m t =
-      record { typed = is.typed.1; code = front g yes (over s JMP other_arms.size ⨾ other_arms) is.arms_stand } in
+      record { typed = is.typed.1; code = front g yes (over s JMP other_arms.size ⨾ other_arms) is.arms_stand; accepts = is.accepts } in
       let arms_at : ArmsAt g s mid (i + length labels.texts) (y + 1) (j + 0) next from_next (length ops) arms =
-      record { typed = is.typed.2; tests_stand = tests_behind; arms_stand = third } in
+      record { typed = is.typed.2; tests_stand = tests_behind; arms_stand = third; accepts = is.accepts } in
       let target : tests + length ls + between ≡ first = sym (begin ∙ omega arith) in
       let count : y + 1 ≡ mid + label_count arms + 1 + from_next = omega (arith, begin, labels_are) in
       labels_follow line ls v between first tests i (1 + length ops) ops (from_stmt env m t k go)
@@ -193,6 +193,7 @@ module _ (g : Setting) (b : Block) (names : List Level) (around : Around) (check
             stands_over g (1 + length ops) over_value (front g (tests ⨾ one s CERR) all (first_joined g tests (one s CERR) all behind));
         arms_stand =
             stands_moved g first start last_part;
+        accepts = is.accepts;
       } in
       let end : first + all.size ≡ to = omega (arith, count) in
       expression_follows g b x checked [] few e a_number is.typed.0 (choose_arm m arms k) (λ v. from_arms x m (ordinal_of v) arms k go) at n ops

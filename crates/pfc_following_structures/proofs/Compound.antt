@@ -27,6 +27,7 @@ use Rattle.pfc_standing_code.specs.Settings.{Setting, of_own, site_of, IsAt, Sta
 use Rattle.pfc_standing_code.specs.Words.{IsChecked}
 use Rattle.pfc_standing_code.specs.Performs.{StmtAt, StmtsAt, Performs}
 use Rattle.pfc_standing_code.specs.Following.{of_loop, Follows, arrives}
+use Rattle.pfc_standing_code.proofs.Accepts.{see_accepts, sees_inside}
 use Rattle.pfc_standing_code.proofs.Sizes.{sized_expr, sized_stmt, sized_stmts}
 use Rattle.pfc_following_expressions.proofs.Glue.{room_for, front, back, head, lone, tail, stands_moved}
 use Rattle.pfc_following_expressions.proofs.Held.{held_grown, expr_changes}
@@ -61,7 +62,8 @@ module _ (g : Setting) (b : Block) (names : List Level) (around : Around) (check
 
   pub block_follows : (ts : StmtTrees) (first last p : Place) → StatementsFollow g b env ts → StatementFollows g b env (block (body ts first last) p)
   block_follows ts first last p inner line m k go at n to ops is e rest on =
-      inner line m k go at n to ops (record { typed = is.typed; code = is.code }) e rest on
+      inner line m k go at n to ops (record { typed = is.typed; code = is.code; accepts = see_accepts g (site line) ts is.accepts })
+      e rest on
 
   pub none_follow : StatementsFollow g b env no_stmts
   none_follow line m k go at n to ops is e rest on = follows_moved g [] few to at (sym e ∙ omega arith) on
@@ -81,9 +83,11 @@ module _ (g : Setting) (b : Block) (names : List Level) (around : Around) (check
       let mid = at + first.size in
       let held = stmt_changes t (site line) m checked.sound is.typed.0 in
       let code = back g first others (length ops) (sized_stmt (site line) m t) (held_grown g.program first 0 held at n (length ops) ∙ omega arith) is.code in
-      let others_at : StmtsAt g (site line) mid (n + length first.texts) (length ops) next ts = record { typed = is.typed.1; code = code } in
+      let others_at : StmtsAt g (site line) mid (n + length first.texts) (length ops) next ts =
+      record { typed = is.typed.1; code = code; accepts = see_accepts g (site line) ts is.accepts } in
       let end : mid + others.size ≡ to = omega arith in
-      one_follows line m (behind next ts k) (from_stmts env next ts k go) at n mid ops (record { typed = is.typed.0; code = front g first others is.code }) refl
+      one_follows line m (behind next ts k) (from_stmts env next ts k go) at n mid ops
+      (record { typed = is.typed.0; code = front g first others is.code; accepts = is.accepts }) refl
       (behind_left line next ts k mid (n + length first.texts) to ops others_at end rest)
       (others_follow line next k go mid (n + length first.texts) to ops others_at end rest on)
 
@@ -102,14 +106,23 @@ module _ (g : Setting) (b : Block) (names : List Level) (around : Around) (check
       (held_grown g.program test 1 (expr_changes s checked.sound e a_number is.typed.0) at n (length ops) ∙ omega arith) is.code in
       let third = tail g s (λ at k. JF (at + 1 + yes.size)) yes (length ops) (omega arith) behind in
       let is_test = head g s (λ at k. JF (at + 1 + yes.size)) yes behind in
-      let inner_at : StmtAt g s (mid + 1) (i + 0) (length ops) m t = record { typed = is.typed.1; code = third } in
+      let inner_at : StmtAt g s (mid + 1) (i + 0) (length ops) m t = record { typed = is.typed.1; code = third; accepts = is.accepts } in
       let ended : to ≡ end = omega arith in
       let up : mid < end = omega arith in
       let here = moved to end ops k ended rest in
       let none : Stands g end 0 (length ops) nothing = record { has = tt; texts = tt; room = room_for g third; arms = few } in
       expression_follows g b x checked [] few e a_number is.typed.0 (choose m t empty k) (λ v. if is_true (ordinal_of v) then
-      from_stmt env m t k go else go) at n ops (front g test (over s JF yes.size ⨾ yes) is.code)
-      ((own, refl), (refl, end, is_test, up, (i + 0, inner_at, here), (0, record { typed = tt; code = none }, moved end (end + 0) ops k (omega arith) here)))
+      from_stmt env m t k go else go) at n ops (front g test (over s JF yes.size ⨾ yes) is.code) (
+        (own, refl),
+        (
+          refl,
+          end,
+          is_test,
+          up,
+          (i + 0, inner_at, here),
+          (0, record { typed = tt; code = none; accepts = is.accepts }, moved end (end + 0) ops k (omega arith) here),
+        ),
+      )
       (λ v simple. test_move g [] few v (from_stmt env m t k go) go mid ops end p.line is_test up (room_for g third)
       (inner p.line m k go (mid + 1) (i + 0) end ops inner_at refl here (follows_moved g [] few to end ended on)) (follows_moved g [] few to end ended on))
 
@@ -138,9 +151,10 @@ module _ (g : Setting) (b : Block) (names : List Level) (around : Around) (check
       (i + 0) (length ops) ∙ omega arith) third in
       let fifth = tail g s (λ at k. JMP (at + 1 + no.size)) no (length ops) (omega arith) fourth in
       let is_jump = head g s (λ at k. JMP (at + 1 + no.size)) no fourth in
-      let yes_at : StmtAt g s (mid + 1) (i + 0) (length ops) m t = record { typed = is.typed.1; code = front g yes last third } in
+      let yes_at : StmtAt g s (mid + 1) (i + 0) (length ops) m t = record { typed = is.typed.1; code = front g yes last third; accepts = is.accepts } in
       let same : y + 1 ≡ from = omega arith in
-      let no_at : StmtAt g s from (j + 0) (length ops) next u = record { typed = is.typed.2; code = stands_moved g from same fifth } in
+      let no_at : StmtAt g s from (j + 0) (length ops) next u =
+      record { typed = is.typed.2; code = stands_moved g from same fifth; accepts = is.accepts } in
       let ended : to ≡ end = omega arith in
       let no_end : from + no.size ≡ end = omega arith in
       let up : mid < from = omega arith in
@@ -163,7 +177,7 @@ module _ (g : Setting) (b : Block) (names : List Level) (around : Around) (check
   again_left line m t k at n ops is rest =
       let code = stmt_code (site line) m t in
       let all : StmtsAt g (site line) at n (length ops) m (more_stmts t no_stmts) =
-      record { typed = (is.typed, tt); code = stands_alone g at n (length ops) code is.code } in
+      record { typed = (is.typed, tt); code = stands_alone g at n (length ops) code is.code; accepts = is.accepts } in
       ((own, refl), (at, arrived at, (line, (n, all, moved (at + code.size) (at + (code ⨾ nothing).size) ops k (omega arith) rest))))
 
   pub turns_follow :
@@ -188,6 +202,7 @@ module _ (g : Setting) (b : Block) (names : List Level) (around : Around) (check
         typed = is.typed;
         code =
             front g code (to_back s TURN code.size) is.code;
+        accepts = see_accepts g s ts is.accepts;
       }) refl
       ((own, refl), (mid, arrived mid, (line, at, turn_is, (n, is, whole))))
       (turns_follow line p.line m loop k mid at n ops turn_is is whole)
@@ -218,7 +233,8 @@ module _ (g : Setting) (b : Block) (names : List Level) (around : Around) (check
       (i + 0) (length ops) ∙ omega arith) third in
       let back_to : y - count ≡ a = omega arith in
       let turn_is : IsAt g y (TURN a) p.line = subst (λ (z : ℕ). IsAt g y (TURN z) p.line) back_to (lone g s (λ at k. TURN (at - count)) last) in
-      let inner_at : StmtAt g s (mid + 1) (i + 0) (length ops) m t = record { typed = is.typed.1; code = front g yes turn_code third } in
+      let inner_at : StmtAt g s (mid + 1) (i + 0) (length ops) m t =
+      record { typed = is.typed.1; code = front g yes turn_code third; accepts = is.accepts } in
       let same : a + (stmt_code (site line) m loop).size ≡ out = omega arith in
       test_move g [] few v (from_stmt env m t (turn m loop k) (turns (context env p.line) (again m loop k))) go mid ops out p.line is_test (omega arith)
       (room_for g third)
@@ -310,6 +326,7 @@ module _ (g : Setting) (b : Block) (names : List Level) (around : Around) (check
         typed = is.typed.0;
         code =
             front g code (test ⨾ last) is.code;
+        accepts = see_accepts g s ts is.accepts;
       }) refl
       ((own, refl), (mid, arrived mid, (line, at, refl, (n, is, whole))))
       (expression_follows g b x checked [] few e a_number is.typed.1 (until_true m ts e p k) (from_until x m loop k go) mid i ops (front g test last behind)
@@ -352,6 +369,7 @@ module _ (g : Setting) (b : Block) (names : List Level) (around : Around) (check
         typed = is.typed;
         code =
             front g code (one (at_line s last.line) COEND) is.code;
+        accepts = see_accepts g s ts is.accepts;
       }) refl
       ((own, refl), (mid, arrived mid, (coend_is, after)))
       (arrives mid ops [] (b, checked, ((own, refl), (coend_is, after))))
@@ -361,7 +379,7 @@ module _ (g : Setting) (b : Block) (names : List Level) (around : Around) (check
       → IsAt g at EACC line × ((n : ℕ) × StmtsAt g (site line) (at + 1) n (length ops) 0 no_stmts × left (at + 1 + 0) ops k)
   accept_ended line k at i ops st rest =
       let none : Stands g (at + 1) 0 (length ops) nothing = record { has = tt; texts = tt; room = room_for g st; arms = few } in
-      (lone g (site line) (λ at n. EACC) st, (0, record { typed = tt; code = none }, moved (at + 1) (at + 1 + 0) ops k (omega arith) rest))
+      (lone g (site line) (λ at n. EACC) st, (0, record { typed = tt; code = none; accepts = tt }, moved (at + 1) (at + 1 + 0) ops k (omega arith) rest))
 
   pub accept_follows : (a : AcceptTree) (p : Place) → StatementFollows g b env (accepting a p)
   accept_follows (accept y gs q) p line m k go at n to ops is whole_end rest on =
@@ -380,7 +398,15 @@ module _ (g : Setting) (b : Block) (names : List Level) (around : Around) (check
             (refl, refl),
             (
               head g s (λ at n. i) (nothing ⨾ one s EACC) is.code,
-              (is.typed, (n + 0, record { typed = tt; code = none }, accept_ended p.line k (at + 1 + 0) (n + 0 + 0) ops last after)),
+              (
+                is.typed,
+                (
+                  n + 0,
+                  record { typed = tt; code = none; accepts = sees_inside g s m is.accepts },
+                  accept_ended p.line k (at + 1 + 0) (n + 0 + 0) ops last after,
+                ),
+                is.accepts,
+              ),
             ),
           ),
         ),
@@ -407,10 +433,11 @@ module _ (g : Setting) (b : Block) (names : List Level) (around : Around) (check
                 is.typed.0,
                 (
                   n + 0,
-                  record { typed = is.typed.1; code = front g inner (one s EACC) behind },
+                  record { typed = is.typed.1; code = front g inner (one s EACC) behind; accepts = sees_inside g s m is.accepts },
                   accept_ended p.line k (at + 1 + inner.size)
                       (n + 0 + length inner.texts) ops last after,
                 ),
+                is.accepts,
               ),
             ),
           ),

@@ -24,7 +24,7 @@ use Rattle.pfc_translation.specs.Addresses.{base_code}
 use Rattle.pfc_translation.specs.Expressions.{expr_code}
 use Rattle.pfc_translation.specs.Statements.{stmt_code}
 use Rattle.pfc_standing_code.specs.Shapes.{a_number}
-use Rattle.pfc_standing_code.specs.Settings.{Setting, of_own, site_of, IsAt, Stands, arrived}
+use Rattle.pfc_standing_code.specs.Settings.{Setting, of_own, site_of, SeesAccepts, IsAt, Stands, arrived}
 use Rattle.pfc_standing_code.specs.Effects.{of_own_effect, effect_of}
 use Rattle.pfc_standing_code.specs.Typed.{HasShape}
 use Rattle.pfc_standing_code.specs.TypedStatements.{IsTyped}
@@ -128,9 +128,10 @@ module _ (g : Setting) (b : Block) (names : List Level) (around : Around) (check
 
   -- the test of both bounds, and a pass
   pass_parts :
-      (f : Count) (at n held : ℕ) → 3 ≤ held → IsTyped (site f.line) f.next f.pass → Stands g at n held (pass_code (site f.line) f.down f.next f.pass)
+      (f : Count) (at n held : ℕ) → 3 ≤ held → IsTyped (site f.line) f.next f.pass → SeesAccepts g (site f.line)
+      → Stands g at n held (pass_code (site f.line) f.down f.next f.pass)
       → IsAt g at (FORB (direction f.down) (at + 1 + (inside f + 2))) f.line × ((i : ℕ) × HasPass g (site f.line) f (at + 1) i held)
-  pass_parts f at n held many typed st =
+  pass_parts f at n held many typed accepts st =
       let s = site f.line in
       let d = direction f.down in
       let inner = stmt_code s f.next f.pass in
@@ -145,7 +146,7 @@ module _ (g : Setting) (b : Block) (names : List Level) (around : Around) (check
           n + 0 + 0,
           record {
             write = head g s (λ at k. FORW) (inner ⨾ turn) second;
-            inner = record { typed = typed; code = front g inner turn third };
+            inner = record { typed = typed; code = front g inner turn third; accepts = accepts };
             back = subst (λ (z : ℕ). IsAt g (at + 1 + 1 + inner.size) (FORT d z) f.line) back_to (lone g s (λ at k. FORT d (at - (inner.size + 1))) fourth);
           },
         ),
@@ -154,18 +155,18 @@ module _ (g : Setting) (b : Block) (names : List Level) (around : Around) (check
   -- both bounds are held
   pub bounds_follow :
       (f : Count) (k : Remainder) (go : Action) (w : ℤ) (at n to : ℕ) (ops : List ℤ)
-      → IsSimpleWord g.view (site f.line) f.at w → IsTyped (site f.line) f.next f.pass →
-      Stands g at n (suc (suc (suc (length ops)))) (pass_code (site f.line) f.down f.next f.pass)
+      → IsSimpleWord g.view (site f.line) f.at w → IsTyped (site f.line) f.next f.pass → SeesAccepts g (site f.line)
+      → Stands g at n (suc (suc (suc (length ops)))) (pass_code (site f.line) f.down f.next f.pass)
       → at + (pass_code (site f.line) f.down f.next f.pass).size ≡ to → left to ops k → Follows g go to ops []
       → Follows g (from_bounds (context env f.line) f k go) at (f.last ∷ f.kept ∷ w ∷ ops) []
-  bounds_follow f k go w at n to ops lies typed st whole_end rest on = by (is_past f.down f.kept f.last) refl
+  bounds_follow f k go w at n to ops lies typed accepts st whole_end rest on = by (is_past f.down f.kept f.last) refl
     where
       by : (r : Bool) → is_past f.down f.kept f.last ≡ r → Follows g (if r then go else begin_pass (context env f.line) f k) at (f.last ∷ f.kept ∷ w ∷ ops) []
       by true past =
           let d = direction f.down in
           let end = at + 1 + (inside f + 2) in
           let all = f.last ∷ f.kept ∷ w ∷ ops in
-          let parts = pass_parts f at n (suc (suc (suc (length ops)))) (omega arith) typed st in
+          let parts = pass_parts f at n (suc (suc (suc (length ops)))) (omega arith) typed accepts st in
           let room : length ops ≤ g.room = (let most = room_for g st in omega arith) in
           let ended : to ≡ end = omega arith in
           move g [] few at all (FORB d end) f.line end ops parts.0 (fits g [] (FORB d end) all (omega arith) tt tt)
@@ -175,7 +176,7 @@ module _ (g : Setting) (b : Block) (names : List Level) (around : Around) (check
           let d = direction f.down in
           let end = at + 1 + (inside f + 2) in
           let all = f.last ∷ f.kept ∷ w ∷ ops in
-          let parts = pass_parts f at n (suc (suc (suc (length ops)))) (omega arith) typed st in
+          let parts = pass_parts f at n (suc (suc (suc (length ops)))) (omega arith) typed accepts st in
           let holds : HoldsCount g (site f.line) f all ops = record { w = w; held = refl; lies = lies; within = past } in
           let ended : to ≡ at + 1 + 1 + inside f + 1 = omega arith in
           next_move g [] few at all (FORB d end) f.line all parts.0 (fits g [] (FORB d end) all (omega arith) tt tt)
@@ -185,13 +186,13 @@ module _ (g : Setting) (b : Block) (names : List Level) (around : Around) (check
   -- the first bound is held
   pub second_follows :
       (line m : ℕ) (v : Spot) (kept w : ℤ) (down : Bool) (e : ExprTree) (t : StmtTree) (k : Remainder) (go : Action) (at n to : ℕ) (ops : List ℤ)
-      → IsSimpleWord g.view (site line) v w → HasShape (site line) e a_number → IsTyped (site line) m t
+      → IsSimpleWord g.view (site line) v w → HasShape (site line) e a_number → IsTyped (site line) m t → SeesAccepts g (site line)
       → Stands g at n (suc (suc (length ops))) (expr_code (site line) e ⨾ pass_code (site line) down m t) →
       at + (expr_code (site line) e ⨾ pass_code (site line) down m t).size ≡ to
       → left to ops k → Follows g go to ops []
       → Follows g (from_expr (context env line) e (count_to m v kept down t k)
       (λ last. from_bounds (context env line) (counting (context env line) m v (ordinal kept) last down t) k go)) at (kept ∷ w ∷ ops) []
-  second_follows line m v kept w down e t k go at n to ops lies num typed st whole_end rest on =
+  second_follows line m v kept w down e t k go at n to ops lies num typed accepts st whole_end rest on =
       let s = site line in
       let x : Context = record { env = env_in g names around; line = line } in
       let code = expr_code s e in
@@ -203,8 +204,8 @@ module _ (g : Setting) (b : Block) (names : List Level) (around : Around) (check
       let end : mid + pass.size ≡ to = omega arith in
       expression_follows g b x checked [] few e a_number num (count_to m v kept down t k)
       (λ last. from_bounds x (counting x m v (ordinal kept) last down t) k go) at n (kept ∷ w ∷ ops) (front g code pass st)
-      ((own, refl), (refl, w, ops, refl, lies, typed, i, behind, moved to (mid + pass.size) ops k (sym end) rest))
-      (λ last simple. bounds_follow (counting x m v (ordinal kept) (ordinal last) down t) k go w mid i to ops lies typed behind end rest on)
+      ((own, refl), (refl, w, ops, refl, lies, typed, i, behind, moved to (mid + pass.size) ops k (sym end) rest, accepts))
+      (λ last simple. bounds_follow (counting x m v (ordinal kept) (ordinal last) down t) k go w mid i to ops lies typed accepts behind end rest on)
 
   pub for_follows : (y : Text) (from : ExprTree) (down : Bool) (last : ExprTree) (t : StmtTree) (p q : Place) →
       StatementFollows g b env (for_do y from down last t p q)
@@ -229,5 +230,5 @@ module _ (g : Setting) (b : Block) (names : List Level) (around : Around) (check
       (expression_follows g b x checked [] few from a_number is.typed.1 (count_from m v.spot down last t k)
       (λ kept. from_expr x last (count_to m v.spot (ordinal_of kept) down t k) (λ most. from_bounds x (counting x m v.spot kept most down t) k go)) (at + 1) i
       (w ∷ ops) (front g lower others behind)
-      ((own, refl), (refl, w, ops, refl, lies, is.typed.2, is.typed.3, j, third, moved to (mid + others.size) ops k (sym end) rest))
-      (λ kept simple. second_follows p.line m v.spot kept w down last t k go mid j to ops lies is.typed.2 is.typed.3 third end rest on))
+      ((own, refl), (refl, w, ops, refl, lies, is.typed.2, is.typed.3, j, third, moved to (mid + others.size) ops k (sym end) rest, is.accepts))
+      (λ kept simple. second_follows p.line m v.spot kept w down last t k go mid j to ops lies is.typed.2 is.typed.3 is.accepts third end rest on))

@@ -42,7 +42,7 @@ module _ (g : Setting) where
   stands_again b env line m t k at n ops own is rest =
       let code = stmt_code (site_of g b (context env line)) m t in
       let all : StmtsAt g (site_of g b (context env line)) at n (length ops) m (more_stmts t no_stmts) =
-      record { typed = (is.typed, tt); code = stands_alone g at n (length ops) code is.code } in
+      record { typed = (is.typed, tt); code = stands_alone g at n (length ops) code is.code; accepts = is.accepts } in
       ((own, refl), (at, arrived at, (line, (n, all, moved b env (at + code.size) (at + (code ⨾ nothing).size) ops k (omega arith) rest))))
 
 pub remainder_follows : (g : Setting) → RemainderFollows g

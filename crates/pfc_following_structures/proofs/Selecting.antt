@@ -20,10 +20,10 @@ module _ (g : Setting) (b : Block) (names : List Level) (around : Around) (check
 
   pub selected_follows : (pri : Bool) (alts : AltTrees) (p q : Place) → StatementFollows g b env (select pri alts p q)
   selected_follows pri alts p q line m k go at n to ops is whole_end rest on =
-      select_follows_anywhere g b (context (env_in g names around) p.line) checked own pri m alts k is.typed at n ops is.code
+      select_follows_anywhere g b (context (env_in g names around) p.line) checked own pri m alts k is.typed is.accepts at n ops is.code
       (performs_at g b (env_in g names around) k to _ ops (sym whole_end) rest)
 
   pub selected_else_follows : (pri : Bool) (alts : AltTrees) (ts : StmtTrees) (at p q : Place) → StatementFollows g b env (select_else pri alts ts at p q)
   selected_else_follows pri alts ts place p q line m k go at n to ops is whole_end rest on =
-      select_else_follows_anywhere g b (context (env_in g names around) p.line) checked own pri m alts ts k is.typed.0 is.typed.1 at n ops is.code
-      (performs_at g b (env_in g names around) k to _ ops (sym whole_end) rest)
+      select_else_follows_anywhere g b (context (env_in g names around) p.line) checked own pri m alts ts k is.typed.0 is.typed.1 is.accepts
+      at n ops is.code (performs_at g b (env_in g names around) k to _ ops (sym whole_end) rest)

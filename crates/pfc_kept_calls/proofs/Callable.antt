@@ -275,13 +275,13 @@ module _ (facts : Facts) (m : Machine) (c : Config) (p : ℕ) (level : LivingLev
 pub procedure_may_be_called : (facts : Facts) (m : Machine) (c : Config) (p : ℕ) (level : LivingLevel) (x : Context) (scope : ℕ) (k : Remainder)
     (given : List Argument) → IsActing facts m c p level → HasArrived facts m c p level (calls x (to_procedure scope k) given) → MayCall level scope
 procedure_may_be_called facts m c p level x scope k given acting arrived =
-    let (b, checked, (formals, below, held, (alone, (sub, takes, leaves, there, behind)))) = arrived.arrived in
+    let (b, checked, (formals, below, held, (alone, (sub, takes, leaves, there, behind)), lends)) = arrived.arrived in
     may_call facts m c p level (calls x (to_procedure scope k) given) acting arrived alone.0 x b scope formals ByName by_name_unguarded checked.beside sub
 
 pub function_may_be_called : (facts : Facts) (m : Machine) (c : Config) (p : ℕ) (level : LivingLevel) (x : Context) (scope : ℕ) (u : AwaitsValue)
     (given : List Argument) → IsActing facts m c p level → HasArrived facts m c p level (calls x (to_function scope u) given) → MayCall level scope
 function_may_be_called facts m c p level x scope u given acting arrived =
-    let (b, checked, (formals, below, held, (own, (sub, takes, leaves, there, room, awaited)))) = arrived.arrived in
+    let (b, checked, (formals, below, held, (own, (sub, takes, leaves, there, room, awaited)), lends)) = arrived.arrived in
     may_call facts m c p level (calls x (to_function scope u) given) acting arrived own x b scope formals InExpressions in_expressions_unguarded
     checked.beside sub
 

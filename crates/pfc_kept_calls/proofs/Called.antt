@@ -241,7 +241,8 @@ module _ (facts : Facts) (m : Machine) (c : Config) (p : ℕ) (level : LivingLev
     body =
         body_performs inside code inner_block.room callee code.body (block.n + length
         (guard_code g callee callee.guard).texts) refl refl inner_block block.body
-        (body_ready facts.tree acting.alike.program.lawful acting.alike.program.unbroken inside callee inner_image refl (of_block k callee call.can.there)
+        (body_ready facts.tree acting.alike.program.lawful acting.alike.program.unbroken inside callee inner_image refl refl
+        (of_block k callee call.can.there)
         (record { known = checked.known; seen = checked.seen; placed = checked.placed; objects = checked.objects; beside = checked.beside }))
 
     at_entry : code.body ≡ code.entry

@@ -204,7 +204,7 @@ module _ (facts : Facts) (m : Machine) (c : Config) (p choice : ℕ) (level : Li
 -- of a procedure
 pub procedures_kept : AreKept CallsProcedure
 procedures_kept facts m c p choice level (calls x (to_procedure scope k) given) may acting arrived chosen =
-    let (b, checked, (formals, below, held, (alone, (sub, takes, leaves, there, behind)))) = arrived.arrived in
+    let (b, checked, (formals, below, held, (alone, (sub, takes, leaves, there, behind)), lends)) = arrived.arrived in
     kept_by facts m c p choice level acting x b scope formals ByName given below checked alone.0 may sub held there arrived.within (of_remainder x.env k) RET
     (calls x (to_procedure scope k) given)
     (ends_by (can facts m c p choice level acting x b scope formals ByName given below checked alone.0 may sub held there arrived.within).head
@@ -230,7 +230,7 @@ procedures_kept facts m c p choice level n may acting arrived chosen = absurd ma
 -- of a function
 pub functions_kept : AreKept CallsFunction
 functions_kept facts m c p choice level (calls x (to_function scope u) given) may acting arrived chosen =
-    let (b, checked, (formals, below, held, (own, (sub, takes, leaves, there, room, awaited)))) = arrived.arrived in
+    let (b, checked, (formals, below, held, (own, (sub, takes, leaves, there, room, awaited)), lends)) = arrived.arrived in
     kept_by facts m c p choice level acting x b scope formals InExpressions given below checked own may sub held there arrived.within (of_value x u) RETF
     (calls x
     (to_function scope u) given)

@@ -81,6 +81,8 @@ module _ (g : Setting) (view : View) (start : Block) (names : Env → Bool) (agr
         q.11,
         stands_seen before view _ q.11 (suc (length q.2)) _ q.12,
         locations_kept goal _ q.2 arms q.3 inside q.13,
+        q.14,
+        q.15,
       )
       values_kept (pass_value rest args given call) at ops arms h inside q = (
         q.0,
@@ -96,6 +98,7 @@ module _ (g : Setting) (view : View) (start : Block) (names : Env → Bool) (agr
         stands_seen before view at q.9 _ _ q.10,
         calls_kept call _ q.3 arms (q.0 ++ q.1 ∷ rest) inside q.11,
         q.12,
+        q.13,
       )
       values_kept (store_at v k) at ops arms h inside p =
           let q = p.1 in
@@ -145,6 +148,7 @@ module _ (g : Setting) (view : View) (start : Block) (names : Env → Bool) (agr
               q.7,
               stands_seen before view at q.7 (suc (length ops)) _ q.8,
               left k _ q.2 inside q.9,
+              q.10,
             ),
           )
       values_kept (count_to m v a down t k) at ops arms h inside p =
@@ -160,6 +164,7 @@ module _ (g : Setting) (view : View) (start : Block) (names : Env → Bool) (agr
               q.6,
               stands_seen before view at q.6 (suc (length ops)) _ q.7,
               left k _ q.2 inside q.8,
+              q.9,
             ),
           )
       values_kept (show t k) at ops arms h inside p = let q = p.1 in (p.0, (q.0, q.1, left k (at + 1) ops inside q.2))
@@ -235,6 +240,7 @@ module _ (g : Setting) (view : View) (start : Block) (names : Env → Bool) (agr
         q.7,
         stands_seen before view at q.7 (suc (length ops)) _ q.8,
         calls_kept call _ q.2 arms (q.0 ++ q.1 ∷ rest) inside q.9,
+        q.10,
       )
       locations_kept (ask_empty u) at ops arms t inside p =
           let q = p.1 in (p.0, (q.0, q.1, q.2, q.3, values_kept u (at + 2) ops arms a_number inside q.4))

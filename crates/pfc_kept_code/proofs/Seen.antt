@@ -1,14 +1,15 @@
 -- Where code stands does not hang on what the activation sees of the machine.
 use Rattle.std.proofs.Common.{ℕ, suc, ◌+◌, ℤ, Bool, List, [], ◌∷◌, drop, length, Option, Some, None}
 use Rattle.pfc_tree.specs.Symbols.{Text}
-use Rattle.pfc_tree.specs.trees.Stmts.{StmtTree, StmtTrees, ArmTrees, CommTree, comm_accept, comm_send, comm_receive, timeout, terminate}
+use Rattle.pfc_tree.specs.trees.Stmts.{StmtTree, StmtTrees, ArmTrees, CommTree, no_stmts, more_stmts, comm_accept, comm_send, comm_receive, timeout, terminate}
 use Rattle.pfc_types.specs.rules.Statements.{comm_scopes}
 use Rattle.pfc_semantics.specs.Remainders.{Context, Replica, Accepting, Alternative, Otherwise}
 use Rattle.pfc_translation.specs.Sites.{Site}
 use Rattle.pfc_translation.specs.Codes.{Code, Lined}
 use Rattle.pfc_translation.specs.Selects.{first_of, replica_code}
 use Rattle.pfc_standing_code.specs.Settings.{View, Setting, HasCode, HasTexts, Stands, Leads, arrived, jump, Jumped}
-use Rattle.pfc_standing_code.specs.Performs.{StmtAt, StmtsAt, ArmsAt, StmtThen, StmtsThen, MetAt, BranchAt, CommBranchAt, BranchesAt, DecidesAt, accepted_in}
+use Rattle.pfc_standing_code.specs.Performs.{SeeAccepts, StmtAt, StmtsAt, ArmsAt, StmtThen, StmtsThen, MetAt, BranchAt, CommBranchAt, BranchesAt}
+use Rattle.pfc_standing_code.specs.Performs.{DecidesAt, accepted_in}
 use Rattle.pfc_standing_code.specs.Awaits.{ObjectThen}
 
 module _ (g : Setting) (view : View) (accepts meetings : List ℕ) where
@@ -46,10 +47,15 @@ module _ (g : Setting) (view : View) where
   -- ## Statements
 
   pub stmt_seen : (s : Site) (at n held m : ℕ) (t : StmtTree) → StmtAt g s at n held m t → StmtAt other s at n held m t
-  stmt_seen s at n held m t h = record { typed = h.typed; code = stands_seen at n held _ h.code }
+  stmt_seen s at n held m t h = record { typed = h.typed; code = stands_seen at n held _ h.code; accepts = h.accepts }
+
+  see_seen : (s : Site) (ts : StmtTrees) → SeeAccepts g s ts → SeeAccepts other s ts
+  see_seen s no_stmts h = tt
+  see_seen s (more_stmts t ts) h = h
 
   stmts_seen : (s : Site) (at n held m : ℕ) (ts : StmtTrees) → StmtsAt g s at n held m ts → StmtsAt other s at n held m ts
-  stmts_seen s at n held m ts h = record { typed = h.typed; code = stands_seen at n held _ h.code }
+  stmts_seen s at n held m ts h =
+      record { typed = h.typed; code = stands_seen at n held _ h.code; accepts = see_seen s ts h.accepts }
 
   pub arms_seen : (s : Site) (tests k first n m from held : ℕ) (arms : ArmTrees) → ArmsAt g s tests k first n m from held arms
       → ArmsAt other s tests k first n m from held arms
@@ -58,6 +64,7 @@ module _ (g : Setting) (view : View) where
         typed = h.typed;
         tests_stand = stands_seen tests k (1 + held) _ h.tests_stand;
         arms_stand = stands_seen first n held _ h.arms_stand;
+        accepts = h.accepts;
       }
 
   pub stmt_then_seen : (s : Site) (at held m : ℕ) (t : StmtTree) (P Q : ℕ → Type 0) → ((end : ℕ) → P end → Q end) → StmtThen g s at held m t P
@@ -79,7 +86,7 @@ module _ (g : Setting) (view : View) where
   met_seen s at held None m ts P Q f h = stmts_then_seen s at held m ts P Q f h
   met_seen s at held (Some a) m ts P Q f h =
       let then = h.1 in
-      (h.0, (then.0, stmt_seen _ at then.0 held _ a.stmt then.1, (then.2.0, stmts_then_seen s _ held m ts P Q f then.2.1)))
+      (h.0, (then.0, stmt_seen _ at then.0 held _ a.stmt then.1, (then.2.0, stmts_then_seen s _ held m ts P Q f then.2.1)), h.2)
 
   pub branch_seen : (s : Site) (at held : ℕ) (r : Option Replica) (met : Option Accepting) (m : ℕ) (ts : StmtTrees) (P Q : ℕ → Type 0)
       → ((end : ℕ) → P end → Q end) → BranchAt g s at held r met m ts P → BranchAt other s at held r met m ts Q

@@ -56,6 +56,7 @@ module _ (g : Setting) (view : View) (s : Site) (agree : AgreeAt (unlined s) g.v
         left = alternatives_kept x at held alts sel h.left;
         open_ones = are_open_kept held sel.offered arms h.open_ones;
         room = h.room;
+        ahead = h.ahead;
         end = h.end;
         left_behind = f h.end h.left_behind;
       }
@@ -71,6 +72,7 @@ module _ (g : Setting) (view : View) (s : Site) (agree : AgreeAt (unlined s) g.v
         branch = comm_branch_seen g view s x (at + (code h.between).size + h.between) held a a.comm P Q f h.branch;
         others = select_kept x (at + (code h.between).size) held rest sel arms h.others;
         room = h.room;
+        far = h.far;
       }
 
   pub arm_kept : (x : Context) (at held : ℕ) (a : Alternative) (rest : List Alternative) (sel : Selecting) (arms : List Arm) (i : ℕ → Instr)
@@ -82,6 +84,7 @@ module _ (g : Setting) (view : View) (s : Site) (agree : AgreeAt (unlined s) g.v
         branch = branch_seen g view s h.to held a.replica None (a.next + comm_scopes a.comm) a.stmts P Q f h.branch;
         others = select_kept x (at + 1) held rest sel arms h.others;
         room = h.room;
+        far = h.far;
       }
 
 pub guard_kept : (g : Setting) (view : View) (b : Block) (bar : Bar) (at held : ℕ) (P Q : ℕ → Type 0) → AgreeAt (names_at g b bar.context.env) g.view view

@@ -302,7 +302,8 @@ module _ (facts : Facts) (m : Machine) (c : Config) (p : ℕ) (level : LivingLev
     body =
         body_performs inner code inner_block.room callee code.body (block.n + length (guard_code q callee callee.guard).texts) refl refl inner_block
         block.body
-        (body_ready facts.tree acting.alike.program.lawful acting.alike.program.unbroken inner callee inner_image refl (of_block k callee new.can.there)
+        (body_ready facts.tree acting.alike.program.lawful acting.alike.program.unbroken inner callee inner_image refl refl
+        (of_block k callee new.can.there)
         (record { known = checked.known; seen = checked.seen; placed = checked.placed; objects = checked.objects; beside = checked.beside }))
 
     at_entry : code.body ≡ code.entry

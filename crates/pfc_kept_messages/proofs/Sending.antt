@@ -92,7 +92,7 @@ module _ (facts : Facts) (level : LivingLevel) (b : Block) (x : Context) (o : Op
       subst (λ (r : Option Replica). BranchAt level.setting (site_of level.setting b x) to held r None o.next o.stmts behind_it) (sym plain.0)
       (subst (λ (ts : StmtTrees). BranchAt level.setting (site_of level.setting b x) to held None None o.next ts behind_it) (sym plain.1) (
         0,
-        record { typed = tt; code = record { has = tt; texts = tt; room = few; arms = least level.setting.arms } },
+        record { typed = tt; code = record { has = tt; texts = tt; room = few; arms = least level.setting.arms }; accepts = tt },
         subst behind_it (next to) is,
       ))
     where

@@ -54,7 +54,7 @@ module _ (facts : Facts) (m : Machine) (c : Config) (p : ℕ) (level : LivingLev
 pub module_may_be_entered : (facts : Facts) (m : Machine) (c : Config) (p : ℕ) (level : LivingLevel) (x : Context) (n scope : ℕ) (k : Remainder)
     (given : List Argument) → IsActing facts m c p level → HasArrived facts m c p level (calls x (to_module n scope k) given) → MayEnter level n scope
 module_may_be_entered facts m c p level x n scope k given acting arrived =
-    let (b, checked, (formals, below, held, (alone, (sub, takes, there, behind)))) = arrived.arrived in
+    let (b, checked, (formals, below, held, (alone, (sub, takes, there, behind)), lends)) = arrived.arrived in
     may_enter facts m c p level (calls x (to_module n scope k) given) acting arrived alone.0 x b n scope formals checked.beside sub
 
 pub module_entries_kept : AreKept IsModuleEntry

@@ -332,7 +332,8 @@ module _ (facts : Facts) (m : Machine) (c : Config) (p : ℕ) (level : LivingLev
     body =
         guarded_performs inside callee code block inner_block refl refl
         (each_guard_ready facts.tree acting.alike.program.lawful acting.alike.program.unbroken inside k callee inner_image entry.can.there guards_seen)
-        (body_ready facts.tree acting.alike.program.lawful acting.alike.program.unbroken inside callee inner_image refl (of_block k callee entry.can.there)
+        (body_ready facts.tree acting.alike.program.lawful acting.alike.program.unbroken inside callee inner_image refl refl
+        (of_block k callee entry.can.there)
         (seen_in callee.env checked))
 
     does : DoesOn (inner_level facts m c p level acting o begins) code.entry below (going callee.env begins.body)

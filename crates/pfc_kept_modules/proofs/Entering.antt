@@ -451,7 +451,7 @@ module _ (facts : Facts) (m : Machine) (c : Config) (p choice : ℕ) (level : Li
 
 pub modules_kept : AreKept EntersModule
 modules_kept facts m c p choice level (calls x (to_module n scope k) given) may acting arrived chosen =
-    let (b, checked, (formals, below, held, (alone, (sub, takes, there, behind)))) = arrived.arrived in
+    let (b, checked, (formals, below, held, (alone, (sub, takes, there, behind)), lends)) = arrived.arrived in
     entering_kept facts m c p choice level acting x b n scope k formals given below checked alone may
     (record { number = sub.number; among = sub.among; own_scope = sub.own_scope; own_formals = sub.own_formals }) held there behind arrived
 modules_kept facts m c p choice level n may acting arrived chosen = absurd may

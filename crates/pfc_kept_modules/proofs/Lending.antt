@@ -27,7 +27,7 @@ use Rattle.pfc_cells.proofs.Reading.{fits}
 use Rattle.pfc_machines.specs.declared.machine.Machine.{Machine}
 use Rattle.pfc_standing_code.specs.Settings.{of_own, site_of, IsBeside}
 use Rattle.pfc_standing_code.specs.Typed.{unlined, whole_of}
-use Rattle.pfc_standing_code.specs.Words.{AreKnown, IsWord, IsArgument, AreHeldAt, none_held, one_more}
+use Rattle.pfc_standing_code.specs.Words.{AreKnown, IsWord, IsArgument, AreHeldAt, none_held, one_more, IsLasting}
 use Rattle.pfc_stack_laws.specs.Standing.{IsAtHand}
 use Rattle.pfc_views.specs.Views.{own_place, IsLiving, latest, IsKept, AreLinked, block_site, IsNamed}
 use Rattle.pfc_views.proofs.Living.{is_among, own_of}
@@ -41,7 +41,6 @@ use Rattle.pfc_representation.specs.Acting.{IsActing}
 use Rattle.pfc_kept_calls.proofs.Caller.{outer, hand, shows}
 use Rattle.pfc_kept_calls.proofs.Ended.{not_main, only_there}
 use Rattle.pfc_kept_calls.proofs.Returned.{has, e, home, home_at}
-use Rattle.pfc_kept_modules.specs.Requeued.{IsLasting}
 use Rattle.pfc_kept_modules.proofs.Mains.{mains_code, main_lives}
 use Rattle.pfc_kept_modules.proofs.Lent.{IsLentOn}
 
@@ -220,17 +219,20 @@ module _ (facts : Facts) (m : Machine) (c : Config) (p : ℕ) (level : LivingLev
 
   -- ## All that is passed
 
-  abbrev site : Site
-  site = unlined (site_of (outer facts m c p level acting) b x)
+  abbrev lined : Site
+  lined = site_of (outer facts m c p level acting) b x
 
-  is_lent : (f : Formal) (a : Argument) (words : List ℤ) → IsArgument level.setting.view site f a words → IsLasting here a → IsLentOn g c p number a
+  abbrev site : Site
+  site = unlined lined
+
+  is_lent : (f : Formal) (a : Argument) (words : List ℤ) → IsArgument level.setting.view site f a words → IsLasting lined a → IsLentOn g c p number a
   is_lent f (by_value y) words is lasts = tt
   is_lent f (by_reference v) words is (inl mains) = main_apart v f.t is.0 is.2 mains
   is_lent f (by_reference v) words is (inr own) = reference_apart v f.t is.0 is.2 own.0 own.1
 
   pub all_lent : (formals : List Formal) (given : List Argument) (ops below : List ℤ) → AreHeldAt level.setting.view site formals given ops below
-      → All (IsLasting here) given → All (IsLentOn g c p number) given
+      → All (IsLasting lined) given → All (IsLentOn g c p number) given
   all_lent _ _ _ _ (none_held below) lasts = All-nil (IsLentOn g c p number)
   all_lent _ _ _ _ (one_more formals given ops below f a words held is) lasts =
-      let parts = All-pop (IsLasting here) (given ++ a ∷ []) given (Some a) refl lasts in
+      let parts = All-pop (IsLasting lined) (given ++ a ∷ []) given (Some a) refl lasts in
       All-push (IsLentOn g c p number) given a (all_lent formals given ops below held parts.0) (is_lent f a words is parts.1)

@@ -225,7 +225,8 @@ module _ (facts : Facts) (m : Machine) (c : Config) (p : ℕ) (level : LivingLev
   performs =
       requeued_performs inside callee its_code scan callee.env refl refl block inside_block refl turn_there
       (each_guard_ready facts.tree acting.alike.program.lawful acting.alike.program.unbroken plain_inside k callee plain_image is.can.there guards_seen)
-      (body_ready facts.tree acting.alike.program.lawful acting.alike.program.unbroken plain_inside callee plain_image refl (of_block k callee is.can.there)
+      (body_ready facts.tree acting.alike.program.lawful acting.alike.program.unbroken plain_inside callee plain_image refl refl
+      (of_block k callee is.can.there)
       (seen_in callee.env (checked_in callee.env is.can.known is.can.state)))
 
   pub does : DoesOn inside_level scan level.setting.under (going callee.env (scan_on turn (in_names callee.env (body_of callee))))

@@ -1,6 +1,7 @@
 -- A requeue: an activation takes the place of the last, over the same callers.
 use Rattle.std.proofs.Common.{◌≡◌, ◌≢◌, ℕ, ◌+◌, ◌-◌, ◌^◌, ◌<◌, ◌==◌, ◌||◌, if◌then◌else◌, ℤ, pos, Bool, true, false, List, [], ◌∷◌}
 use Rattle.std.proofs.Common.{length, drop, set, slice_get, get_or, All, Some, None, refl, sym, ap, ◌∙◌, subst, arith, inl}
+use Rattle.std.specs.Prelude.{unsigned_abs}
 use Rattle.std.proofs.lemmas.List.{get_or-set_same, length-set}
 use Rattle.pfc_types.specs.declared.types.TypeId.{TypeId}
 use Rattle.pfc_types.specs.declared.scope.Meaning.TheVariants.{Variable}
@@ -19,8 +20,9 @@ use Rattle.pfc_semantics.specs.Configurations.{Mark, of_resource, Activation, Ac
 use Rattle.pfc_semantics.specs.Calls.{new_values, new_display, cells_below}
 use Rattle.pfc_translation.specs.Calls.{resource_of}
 use Rattle.pfc_translation.specs.Images.{image_of, site_in}
-use Rattle.pfc_stacks.specs.Refs.{word_of, number_of}
-use Rattle.pfc_stacks.specs.Stacks.{Stack, Stacks, no_stack, stack_of, own_number, under_place, block_place, link_place, last_activation}
+use Rattle.pfc_stacks.specs.Refs.{word_of}
+use Rattle.pfc_stacks.specs.Stacks.{own_count}
+use Rattle.pfc_stacks.specs.Stacks.{Stack, Stacks, no_stack, stack_of, under_place, block_place, link_place, last_activation}
 use Rattle.pfc_stacks.specs.Activations.{has_place, replaced, block_cells, arguments, main_link}
 use Rattle.pfc_stacks.specs.Effects.{moved}
 use Rattle.pfc_cells.specs.Homes.{Home, Homes}
@@ -52,7 +54,7 @@ use Rattle.pfc_representation.proofs.Kept.{may_keep}
 use Rattle.pfc_kept_own_actions.proofs.Arrived.{stack_there}
 use Rattle.pfc_kept_calls.proofs.Caller.{lender_apart, number_is, entries_here, entries_there, outer, hold, is_free, seen_here, hand, shows}
 use Rattle.pfc_kept_calls.proofs.Lists.{set_twice}
-use Rattle.pfc_kept_calls.proofs.Ended.{not_main, not_below, no_objects, like_ended, own_is, number_back}
+use Rattle.pfc_kept_calls.proofs.Ended.{not_main, not_below, no_objects, like_ended, own_is}
 use Rattle.pfc_kept_calls.proofs.Returned.{has, e, rest, home, home_at as old_home_at, base, own}
 use Rattle.pfc_kept_modules.specs.Exported.{IsExported}
 use Rattle.pfc_kept_modules.proofs.Mains.{main_view, main_shows, main_sees_with}
@@ -117,7 +119,6 @@ module _ (facts : Facts) (m : Machine) (c : Config) (p : ℕ) (level : LivingLev
     pub turn : slice_get (image_of facts.tree).scans r ≡ Some scan
     pub lends : All (IsLentOn g c p top.number) given
     pub below_cells : cells_below others ≡ s.base
-    pub few : length level.setting.under < 2 ^ 32
 
   module _ (b callee : Block) (number k r scan : ℕ) (formals : List Formal) (x : Context) (given : List Argument) (below : List ℤ) (guard : Guard)
       (first : HasFirstValues g) (is : IsRequeue b callee number k r scan formals x given below guard) where
@@ -316,15 +317,15 @@ module _ (facts : Facts) (m : Machine) (c : Config) (p : ℕ) (level : LivingLev
 
     -- ## Operands
 
-    own_there : own_number s under_place ≡ length under
+    own_there : own_count s under_place ≡ length under
     own_there =
         let stands = (has facts m c p level acting more).called.stands in
-        ap number_of
+        ap unsigned_abs
         (own_is facts acting.homes acting.entries c.store m.stacks c.table.done acting.alike.holds p old (has facts m c p level acting more).under
         (has facts m c p level acting more).below entries_are (home facts m c p level acting more) (old_home_at facts m c p level acting more)
         (base facts m c p level acting more) under_place (omega arith)
         ∙ ap (λ ws. get_or ws under_place (pos 0)) stands.words)
-        ∙ number_back (own facts m c p level acting more).under (subst (λ i. i < 2 ^ 32) (sym stands.under) is.few) ∙ stands.under
+        ∙ stands.under
 
     pub operands_left : stack.operands ≡ under
     operands_left =

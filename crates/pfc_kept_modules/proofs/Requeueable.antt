@@ -36,7 +36,7 @@ use Rattle.pfc_representation.specs.Acting.{IsActing, HasArrived}
 use Rattle.pfc_representation.specs.Actions.{IsKept}
 use Rattle.pfc_kept_own_actions.proofs.Arrived.{has_setting}
 use Rattle.pfc_kept_calls.proofs.Callable.{at_hand, mains_at, body_of, counted}
-use Rattle.pfc_kept_modules.specs.Requeued.{HasFewOperands, MayRequeue, RequeuesLasting}
+use Rattle.pfc_kept_modules.specs.Requeued.{MayRequeue, AsksRequeue}
 use Rattle.pfc_kept_modules.proofs.Requeueing.{requeued_kept}
 use Rattle.pfc_kept_modules.proofs.Exports.{procedure_end, same_head, exported_sub}
 
@@ -117,15 +117,13 @@ ends_as facts homes entries store table p room level w latest (a ∷ b ∷ xs) (
 pub requeue_can_be : (facts : Facts) (m : Machine) (c : Config) (p : ℕ) (level : LivingLevel) (x : Context) (scope : ℕ) (given : List Argument)
     → IsActing facts m c p level → HasArrived facts m c p level (calls x (to_requeue scope) given) → MayRequeue level scope
 requeue_can_be facts m c p level x scope given acting arrived =
-    let (b, checked, (formals, below, held, (alone, (over, sub, takes, there)))) = arrived.arrived in
+    let (b, checked, (formals, below, held, (alone, (over, sub, takes, there)), lent)) = arrived.arrived in
     can_requeue facts m c p level (calls x (to_requeue scope) given) acting arrived alone.0 x b scope formals checked.beside sub
     (ends_as facts acting.homes acting.entries c.store c.table p (stack_of m.stacks p).room level (word_of (last_activation m.stacks p))
     (descriptor_of m.descriptors p).communications (activity_of (program_in facts) c p).activations (acting.entries p) acting.actor.stands.callers)
 
-pub lasting_requeues_kept : (facts : Facts) (m : Machine) (c : Config) (p choice : ℕ) (level : LivingLevel) (n : Action) → RequeuesLasting level n
-    → HasFewOperands m p → IsActing facts m c p level → HasArrived facts m c p level n → IsKept facts m c p choice n
-lasting_requeues_kept facts m c p choice level (calls x (to_requeue scope) given) lasting few acting arrived =
-    requeued_kept facts m c p choice level (calls x (to_requeue scope) given)
-    (requeue_can_be facts m c p level x scope given acting arrived, lasting) few acting
-    arrived
-lasting_requeues_kept facts m c p choice level n lasting few acting arrived = absurd lasting
+pub every_requeue_kept : (facts : Facts) (m : Machine) (c : Config) (p choice : ℕ) (level : LivingLevel) (n : Action) → AsksRequeue n
+    → IsActing facts m c p level → HasArrived facts m c p level n → IsKept facts m c p choice n
+every_requeue_kept facts m c p choice level (calls x (to_requeue scope) given) is acting arrived =
+    requeued_kept facts m c p choice level (calls x (to_requeue scope) given) (requeue_can_be facts m c p level x scope given acting arrived) acting arrived
+every_requeue_kept facts m c p choice level n is acting arrived = absurd is

@@ -33,14 +33,12 @@ use Rattle.pfc_call_actions.specs.Requeues.{in_place, requeues as machine_requeu
 use Rattle.pfc_call_actions.specs.Returns.{scans_from}
 use Rattle.pfc_machine_acts.specs.Performing.{silent, with_block}
 use Rattle.pfc_standing_code.specs.Settings.{Trial, of_own, AreOver, site_of, IsBeside, same_block, both_mains, IsAt}
-use Rattle.pfc_standing_code.specs.Words.{AreHeld, AreKnown, IsChecked}
-use Rattle.pfc_standing_code.specs.Performs.{own_block, own_room, own_view, own_accepts}
+use Rattle.pfc_standing_code.specs.Words.{AreHeld, AreKnown, IsChecked, IsLasting}
+use Rattle.pfc_standing_code.specs.Performs.{own_block, own_view, own_accepts}
 use Rattle.pfc_standing_images.specs.Images.{IsOfImage}
 use Rattle.pfc_standing_images.proofs.Wholes.{block_stands}
 use Rattle.pfc_standing_images.proofs.Guards.{turn_there}
-use Rattle.pfc_views.specs.Views.{block_site}
-use Rattle.pfc_representation.specs.Levels.{Facts, program_in, LivingLevel, block_of, room_of, IsBlockAt}
-use Rattle.pfc_representation.specs.Rooms.{guards_room}
+use Rattle.pfc_representation.specs.Levels.{Facts, program_in, LivingLevel, block_of, IsBlockAt}
 use Rattle.pfc_representation.specs.Holding.{holders_in, HoldsFor}
 use Rattle.pfc_representation.specs.Machines.{goes_on}
 use Rattle.pfc_representation.specs.Acting.{IsActing, HasArrived}
@@ -50,12 +48,12 @@ use Rattle.pfc_kept_own_actions.proofs.Arrived.{has_setting, stack_there, code_t
 use Rattle.pfc_kept_calls.proofs.Tops.{cells_of_top}
 use Rattle.pfc_kept_calls.proofs.Caller.{outer}
 use Rattle.pfc_kept_calls.proofs.Faults.{faulted}
-use Rattle.pfc_kept_calls.proofs.Sizes.{first_values, params_within, arguments_there, short_below}
-use Rattle.pfc_kept_calls.proofs.Ended.{first_stands, operands_fit}
+use Rattle.pfc_kept_calls.proofs.Sizes.{first_values, params_within, arguments_there}
+use Rattle.pfc_kept_calls.proofs.Ended.{first_stands}
 use Rattle.pfc_kept_calls.proofs.Returned.{has, e, home, home_at, base}
 use Rattle.pfc_kept_calls.proofs.Scanning.{ready_holds}
 use Rattle.pfc_kept_modules.specs.Exported.{IsExported}
-use Rattle.pfc_kept_modules.specs.Requeued.{IsLasting, MayRequeue, HasFewOperands, Requeues}
+use Rattle.pfc_kept_modules.specs.Requeued.{MayRequeue, Requeues}
 use Rattle.pfc_kept_modules.proofs.Subs.{IsSubOf}
 use Rattle.pfc_kept_modules.proofs.Lent.{IsLentOn}
 use Rattle.pfc_kept_modules.proofs.Lending.{all_lent}
@@ -69,8 +67,8 @@ module _ (facts : Facts) (m : Machine) (c : Config) (p choice : ℕ) (level : Li
     (sub : IsSubOf level.setting.program scope formals)
     (held : AreHeld level.setting.view (site_of level.setting b x) formals given (operands_of m.stacks p) below)
     (there : IsAt level.setting (stack_of m.stacks p).at (REQ (resource_of (site_of level.setting b x)) (block_number level.setting.program scope)) x.line)
-    (lasts : All (IsLasting (block_site level.setting.program level.setting.block)) given)
-    (room : HasFewOperands m p) (arrived : HasArrived facts m c p level (calls x (to_requeue scope) given)) where
+    (lasts : All (IsLasting (site_of level.setting b x)) given)
+    (arrived : HasArrived facts m c p level (calls x (to_requeue scope) given)) where
   abbrev g : Program
   g = program_in facts
 
@@ -191,26 +189,11 @@ module _ (facts : Facts) (m : Machine) (c : Config) (p choice : ℕ) (level : Li
   lends : All (IsLentOn g c p (top facts m c p level acting more).number) given
   lends =
       all_lent facts m c p level acting more alone.0 b checked.beside x known formals given s.operands below held_there
-      (subst (λ (y : Block). All (IsLasting (block_site g y)) given) (sym (alone_there b checked.beside))
-      (subst (λ (z : Program). All (IsLasting (block_site z block)) given) same lasts))
+      (subst (λ (z : Program). All (IsLasting (record (site_of level.setting b x) { program = z })) given) same lasts)
 
   enough : code.params ≤ length s.operands
   enough = arguments_there facts m c p level acting alone.0 b callee k code formals x given below checked.beside known can.takes can.there can.is held_there
       counted
-
-  -- the operands of the callers are among those that are held, for which there is room
-  few : length level.setting.under < 2 ^ 32
-  few =
-      let short : length below ≤ length s.operands =
-      short_below facts m c p level acting alone.0 b callee k code formals x given below checked.beside known can.takes can.there can.is held_there counted in
-      let parts : length below ≡ length over.0 + length level.setting.under = ap (λ (l : List ℤ). length l) over.1 ∙ length-append over.0 level.setting.under in
-      let fits : length s.operands ≤ level.setting.room = arrived.room in
-      let own : room_of level ≡ level.setting.room = ap (λ (t : Trial). own_room t level.setting.room) alone.0 in
-      let all : room_of level + guards_room facts ≤ s.room =
-      operands_fit facts acting.homes acting.entries c.store c.table p s.room level (word_of (last_activation m.stacks p))
-      (descriptor_of m.descriptors p).communications (activity_of g c p).activations (acting.entries p) acting.actor.stands.callers in
-      let small : s.room < 2 ^ 32 = room in
-      omega (arith, short, parts, fits, own, all, small)
 
   outer_image : IsOfImage facts.tree (outer facts m c p level acting)
   outer_image =
@@ -280,7 +263,6 @@ module _ (facts : Facts) (m : Machine) (c : Config) (p choice : ℕ) (level : Li
     turn = turn.1;
     lends = lends;
     below_cells = below_cells;
-    few = few;
   }
 
   -- ## Both sides
@@ -340,10 +322,10 @@ module _ (facts : Facts) (m : Machine) (c : Config) (p choice : ℕ) (level : Li
     same = come_to_same;
   }
 
-pub requeued_kept : (facts : Facts) (m : Machine) (c : Config) (p choice : ℕ) (level : LivingLevel) (n : Action) → Requeues level n → HasFewOperands m p
+pub requeued_kept : (facts : Facts) (m : Machine) (c : Config) (p choice : ℕ) (level : LivingLevel) (n : Action) → Requeues level n
     → IsActing facts m c p level → HasArrived facts m c p level n → IsKept facts m c p choice n
-requeued_kept facts m c p choice level (calls x (to_requeue scope) given) may room acting arrived =
-    let (b, checked, (formals, below, held, (alone, (over, sub, takes, there)))) = arrived.arrived in
-    requeue_kept facts m c p choice level acting x b scope formals given below checked alone may.0 over
-    (record { number = sub.number; among = sub.among; own_scope = sub.own_scope; own_formals = sub.own_formals }) held there may.1 room arrived
-requeued_kept facts m c p choice level n may room acting arrived = absurd may
+requeued_kept facts m c p choice level (calls x (to_requeue scope) given) may acting arrived =
+    let (b, checked, (formals, below, held, (alone, (over, sub, takes, there)), lent)) = arrived.arrived in
+    requeue_kept facts m c p choice level acting x b scope formals given below checked alone may over
+    (record { number = sub.number; among = sub.among; own_scope = sub.own_scope; own_formals = sub.own_formals }) held there lent.0 arrived
+requeued_kept facts m c p choice level n may acting arrived = absurd may

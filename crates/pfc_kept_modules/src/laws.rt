@@ -9,7 +9,7 @@ ghost use Rattle.pfc_representation.specs.Acting.{IsActing, HasArrived};
 ghost use Rattle.pfc_representation.specs.Actions.{IsKept, AreKept};
 ghost use Rattle.pfc_kept_modules.specs.Groups.{MayEnter, EntersModule, IsModuleEntry};
 ghost use Rattle.pfc_kept_modules.specs.Endings.{EndsInMonitor, AreOutside, IsInOnce};
-ghost use Rattle.pfc_kept_modules.specs.Requeued.{HasFewOperands, MayRequeue, Requeues, RequeuesLasting};
+ghost use Rattle.pfc_kept_modules.specs.Requeued.{AsksRequeue, MayRequeue, Requeues};
 
 /// A call of a procedure of a monitor or of a resource from outside begins the same activation on both sides, and the process has the module or waits for it
 /// on both, also where it holds it itself; or both find the stack full.
@@ -35,7 +35,7 @@ pub fn procedures_are_left()
 
 /// A requeue begins the same activation on both sides in place of the last, with the same caller, and the same scan comes first; or both find the stack full.
 pub fn requeues_are_kept()
-    ensures { (facts : Facts) (m : Machine) (c : Config) (p choice : ℕ) (level : LivingLevel) (n : Action) → Requeues level n → HasFewOperands m p
+    ensures { (facts : Facts) (m : Machine) (c : Config) (p choice : ℕ) (level : LivingLevel) (n : Action) → Requeues level n
         → IsActing facts m c p level → HasArrived facts m c p level n → IsKept facts m c p choice n }
 {}
 
@@ -58,8 +58,8 @@ pub fn checked_programs_may_requeue()
         → IsActing facts m c p level → HasArrived facts m c p level (calls x (to_requeue scope) given) → MayRequeue level scope }
 {}
 
-/// So a requeue is kept where what it passes by reference lasts.
-pub fn lasting_requeues_are_kept()
-    ensures { (facts : Facts) (m : Machine) (c : Config) (p choice : ℕ) (level : LivingLevel) (n : Action) → RequeuesLasting level n → HasFewOperands m p
+/// So every requeue is kept.
+pub fn every_requeue_is_kept()
+    ensures { (facts : Facts) (m : Machine) (c : Config) (p choice : ℕ) (level : LivingLevel) (n : Action) → AsksRequeue n
         → IsActing facts m c p level → HasArrived facts m c p level n → IsKept facts m c p choice n }
 {}

@@ -7,6 +7,6 @@ mod laws;
 
 pub use laws::{
     checked_programs_may_enter, checked_programs_may_requeue, entries_are_kept,
-    lasting_requeues_are_kept, module_entries_are_kept, monitors_are_left, procedures_are_left,
+    every_requeue_is_kept, module_entries_are_kept, monitors_are_left, procedures_are_left,
     requeues_are_kept,
 };

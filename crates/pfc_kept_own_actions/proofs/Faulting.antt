@@ -29,7 +29,7 @@ use Rattle.pfc_machine_acts.specs.Performing.{acts_by, choices_for}
 use Rattle.pfc_machine_acts.specs.Quietly.{on_stacks, quietly, CanTry, CanStep}
 use Rattle.pfc_machine_acts.specs.Running.{IsNoMove}
 use Rattle.pfc_standing_code.specs.Settings.{Trial, of_own, of_turn, of_another, same_block, IsAt}
-use Rattle.pfc_standing_code.specs.Effects.{Arm, Effect, onward, refuses, otherwise, guarded, effect_of, CanPerform}
+use Rattle.pfc_standing_code.specs.Effects.{Arm, Effect, onward, refuses, otherwise, guarded, effect_of, CanPerform, is_timeout, MayRefuse}
 use Rattle.pfc_standing_code.specs.Following.{IsFault, of_operands, of_number_width, of_string_width}
 use Rattle.pfc_standing_images.proofs.Wholes.{scan_stands}
 use Rattle.pfc_stack_laws.specs.Instructions.{IsOfStacks, EndsIn}
@@ -251,24 +251,20 @@ module _ (facts : Facts) (m : Machine) (c : Config) (p choice : ℕ) (level : Li
         (refuse facts m c p level acting x.line f);
   }
 
-  fault_kept : (level.setting.trial ≡ of_own) ⊎ (f ≡ Below → ⊥) → IsFault level.setting x.line here ops level.arms f → IsKept facts m c p choice (faults x f)
-  fault_kept may (of_operands i there can h) = which may (of_stacks image p choice m facts level here ops level.arms f i h)
+  fault_kept : IsFault level.setting x.line here ops level.arms f → IsKept facts m c p choice (faults x f)
+  fault_kept (of_operands i there can h may) = which may (of_stacks image p choice m facts level here ops level.arms f i h)
     where
-      timeout : (a : ℕ) → i ≡ ARMT a → (level.setting.trial ≡ of_own) ⊎ (f ≡ Below → ⊥) → IsKept facts m c p choice (faults x f)
+      timeout : (a : ℕ) → i ≡ ARMT a → MayRefuse level.setting i → IsKept facts m c p choice (faults x f)
       timeout a same (inl own) =
           timeout_fault own a (subst (λ (k : Instr). IsAt level.setting here k x.line) same there)
           (subst (λ (k : Instr). CanPerform level.setting k ops) same can)
           (subst (λ (k : Instr). effect_of level.setting k here ops level.arms ≡ refuses f) same h)
-      timeout a same (inr never) =
-          absurd (never (below_zero f (operand ops 0) (int_lt (operand ops 0) (pos 0))
-          (onward (here + 1) (drop 1 ops) (level.arms ++ record { by = ARMT a; operands = take 1 ops } ∷ [])) refl
-          (subst (λ (k : Instr). effect_of level.setting k here ops level.arms ≡ refuses f) same h)
-          (λ g none. goes image p choice m facts level here ops level.arms g _ _ _ none)).1)
+      timeout a same (inr none) = absurd (let both : true ≡ false = sym (ap (λ (k : Instr). is_timeout k) same) ∙ none in cc)
 
-      which : (level.setting.trial ≡ of_own) ⊎ (f ≡ Below → ⊥) → IsOfStacks i ⊎ ((a : ℕ) × (i ≡ ARMT a)) → IsKept facts m c p choice (faults x f)
+      which : MayRefuse level.setting i → IsOfStacks i ⊎ ((a : ℕ) × (i ≡ ARMT a)) → IsKept facts m c p choice (faults x f)
       which allowed (inl is) = stacks_fault i there can h is
       which allowed (inr (a, same)) = timeout a same allowed
-  fault_kept may (of_number_width t n w below is shows there) =
+  fault_kept (of_number_width t n w below is shows there) =
       let held : 1 + 1 ≤ length ops = subst (λ (xs : List ℤ). 1 + 1 ≤ length xs) (sym is) (two (length below)) in
       let value : padded (operand ops 0) (shown t (operand ops 1)) ≡ Err f = ap (λ (xs : List ℤ). padded (operand xs 0) (shown t (operand xs 1))) is ∙ shows in
       width_fault (write_instr t 1) 2 there
@@ -277,7 +273,7 @@ module _ (facts : Facts) (m : Machine) (c : Config) (p choice : ℕ) (level : Li
     where
       two : (n : ℕ) → 1 + 1 ≤ suc (suc n)
       two n = grind arith
-  fault_kept may (of_string_width s w text below is known shows there) =
+  fault_kept (of_string_width s w text below is known shows there) =
       let held : 1 ≤ length ops = subst (λ (xs : List ℤ). 1 ≤ length xs) (sym is) (one (length below)) in
       let value : padded (operand ops 0) text ≡ Err f = ap (λ (xs : List ℤ). padded (operand xs 0) text) is ∙ shows in
       width_fault (WRS s 1) 1 there
@@ -288,6 +284,6 @@ module _ (facts : Facts) (m : Machine) (c : Config) (p choice : ℕ) (level : Li
       one n = grind arith
 
 pub faults_kept : AreKept IsFaulted
-faults_kept facts m c p choice level (faults x f) may acting arrived chosen =
-    let (b, checked, by) = arrived.arrived in fault_kept facts m c p choice level x f acting arrived may by
+faults_kept facts m c p choice level (faults x f) is acting arrived chosen =
+    let (b, checked, by) = arrived.arrived in fault_kept facts m c p choice level x f acting arrived by
 faults_kept facts m c p choice level n is acting arrived chosen = absurd is

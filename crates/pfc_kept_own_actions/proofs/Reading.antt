@@ -1,4 +1,4 @@
--- Reads of variables.
+-- Reads of variables outside the guards of others.
 use Rattle.std.proofs.Common.{◌≡◌, ℕ, ◌+◌, ℤ, List, ◌∷◌, ◌++◌, drop, reverse, refl, sym, ◌∙◌, subst}
 use Rattle.std.proofs.lemmas.List.{length-set}
 use Rattle.pfc_code.specs.declared.instructions.Instr.{Instr}
@@ -32,8 +32,7 @@ use Rattle.pfc_following_source.specs.Behind.{GoesOnAt}
 use Rattle.pfc_following_source.proofs.Behind.{leads_on}
 use Rattle.pfc_representation.specs.Levels.{Facts, program_in, LivingLevel}
 use Rattle.pfc_representation.specs.Acting.{IsActing, HasArrived}
-use Rattle.pfc_representation.specs.Actions.{IsKept, AreKept}
-use Rattle.pfc_kept_own_actions.specs.Groups.{IsRead}
+use Rattle.pfc_representation.specs.Actions.{IsKept}
 use Rattle.pfc_kept_own_actions.proofs.Steps.{IsOwnStep}
 use Rattle.pfc_kept_own_actions.proofs.Arrived.{has_setting, stack_there, code_there, code_line, acts_now, hold_store, untried, stands_at, at_hand, displayed}
 use Rattle.pfc_kept_own_actions.proofs.Arrived.{next_within}
@@ -116,8 +115,3 @@ module _ (facts : Facts) (m : Machine) (c : Config) (p choice : ℕ) (level : Li
           (performs (image_of facts.tree) instr choice p m) (here + 1) left (moved m.stacks p (here + 1) left) c.store
           (holding x value u) x.line given.effect step;
     }
-
-pub reads_kept : AreKept IsRead
-reads_kept facts m c p choice level (reads x v u) own acting arrived chosen =
-    let (b, checked, by) = arrived.arrived in read_kept facts m c p choice level x v u own acting arrived b checked by
-reads_kept facts m c p choice level n is acting arrived chosen = absurd is

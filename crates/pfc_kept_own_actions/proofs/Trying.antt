@@ -1,4 +1,4 @@
--- Reads of main's variables, which alone are read in the guard of another.
+-- Reads of variables in any trial: in the guard of another main's alone are read.
 use Rattle.std.proofs.Common.{◌≡◌, ℕ, zero, suc, ◌+◌, ◌==◌, ℤ, Bool, true, false, if◌then◌else◌, List, [], ◌∷◌, ◌++◌, map, drop, reverse, slice_get, get_or}
 use Rattle.std.proofs.Common.{Option, Some, None, unwrap_or, refl, sym, ap, ◌∙◌, subst, arith, ◌⊎◌, inl, inr}
 use Rattle.std.proofs.lemmas.List.{length-set}
@@ -28,7 +28,7 @@ use Rattle.pfc_machines.specs.Descriptors.{descriptor_of}
 use Rattle.pfc_machines.specs.Quiet.{quiet_effect}
 use Rattle.pfc_machine_acts.specs.Performing.{performs}
 use Rattle.pfc_standing_code.specs.Shapes.{shape_of, shape_cells}
-use Rattle.pfc_standing_code.specs.Settings.{View, Trial, of_own, of_turn, of_another, IsBeside, same_block, IsAt}
+use Rattle.pfc_standing_code.specs.Settings.{View, Trial, of_own, of_turn, of_another, MayRead, IsBeside, same_block, IsAt}
 use Rattle.pfc_standing_code.specs.Performs.{own_view, own_accepts, own_block}
 use Rattle.pfc_standing_code.specs.Words.{IsChecked}
 use Rattle.pfc_standing_code.specs.Following.{ArrivedBy}
@@ -47,7 +47,8 @@ use Rattle.pfc_representation.specs.Callers.{IsWithin}
 use Rattle.pfc_representation.specs.Trials.{TrialIs, HasTried, IsAtTurn}
 use Rattle.pfc_representation.specs.Acting.{IsActing, HasArrived}
 use Rattle.pfc_representation.specs.Actions.{IsKept, AreKept}
-use Rattle.pfc_kept_own_actions.specs.Groups.{IsMainsRead}
+use Rattle.pfc_kept_own_actions.specs.Groups.{IsRead}
+use Rattle.pfc_kept_own_actions.proofs.Reading.{read_kept}
 use Rattle.pfc_kept_own_actions.proofs.Within.{within_next}
 use Rattle.pfc_kept_own_actions.proofs.Steps.{IsOwnStep}
 use Rattle.pfc_kept_own_actions.proofs.Arrived.{first_seen, has_setting, stack_there, code_there, code_line, acts_now, hold_store, stands_in_sight}
@@ -302,9 +303,15 @@ module _ (facts : Facts) (m : Machine) (c : Config) (p choice : ℕ) (level : Li
           (holding x value u) x.line given.effect step;
     }
 
-pub mains_reads_kept : AreKept IsMainsRead
-mains_reads_kept facts m c p choice level (reads x v u) mains acting arrived chosen =
-    let (b, checked, by) = arrived.arrived in
-    tried_read_kept facts m c p choice level x v u
-    (subst (λ (g : Program). is_mains g.state.blocks v.scope ≡ true) (has_setting facts m c p level acting).image.program mains) acting arrived b checked by
-mains_reads_kept facts m c p choice level n is acting arrived chosen = absurd is
+pub reads_kept : AreKept IsRead
+reads_kept facts m c p choice level (reads x v u) is acting arrived chosen =
+    let (b, checked, by) = arrived.arrived in which b checked by by.9
+  where
+    which : (b : Block) → IsChecked level.setting b x.env
+        → ArrivedBy level.setting b (stack_of m.stacks p).at (operands_of m.stacks p) level.arms (reads x v u) → MayRead level.setting v.scope
+        → IsKept facts m c p choice (reads x v u)
+    which b checked by (inl own) = read_kept facts m c p choice level x v u own acting arrived b checked by
+    which b checked by (inr mains) =
+        tried_read_kept facts m c p choice level x v u
+        (subst (λ (g : Program). is_mains g.state.blocks v.scope ≡ true) (has_setting facts m c p level acting).image.program mains) acting arrived b checked by
+reads_kept facts m c p choice level n is acting arrived chosen = absurd is

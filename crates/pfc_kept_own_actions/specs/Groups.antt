@@ -1,14 +1,10 @@
 -- The actions of one process that touch no object, by their kinds.
-use Rattle.std.specs.Prelude.{◌≡◌, ◌⊎◌, true}
-use Rattle.pfc_base.specs.declared.faults.RunFault.TheVariants.{Below}
 use Rattle.pfc_semantics.specs.Remainders.{Action, reads, writes, asks_eof, asks_eoln, asks_clock, draws, prints, turns, inputs, skips, faults}
-use Rattle.pfc_translation.specs.Sites.{is_mains}
-use Rattle.pfc_standing_code.specs.Settings.{of_own}
 use Rattle.pfc_representation.specs.Levels.{LivingLevel}
 
--- a read of a variable, outside the guards of others
+-- a read of a variable, also in the guard of another
 abbrev pub IsRead : LivingLevel → Action → Type 0
-IsRead level (reads x v u) = level.setting.trial ≡ of_own
+IsRead level (reads x v u) = Unit {0}
 IsRead level n = ⊥
 
 -- a write
@@ -42,12 +38,7 @@ IsTaken level (inputs x t v k) = Unit {0}
 IsTaken level (skips x k) = Unit {0}
 IsTaken level n = ⊥
 
--- a fault of a quiet instruction or of a width; in the guard of another it is not that of seconds below 0, since no select is there
+-- a fault of a quiet instruction or of a width
 abbrev pub IsFaulted : LivingLevel → Action → Type 0
-IsFaulted level (faults x f) = (level.setting.trial ≡ of_own) ⊎ (f ≡ Below → ⊥)
+IsFaulted level (faults x f) = Unit {0}
 IsFaulted level n = ⊥
-
--- a read of a variable of main's, in any trial: in a guard only those of the resource are read
-abbrev pub IsMainsRead : LivingLevel → Action → Type 0
-IsMainsRead level (reads x v u) = is_mains level.setting.program.state.blocks v.scope ≡ true
-IsMainsRead level n = ⊥

@@ -1,15 +1,11 @@
 //! The laws. The functions do nothing: their contracts are the laws.
 ghost use Rattle.pfc_representation.specs.Actions.{AreKept};
-ghost use Rattle.pfc_kept_own_actions.specs.Groups.{IsRead, IsMainsRead, IsWritten, IsTurned, IsPrinted, IsAsked, IsDrawn, IsTaken, IsFaulted};
+ghost use Rattle.pfc_kept_own_actions.specs.Groups.{IsRead, IsWritten, IsTurned, IsPrinted, IsAsked, IsDrawn, IsTaken, IsFaulted};
 
-/// A read of a variable, outside the guards of others, gives on the machine the value that it gives in the source text.
+/// A read of a variable gives on the machine the value that it gives in the source text, also while the guard of another is tried: then it is one of main's,
+/// which is the same for both.
 pub fn reads_are_kept()
     ensures { AreKept IsRead }
-{}
-
-/// So it does of a variable of main's while the guard of another is tried: there it is the same for both.
-pub fn reads_in_trials_are_kept()
-    ensures { AreKept IsMainsRead }
 {}
 
 /// A write of a variable, of a value or of that which a `for` keeps, leaves on the machine what it leaves in the source text.

@@ -8,5 +8,5 @@ mod laws;
 
 pub use laws::{
     draws_are_kept, faults_are_kept, input_is_kept, pieces_are_kept, questions_are_kept,
-    reads_are_kept, reads_in_trials_are_kept, turns_are_kept, writes_are_kept,
+    reads_are_kept, turns_are_kept, writes_are_kept,
 };

@@ -25,7 +25,6 @@ use Rattle.pfc_representation.specs.Acting.{IsActing, HasArrived}
 use Rattle.pfc_representation.specs.Actions.{ComeToSame, IsKept}
 use Rattle.pfc_kept_own_actions.proofs.Alone.{can_go}
 use Rattle.pfc_kept_own_actions.proofs.Arrived.{has_setting, stack_there, code_there, code_line, acts_now}
-use Rattle.pfc_kept_selects.specs.Groups.{LeadAhead}
 use Rattle.pfc_kept_selects.proofs.Both as both
 use Rattle.pfc_kept_selects.proofs.Otherwise.{Decides, decides_so}
 
@@ -119,21 +118,21 @@ module _ (facts : Facts) (m : Machine) (c : Config) (p choice : ℕ) (level : Li
 
   -- ## Nothing is matched
 
-  pub unmatched_kept : LeadAhead here level.arms → text.matched_places g c p sel ≡ [] → IsKept facts m c p choice (decides x sel k)
-  unmatched_kept ahead none =
+  pub unmatched_kept : text.matched_places g c p sel ≡ [] → IsKept facts m c p choice (decides x sel k)
+  unmatched_kept none =
       let nobody : matched_places m p ≡ [] = matched_same ∙ none in
       decides_kept (λ some. absurd (no_place (length (matched_places m p)) (ap (λ (places : List ℕ). length places) nobody) some))
       (subst (λ (places : List ℕ). ComeToSame facts m c p x.line (silent (machine.decides_by places its.mark its.other choice p m))
       (decides_at g c p x sel k choice)) (sym nobody)
       (subst (λ (places : List ℕ). ComeToSame facts m c p x.line (silent (machine.decides_by [] its.mark its.other choice p m))
-      (text.decides_by g c p x sel k choice places)) (sym none) (its.same ahead)))
+      (text.decides_by g c p x sel k choice places)) (sym none) (its.same by.1.2)))
     where
       no_place : (n : ℕ) → n ≡ 0 → 0 < n → ⊥
       no_place n h less = grind (arith, h, less)
 
 -- where no alternative is matched
 pub unmatched_are_kept : (facts : Facts) (m : Machine) (c : Config) (p choice : ℕ) (level : LivingLevel) (x : Context) (sel : Selecting) (k : Remainder)
-    → LeadAhead (stack_of m.stacks p).at level.arms → text.matched_places (program_in facts) c p sel ≡ []
+    → text.matched_places (program_in facts) c p sel ≡ []
     → IsActing facts m c p level → HasArrived facts m c p level (decides x sel k) → IsKept facts m c p choice (decides x sel k)
-unmatched_are_kept facts m c p choice level x sel k ahead none acting arrived =
-    let (b, checked, by) = arrived.arrived in unmatched_kept facts m c p choice level x sel k acting arrived by.0 b checked by ahead none
+unmatched_are_kept facts m c p choice level x sel k none acting arrived =
+    let (b, checked, by) = arrived.arrived in unmatched_kept facts m c p choice level x sel k acting arrived by.0 b checked by none

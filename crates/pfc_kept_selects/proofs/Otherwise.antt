@@ -30,6 +30,7 @@ use Rattle.pfc_own_actions.specs.Doing.{due_after}
 use Rattle.pfc_select_actions.specs.Selects as machine
 use Rattle.pfc_select_actions.specs.Selects.{open_count, open_ones, waits_at, seconds_of}
 use Rattle.pfc_machine_acts.specs.Performing.{silent}
+use Rattle.pfc_standing_code.specs.Effects.{LeadsAhead, LeadAhead}
 use Rattle.pfc_standing_code.specs.Settings.{Trial, of_own, site_of, IsAt}
 use Rattle.pfc_standing_code.specs.Words.{IsChecked}
 use Rattle.pfc_standing_code.specs.Performs.{AreOpen, DecidesAt}
@@ -43,7 +44,6 @@ use Rattle.pfc_kept_own_actions.proofs.Alone.{refuse}
 use Rattle.pfc_kept_own_actions.proofs.Arrived.{code_there, next_within}
 use Rattle.pfc_kept_own_actions.proofs.Blocks.{StaysIn}
 use Rattle.pfc_kept_own_actions.proofs.Within.{later_less, code_stays}
-use Rattle.pfc_kept_selects.specs.Groups.{LeadsAhead, LeadAhead}
 use Rattle.pfc_kept_selects.proofs.Same.{TimedOut, timeout_same}
 use Rattle.pfc_kept_selects.proofs.Gone.{HasBranches}
 use Rattle.pfc_kept_selects.proofs.Both as both

@@ -20,7 +20,7 @@ use Rattle.pfc_machines.specs.declared.alternatives.Offer.{Offer as MachineOffer
 use Rattle.pfc_machines.specs.declared.alternatives.Offer.TheVariants.{Timeout as MachineTimeout}
 use Rattle.pfc_machines.specs.declared.alternatives.Sought.TheVariants.{Delay, End}
 use Rattle.pfc_machines.specs.Offers.{arm_of, listed_arm, communicates, communications, is_sought, first_sought}
-use Rattle.pfc_standing_code.specs.Effects.{Arm}
+use Rattle.pfc_standing_code.specs.Effects.{Arm, LeadsAhead, LeadAhead}
 use Rattle.pfc_standing_code.specs.Settings.{Setting, site_of}
 use Rattle.pfc_standing_code.specs.Performs.{IsOpen, AreOpen, Performs}
 use Rattle.pfc_standing_code.specs.TypedStatements.{IsChannel}
@@ -31,7 +31,6 @@ use Rattle.pfc_representation.specs.Rooms.{LeadsWithin, LeadWithin}
 use Rattle.pfc_representation.specs.Alternatives.{IsReceiving, IsMadeBy}
 use Rattle.pfc_kept_messages.proofs.Made.{IsKeptArm, AreKeptArms, arms_in}
 use Rattle.pfc_kept_messages.proofs.Found.{arm_same}
-use Rattle.pfc_kept_selects.specs.Groups.{LeadsAhead, LeadAhead}
 
 listed_both : (y : Option WaitArm) (xs : List WaitArm) → text.listed_arm y xs ≡ listed_arm y ++ xs
 listed_both None xs = refl

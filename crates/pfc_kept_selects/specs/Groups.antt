@@ -1,25 +1,9 @@
--- Selects, by what they offer and by where their branches lead.
-use Rattle.std.specs.Prelude.{ℕ, ◌<◌, List, [], ◌∷◌, slice_get, Option, Some, None}
-use Rattle.pfc_code.specs.declared.instructions.Instr.{Instr}
-use Rattle.pfc_code.specs.declared.instructions.Instr.TheVariants.{ARMS, ARMR, ARMA, ARMT}
+-- Selects, by what they offer.
+use Rattle.std.specs.Prelude.{ℕ, slice_get, Option, Some, None}
 use Rattle.pfc_semantics.specs.Programs.{Program}
 use Rattle.pfc_semantics.specs.Remainders.{Offer, Open, Selecting, to_send, to_receive, to_accept}
 use Rattle.pfc_semantics.specs.Configurations.{Config}
 use Rattle.pfc_semantics.specs.Selects.{matched_places, place_taken, open_at}
-use Rattle.pfc_standing_code.specs.Effects.{Arm}
-
--- a branch stands behind the decision at this address
-abbrev pub LeadsAhead : ℕ → Instr → Type 0
-LeadsAhead at (ARMS z to) = at < to
-LeadsAhead at (ARMR z to) = at < to
-LeadsAhead at (ARMA e d z to) = at < to
-LeadsAhead at (ARMT to) = at < to
-LeadsAhead at i = Unit {0}
-
--- The branches of all alternatives do: in the code of a select they stand behind the instruction that decides.
-abbrev pub LeadAhead : ℕ → List Arm → Type 0
-LeadAhead at [] = Unit {0}
-LeadAhead at (arm ∷ arms) = LeadsAhead at arm.by × LeadAhead at arms
 
 -- It sends a message or receives one.
 abbrev pub IsMessageOffer : Offer → Type 0

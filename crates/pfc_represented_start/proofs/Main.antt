@@ -243,5 +243,5 @@ module _ (t : ProgramTree) (lawful : IsLawful (forget_program t)) (whole : broke
   main_does =
       main_performs setting code (main_of_block t code).room p.main p.main.env refl refl main_is_mains (main_of_block t code)
       (main_stands t setting (main_of_image t code) code (the_main_block t).there)
-      (modules_ready t lawful whole setting (main_of_image t code) refl initials_seen)
-      (body_ready t lawful whole setting p.main (main_of_image t code) refl of_main main_seen)
+      (modules_ready t lawful whole setting (main_of_image t code) refl refl initials_seen)
+      (body_ready t lawful whole setting p.main (main_of_image t code) refl refl of_main main_seen)

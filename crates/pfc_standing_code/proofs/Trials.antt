@@ -1,12 +1,14 @@
 -- In a scan only the guard of another is tried.
-use Rattle.std.proofs.Common.{◌≡◌, ℕ, zero, suc, ◌≤◌, ℤ, true, false, List, Option, Some, None, is_some, nat_le, refl, sym, subst, arith}
+use Rattle.std.proofs.Common.{◌≡◌, ℕ, zero, suc, ◌≤◌, ◌==◌, ℤ, Bool, true, false, List, Option, Some, None, nat_le, refl, sym, subst, arith, inl, inr}
 use Rattle.std.proofs.lemmas.Bool.Decides.{nat_tests}
 use Rattle.std.proofs.lemmas.Option.{same_Some}
+use Rattle.pfc_types.specs.declared.types.TypeId.{TypeId}
 use Rattle.pfc_types.specs.declared.heads.Formal.{Formal}
 use Rattle.pfc_types.specs.declared.view.Found.{Found}
 use Rattle.pfc_types.specs.declared.scope.Meaning.{Meaning}
-use Rattle.pfc_types.specs.declared.scope.Meaning.TheVariants.{Sub, Predeclared}
+use Rattle.pfc_types.specs.declared.scope.Meaning.TheVariants.{Variable, Sub, Predeclared}
 use Rattle.pfc_types.specs.Scopes.{meaning_of}
+use Rattle.pfc_types.specs.Blocks.{Blocks, State}
 use Rattle.pfc_types.specs.rules.Routines.{guard_function}
 use Rattle.pfc_types.specs.rules.Expressions.{Env, guard_names, guard_allows}
 use Rattle.pfc_types.proofs.Clean.{and-right}
@@ -15,7 +17,9 @@ use Rattle.pfc_semantics.specs.Programs.{Block}
 use Rattle.pfc_semantics.specs.Remainders.{Context, Call, Action, to_procedure, to_function, to_module, to_requeue, to_process, to_entry, reads, writes, turns}
 use Rattle.pfc_semantics.specs.Remainders.{calls, finishes, prints, inputs, skips, asks_eof, asks_eoln, asks_clock, asks_empty, draws, joins, initials, waits}
 use Rattle.pfc_semantics.specs.Remainders.{signals, delays, resumes, sleeps, meets, decides, parts, scans, bars, passes, faults}
-use Rattle.pfc_standing_code.specs.Settings.{Trial, Setting, of_own, of_turn, of_another, IsInTrial}
+use Rattle.pfc_semantics.specs.Expressions.{named_spot, found_spot, spot_of}
+use Rattle.pfc_translation.specs.Sites.{is_mains}
+use Rattle.pfc_standing_code.specs.Settings.{Trial, Setting, of_own, of_turn, of_another, is_of_mains, IsInTrial, MayRead}
 use Rattle.pfc_standing_code.specs.Effects.{Arm}
 use Rattle.pfc_standing_code.specs.Awaits.{is_asked, CallsAt}
 use Rattle.pfc_standing_code.specs.Following.{ArrivedBy, may_scan}
@@ -71,7 +75,7 @@ arrived_own g b at ops arms (faults x f) h e = never e
 pub own_tried : (t : Trial) (env : Env) → t ≡ of_own → IsInTrial t env
 own_tried t env own = subst (λ (y : Trial). IsInTrial y env) (sym own) tt
 
-pub guard_tried : (t : Trial) (env : Env) → is_some env.around.guard ≡ true → IsInTrial t env
+pub guard_tried : (t : Trial) (env : Env) → is_of_mains env.state.blocks env.around.guard ≡ true → IsInTrial t env
 guard_tried of_own env is = tt
 guard_tried (of_turn scan back) env is = is
 guard_tried (of_another attempt) env is = is
@@ -102,7 +106,7 @@ named_own t env h o allows m is other = by t h
     of r None a e = absurd (cc)
     of r (Some f) a e = other r f.scope (subst (λ (k : Meaning). guard_names r f.scope k ≡ true) (same_Some f.meaning m e) a)
 
-    within : {A : Type 0} (guard : Option ℕ) → is_some guard ≡ true → guard_allows guard o ≡ true → A
+    within : {A : Type 0} (guard : Option ℕ) → is_of_mains env.state.blocks guard ≡ true → guard_allows guard o ≡ true → A
     within None e a = never (sym e)
     within (Some r) e a = absurd (of r o a is)
 
@@ -118,3 +122,43 @@ sub_own g env h o allows n e = named_own g.trial env h o allows (Sub n) e (λ r 
 pub asked_own : (g : Setting) (env : Env) → IsInTrial g.trial env → (o : Option Found) → guard_allows env.around.guard o ≡ true → (k : ℕ)
     → meaning_of o ≡ Some (Predeclared k) → is_asked (function_of k) ≡ true → g.trial ≡ of_own
 asked_own g env h o allows k e asked = named_own g.trial env h o allows (Predeclared k) e (λ r scope a. asked_apart k a asked)
+
+-- ## Variables of a guard
+
+equal_scope : (i j : ℕ) → (i == j) ≡ true → i ≡ j
+equal_scope i j e = grind (arith, nat_tests)
+
+-- a variable that a guard names is one of its resource
+of_resource : (blocks : Blocks) (env : Env) (r : ℕ) → is_mains blocks r ≡ true → (o : Option Found) → guard_allows (Some r) o ≡ true
+    → (t : TypeId) (reference : Bool) → meaning_of o ≡ Some (Variable t reference) → is_mains blocks (spot_of env o).spot.scope ≡ true
+of_resource blocks env r mains None allows t reference is = absurd (cc)
+of_resource blocks env r mains (Some f) allows t reference is = by f.scope allows
+  where
+    named : f.meaning ≡ Variable t reference
+    named = same_Some f.meaning (Variable t reference) is
+
+    by : (scope : Option ℕ) → guard_names r scope f.meaning ≡ true → is_mains blocks (found_spot env.state.blocks scope f).spot.scope ≡ true
+    by None names = never (sym (subst (λ (m : Meaning). guard_names r None m ≡ true) named names))
+    by (Some i) names =
+        let own : i ≡ r = equal_scope i r (subst (λ (m : Meaning). guard_names r (Some i) m ≡ true) named names) in
+        subst (λ (m : Meaning). is_mains blocks (named_spot env.state.blocks i f.place m).spot.scope ≡ true) (sym named)
+        (subst (λ (n : ℕ). is_mains blocks n ≡ true) (sym own) mains)
+
+-- so it may be read in a scan
+pub named_read : (g : Setting) (env : Env) → env.state ≡ g.program.state → IsInTrial g.trial env → (o : Option Found)
+    → guard_allows env.around.guard o ≡ true → (t : TypeId) (reference : Bool) → meaning_of o ≡ Some (Variable t reference)
+    → MayRead g (spot_of env o).spot.scope
+named_read g env same tried o allows t reference is = by g.trial refl tried
+  where
+    mains : (guard : Option ℕ) → is_of_mains env.state.blocks guard ≡ true → guard_allows guard o ≡ true
+        → is_mains env.state.blocks (spot_of env o).spot.scope ≡ true
+    mains None e a = never (sym e)
+    mains (Some r) e a = of_resource env.state.blocks env r e o a t reference is
+
+    read : is_of_mains env.state.blocks env.around.guard ≡ true → MayRead g (spot_of env o).spot.scope
+    read e = inr (subst (λ (s : State). is_mains s.blocks (spot_of env o).spot.scope ≡ true) same (mains env.around.guard e allows))
+
+    by : (x : Trial) → g.trial ≡ x → IsInTrial x env → MayRead g (spot_of env o).spot.scope
+    by of_own own h = inl own
+    by (of_turn scan back) is h = read h
+    by (of_another attempt) is h = read h

@@ -40,14 +40,14 @@ use Rattle.pfc_translation.specs.Statements.{stmt_code, stmts_code, arms_code, l
 use Rattle.pfc_translation.specs.Codes.{nothing}
 use Rattle.pfc_standing_code.specs.Shapes.{Shape, a_number, shape_of, shape_cells}
 use Rattle.pfc_standing_code.specs.ValueTypes.{IsValueType}
-use Rattle.pfc_standing_code.specs.Settings.{Setting, of_own, InNoScan, AreOver, site_of, IsAt, Stands}
+use Rattle.pfc_standing_code.specs.Settings.{Setting, of_own, InNoScan, MayRead, AreOver, site_of, SeesAccepts, IsAt, Stands}
 use Rattle.pfc_standing_code.specs.Effects.{Arm}
 use Rattle.pfc_standing_code.specs.Typed.{IsArray, ByName, InExpressions, FromOutside, ByRequeue, IsOfSub, TakesCells, LeavesCells, HasShape, AreSummands}
 use Rattle.pfc_standing_code.specs.Typed.{AreMultipliers, HasShapeSimple, AreArguments, AreSelectors, AreIndices}
 use Rattle.pfc_standing_code.specs.TypedStatements.{IsTyped, IsChannel, IsCarried, IsMessage, IsReceiver, IsRank, HasProcessForm, IsProcessType}
-use Rattle.pfc_standing_code.specs.Words.{IsWord, IsPart, IsSimpleWord, IsObject, AreHeld}
+use Rattle.pfc_standing_code.specs.Words.{IsWord, IsPart, IsSimpleWord, IsObject, AreHeld, Lends, LendsAt}
 use Rattle.pfc_standing_code.specs.Performs.{ArmsAt, StmtThen, direction, BranchAt, SelectAt, CommAt, WayAt, own_block, behind_scan, own_again, IsOwnBar, Tries}
-use Rattle.pfc_standing_code.specs.Performs.{IsCheckedFor, Clear, Alone, Performs}
+use Rattle.pfc_standing_code.specs.Performs.{alternatives_size, IsCheckedFor, Clear, Alone, Performs}
 
 -- `eof`, `eoln` and `clock` have no argument, and that of `empty` is no value
 abbrev pub has_argument : Function → Bool
@@ -101,7 +101,8 @@ BehindScanAt g scan ops k =
 abbrev pub ObjectThen : Setting → Site → ℕ → List ℤ → Code → (ℕ → Type 0) → Type 0
 ObjectThen g s at ops code behind = IsAt g at OBJ s.line × (n : ℕ) × Stands g (at + 1) n (suc (length ops)) code × behind (at + 1 + code.size)
 
--- the instruction that makes an alternative of the operands, and what stands behind it; the alternative is no accept
+-- The instruction that makes an alternative of the operands, and what stands behind it. The alternative is no accept, and its branch stands behind the
+-- decision.
 pub record ArmAt (g : Setting) (s : Site) (x : Context) (at held : ℕ) (a : Alternative) (rest : List Alternative) (sel : Selecting) (arms : List Arm) (i : ℕ →
     Instr) (behind : ℕ → Type 0) : Type 0 where
   pub to : ℕ
@@ -109,6 +110,7 @@ pub record ArmAt (g : Setting) (s : Site) (x : Context) (at held : ℕ) (a : Alt
   pub branch : BranchAt g s to held a.replica None (a.next + comm_scopes a.comm) a.stmts behind
   pub others : SelectAt g s x (at + 1) held rest sel arms behind
   pub room : length arms + 1 + length rest ≤ g.arms
+  pub far : at + 1 + alternatives_size s rest < to
 
 -- the alternative sends or receives
 abbrev pub HasMessage : CommTree → Type 0
@@ -162,14 +164,14 @@ abbrev mutual
       (h ≡ a_number) × (w : ℤ) × (below : List ℤ) × (t : Option TypeId) × (ops ≡ w ∷ below) × IsPart g.view s part w
       × IsArray forms part.t × AreIndices s within es × AreSelectors s (type_behind forms within es) ss t
       × (n : ℕ) × Stands g at n (suc (length ops)) inner × (m : ℕ) × Stands g (at + inner.size) m (suc (length below)) code
-      × TakesLocation g b x (at + inner.size + code.size) below arms t goal
+      × TakesLocation g b x (at + inner.size + code.size) below arms t goal × MayRead g part.spot.scope × LendsAt s part.spot goal
   TakesValue g b x at ops arms h (pass_value rest args given call) =
       let s = site_of g b x in
       let code = args_code s rest args in
       (before : List Formal) × (f : Formal) × (t : TypeId) × (below : List ℤ) × (f.reference ≡ false) × (f.t ≡ Some t) × (h ≡ shape_of t)
       × AreHeld g.view s before given ops below × AreArguments s rest args
       × (n : ℕ) × Stands g at n (shape_cells (forms_of s) h + length ops) code × CallsAt g b x (at + code.size) below arms (before ++ f ∷ rest) call
-      × IsValueType (forms_of s) t
+      × IsValueType (forms_of s) t × Lends s given rest args call
   TakesValue g b x at ops arms h (store_at v k) =
       let s = site_of g b x in
       Alone g arms ((t : TypeId) × (w : ℤ) × (below : List ℤ) × (h ≡ shape_of t) × (ops ≡ w ∷ below) × IsWord g.view s v (Some t) w
@@ -195,12 +197,12 @@ abbrev mutual
       let s = site_of g b x in
       let code = expr_code s e ⨾ pass_code s down m t in
       Alone g arms ((h ≡ a_number) × (w : ℤ) × (below : List ℤ) × (ops ≡ w ∷ below) × IsSimpleWord g.view s v w × HasShape s e a_number × IsTyped s m t
-      × (n : ℕ) × Stands g at n (suc (length ops)) code × Performs g b x.env (at + code.size) below [] k)
+      × (n : ℕ) × Stands g at n (suc (length ops)) code × Performs g b x.env (at + code.size) below [] k × SeesAccepts g s)
   TakesValue g b x at ops arms h (count_to m v a down t k) =
       let s = site_of g b x in
       let code = pass_code s down m t in
       Alone g arms ((h ≡ a_number) × (w : ℤ) × (below : List ℤ) × (ops ≡ a ∷ w ∷ below) × IsSimpleWord g.view s v w × IsTyped s m t
-      × (n : ℕ) × Stands g at n (suc (length ops)) code × Performs g b x.env (at + code.size) below [] k)
+      × (n : ℕ) × Stands g at n (suc (length ops)) code × Performs g b x.env (at + code.size) below [] k × SeesAccepts g s)
   TakesValue g b x at ops arms h (show t k) =
       Alone g arms ((h ≡ a_number) × IsAt g at (write_instr (simple_of t) 0) x.line × Performs g b x.env (at + 1) ops [] k)
   TakesValue g b x at ops arms h (show_wide t e k) =
@@ -256,6 +258,7 @@ abbrev mutual
       (before : List Formal) × (f : Formal) × (below : List ℤ) × (f.reference ≡ true) × (f.t ≡ t)
       × AreHeld g.view s before given ops below × AreArguments s rest args
       × (n : ℕ) × Stands g at n (suc (length ops)) code × CallsAt g b x (at + code.size) below arms (before ++ f ∷ rest) call
+      × Lends s given rest args call
   TakesLocation g b x at ops arms t (ask_empty u) =
       InNoScan g ((t ≡ Some condition) × IsAt g at OBJ x.line × (suc (length ops) ≤ g.room) × IsAt g (at + 1) EMPTY x.line
       × TakesValue g b x (at + 2) ops arms a_number u)

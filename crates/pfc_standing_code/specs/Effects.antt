@@ -1,5 +1,6 @@
 -- What quiet instructions do: those of operands alone, addresses, objects, the alternatives of a select, and the end of a guard.
-use Rattle.std.specs.Prelude.{ℕ, ◌+◌, ◌≤◌, ◌≡◌, ℤ, pos, int_lt, true, if◌then◌else◌, List, [], ◌∷◌, ◌++◌, length, take, drop, Option, Some, None}
+use Rattle.std.specs.Prelude.{ℕ, ◌+◌, ◌<◌, ◌≤◌, ◌≡◌, ◌⊎◌, ℤ, pos, int_lt, Bool, true, false, if◌then◌else◌, List, [], ◌∷◌, ◌++◌, length, take, drop}
+use Rattle.std.specs.Prelude.{Option, Some, None}
 use Rattle.pfc_base.specs.declared.faults.RunFault.{RunFault}
 use Rattle.pfc_base.specs.declared.faults.RunFault.TheVariants.{Below}
 use Rattle.pfc_code.specs.declared.instructions.Instr.{Instr}
@@ -16,6 +17,19 @@ use Rattle.pfc_standing_code.specs.Settings.{View, Trial, Setting, of_own, of_tu
 pub record Arm : Type 0 where
   pub by : Instr
   pub operands : List ℤ
+
+-- its branch stands behind this address
+abbrev pub LeadsAhead : ℕ → Instr → Type 0
+LeadsAhead at (ARMS z to) = at < to
+LeadsAhead at (ARMR z to) = at < to
+LeadsAhead at (ARMA e d z to) = at < to
+LeadsAhead at (ARMT to) = at < to
+LeadsAhead at i = Unit {0}
+
+-- and so do the branches of them all
+abbrev pub LeadAhead : ℕ → List Arm → Type 0
+LeadAhead at [] = Unit {0}
+LeadAhead at (arm ∷ arms) = LeadsAhead at arm.by × LeadAhead at arms
 
 pub data Effect : Type 0 where
   -- on to this address, with these operands and these alternatives
@@ -67,3 +81,12 @@ pub record CanPerform (g : Setting) (i : Instr) (ops : List ℤ) : Type 0 where
   pub held : reads g.program i ≤ length ops
   pub reckons : Reckons i ops
   pub sight : InSight g.view i
+
+-- the instruction makes an alternative that waits for some seconds
+abbrev pub is_timeout : Instr → Bool
+is_timeout (ARMT a) = true
+is_timeout i = false
+
+-- in a scan there is no select, so no such alternative is refused
+abbrev pub MayRefuse : Setting → Instr → Type 0
+MayRefuse g i = (g.trial ≡ of_own) ⊎ (is_timeout i ≡ false)

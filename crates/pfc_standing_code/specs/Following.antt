@@ -5,6 +5,7 @@ use Rattle.pfc_base.specs.declared.faults.RunFault.{RunFault}
 use Rattle.pfc_code.specs.declared.instructions.Instr.{Instr}
 use Rattle.pfc_code.specs.declared.instructions.Instr.TheVariants.{LOAD, STORE, TURN, FORW, FORT, GRD, COEND, SINI, SWAIT, SSIG, SEND, RECV, ACC, EACC, DELAY}
 use Rattle.pfc_code.specs.declared.instructions.Instr.TheVariants.{RESUME, EMPTY, SLEEP, CLOCK, RAND, WRS, WRNL, RDNL, EOF, EOLN}
+use Rattle.pfc_tree.specs.trees.Exprs.{no_actuals}
 use Rattle.pfc_tree.specs.trees.Stmts.{no_stmts}
 use Rattle.pfc_types.specs.Types.{semaphore, condition}
 use Rattle.pfc_types.specs.rules.Expressions.{Env}
@@ -28,9 +29,9 @@ use Rattle.pfc_translation.specs.Selects.{accept_cell, accept_cells}
 use Rattle.pfc_cells.specs.Shapes.{words_of}
 use Rattle.pfc_standing_code.specs.Shapes.{Shape, a_number, shape_of, shape_cells, IsOf, IsShaped}
 use Rattle.pfc_standing_code.specs.ValueTypes.{IsValueType}
-use Rattle.pfc_standing_code.specs.Settings.{Trial, Setting, of_own, of_turn, of_another, InNoScan, site_of, parted, IsAt}
-use Rattle.pfc_standing_code.specs.Effects.{Arm, onward, refuses, effect_of, CanPerform}
-use Rattle.pfc_standing_code.specs.Words.{IsWord, IsSimpleWord, IsObject, IsChecked, AreHeld}
+use Rattle.pfc_standing_code.specs.Settings.{Trial, Setting, of_own, of_turn, of_another, InNoScan, MayRead, site_of, parted, IsAt}
+use Rattle.pfc_standing_code.specs.Effects.{Arm, LeadAhead, onward, refuses, effect_of, CanPerform, MayRefuse}
+use Rattle.pfc_standing_code.specs.Words.{IsWord, IsSimpleWord, IsObject, IsChecked, AreHeld, Lends}
 use Rattle.pfc_standing_code.specs.Performs.{MetAt, DecidesAt, IsSent, IsReceived, AreOpen, own_room, IsOwnBar, Tries, IsCheckedFor, Clear, Alone, Performs}
 use Rattle.pfc_standing_code.specs.Awaits.{TurnAt, PerformsAnywhere, BehindScanAt, TakesValue, CallsAt}
 
@@ -46,7 +47,7 @@ pub data IsPiece (g : Setting) (line at : ℕ) (ops below : List ℤ) (bytes : L
 
 -- an instruction that ends in a fault
 pub data IsFault (g : Setting) (line at : ℕ) (ops : List ℤ) (arms : List Arm) (f : RunFault) : Type 0 where
-  of_operands : (i : Instr) → IsAt g at i line → CanPerform g i ops → effect_of g i at ops arms ≡ refuses f → IsFault g line at ops arms f
+  of_operands : (i : Instr) → IsAt g at i line → CanPerform g i ops → effect_of g i at ops arms ≡ refuses f → MayRefuse g i → IsFault g line at ops arms f
   of_number_width : (t : Simple) (n w : ℤ) (below : List ℤ) → ops ≡ w ∷ n ∷ below → padded w (shown t n) ≡ Err f →
       IsAt g at (write_instr t 1) line → IsFault g line at ops arms f
   of_string_width : (s : ℕ) (w : ℤ) (text : List ℕ) (below : List ℤ) → ops ≡ w ∷ below → slice_get g.texts s ≡ Some text → padded w text ≡ Err f →
@@ -102,11 +103,12 @@ abbrev pub ArrivedBy : Setting → Block → ℕ → List ℤ → List Arm → A
 ArrivedBy g b at ops arms (reads x v u) =
     (t : TypeId) × (w : ℤ) × (below : List ℤ) × (ops ≡ w ∷ below) × IsWord g.view (site_of g b x) v (Some t) w
     × IsAt g at (LOAD (shape_cells g.program.state.forms (shape_of t))) x.line × (length below + shape_cells g.program.state.forms (shape_of t) ≤ g.room)
-    × TakesValue g b x (at + 1) below arms (shape_of t) u × IsValueType g.program.state.forms t
+    × TakesValue g b x (at + 1) below arms (shape_of t) u × IsValueType g.program.state.forms t × MayRead g v.scope
 ArrivedBy g b at ops arms (writes x v new k) = InNoScan g (IsWrite g b x at ops arms v new k)
 ArrivedBy g b at ops arms (turns x k) = Alone g arms (IsTurn g b x at ops k)
 ArrivedBy g b at ops arms (calls x call given) =
     (formals : List Formal) × (below : List ℤ) × AreHeld g.view (site_of g b x) formals given ops below × CallsAt g b x at below arms formals call
+    × Lends (site_of g b x) given [] no_actuals call
 ArrivedBy g b at ops arms (finishes line) = Alone g arms ((ops ≡ g.under) × IsAt g at g.last line × (g.meetings ≡ []))
 ArrivedBy g b at ops arms (prints x bytes k) = Alone g arms ((below : List ℤ) × IsPiece g x.line at ops below bytes × Performs g b x.env (at + 1) below [] k)
 ArrivedBy g b at ops arms (inputs x t v k) =
@@ -134,7 +136,7 @@ ArrivedBy g b at ops arms (meets x o k) = Alone g arms (IsPlain o × MeetsBy g b
 ArrivedBy g b at ops arms (decides x sel k) =
     let s = site_of g b x in
     let behind = λ (end : ℕ). Performs g b x.env end ops [] k in
-    InNoScan g (DecidesAt g s at (length ops) sel.pri sel.otherwise behind × AreOpen g s (length ops) sel.offered arms behind)
+    InNoScan g (DecidesAt g s at (length ops) sel.pri sel.otherwise behind × AreOpen g s (length ops) sel.offered arms behind × LeadAhead at arms)
 ArrivedBy g b at ops arms (parts x caller k) =
     Alone g arms (IsAt g at EACC x.line × (slice_get g.meetings 0 ≡ Some caller) × IsCheckedFor (parted g) b x.env k
     × Performs (parted g) b x.env (at + 1) ops [] k)

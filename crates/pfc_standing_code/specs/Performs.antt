@@ -5,7 +5,7 @@
 use Rattle.std.specs.Prelude.{ℕ, ◌+◌, ◌<◌, ◌≤◌, ◌≡◌, ℤ, pos, int_lt, Bool, false, if◌then◌else◌, List, [], ◌∷◌, ◌++◌, length, drop, reverse, Option, Some, None}
 use Rattle.std.specs.List.{slice_get}
 use Rattle.pfc_code.specs.declared.instructions.Instr.TheVariants.{TURN, FORW, FORT, CERR, GRD, SCAN, COEND, EACC, ARMS, ARMR, ARMA, ARMT, ARMX, SEL}
-use Rattle.pfc_tree.specs.trees.Stmts.{StmtTree, StmtTrees, ArmTrees, CommTree, repeat_until, comm_accept, terminate}
+use Rattle.pfc_tree.specs.trees.Stmts.{StmtTree, StmtTrees, ArmTrees, CommTree, no_stmts, more_stmts, repeat_until, comm_accept, terminate}
 use Rattle.pfc_types.specs.Types.{synchronous}
 use Rattle.pfc_types.specs.rules.Expressions.{Env}
 use Rattle.pfc_types.specs.rules.Statements.{comm_scopes}
@@ -29,8 +29,8 @@ use Rattle.pfc_translation.specs.Selects.{accept_cell, accept_cells, replica_cod
 use Rattle.pfc_cells.specs.Shapes.{words_of}
 use Rattle.pfc_standing_code.specs.Shapes.{a_number, shape_of, shape_cells, IsOf}
 use Rattle.pfc_standing_code.specs.Settings.{View, Trial, Attempt, Setting, of_own, of_turn, of_another, InNoScan, site_of, IsBeside, parted, IsAt, Stands}
-use Rattle.pfc_standing_code.specs.Settings.{Jumped}
-use Rattle.pfc_standing_code.specs.Effects.{Arm}
+use Rattle.pfc_standing_code.specs.Settings.{SeesAccepts, Jumped}
+use Rattle.pfc_standing_code.specs.Effects.{Arm, LeadAhead}
 use Rattle.pfc_standing_code.specs.Typed.{HasShape}
 use Rattle.pfc_standing_code.specs.TypedStatements.{IsChannel, IsCarried, AcceptsEntry, IsTyped, AreTyped, AreArmsTyped, AreWritten, AreRead, IsReplica}
 use Rattle.pfc_standing_code.specs.TypedStatements.{IsGuard, IsComm, AreAlternatives}
@@ -42,10 +42,17 @@ use Rattle.pfc_standing_code.specs.Words.{IsWord, IsSimpleWord, IsObject, AreOwn
 pub record StmtAt (g : Setting) (s : Site) (at n held m : ℕ) (t : StmtTree) : Type 0 where
   pub typed : IsTyped s m t
   pub code : Stands g at n held (stmt_code s m t)
+  pub accepts : SeesAccepts g s
+
+-- of no statements nothing is asked
+abbrev pub SeeAccepts : Setting → Site → StmtTrees → Type 0
+SeeAccepts g s no_stmts = Unit {0}
+SeeAccepts g s (more_stmts t ts) = SeesAccepts g s
 
 pub record StmtsAt (g : Setting) (s : Site) (at n held m : ℕ) (ts : StmtTrees) : Type 0 where
   pub typed : AreTyped s m ts
   pub code : Stands g at n held (stmts_code s m ts)
+  pub accepts : SeeAccepts g s ts
 
 -- The tests of all labels stand from one place on, with the value of the `case` on top, and the arms, the first of which begins so far behind
 -- the first arm of all, from another.
@@ -53,6 +60,7 @@ pub record ArmsAt (g : Setting) (s : Site) (tests k first n m from held : ℕ) (
   pub typed : AreArmsTyped s m arms
   pub tests_stand : Stands g tests k (1 + held) (tests_code s m from arms ⨾ one s CERR)
   pub arms_stand : Stands g first n held (arms_code s m arms)
+  pub accepts : SeesAccepts g s
 
 -- a statement stands here, or statements do, and behind them all is as is said
 abbrev pub StmtThen : Setting → Site → ℕ → ℕ → ℕ → StmtTree → (ℕ → Type 0) → Type 0
@@ -88,6 +96,7 @@ MetAt g s at held None m ts behind = StmtsThen g s at held m ts behind
 MetAt g s at held (Some a) m ts behind =
     AcceptsEntry (blocks_of s) s.block.scope a.entry a.scope
     × StmtThen g (in_accept s a.scope) at held (a.scope + 1) a.stmt (λ to. IsAt g to EACC a.line × StmtsThen g s (to + 1) held m ts behind)
+    × SeesAccepts g s
 
 -- the branch of an alternative: a replicated one writes its variable again, at the line of the select
 abbrev pub BranchAt : Setting → Site → ℕ → ℕ → Option Replica → Option Accepting → ℕ → StmtTrees → (ℕ → Type 0) → Type 0
@@ -164,18 +173,23 @@ AreOpen g s held [] (arm ∷ arms) behind = ⊥
 AreOpen g s held (o ∷ os) [] behind = ⊥
 AreOpen g s held (o ∷ os) (arm ∷ arms) behind = IsOpen g s held o o.offer arm behind × AreOpen g s held os arms behind
 
--- The alternatives that were found open, and those that are still to be gone through.
+-- the instructions of alternatives, wherever their branches are
+abbrev pub alternatives_size : Site → List Alternative → ℕ
+alternatives_size s alts = (alternatives_code s alts []).size
+
+-- The alternatives that were found open, whose branches stand behind the decision, and those that are still to be gone through.
 pub record SelectAt (g : Setting) (s : Site) (x : Context) (at held : ℕ) (alts : List Alternative) (sel : Selecting)
     (arms : List Arm) (behind : ℕ → Type 0) : Type 0 where
   pub left : AlternativesAt g s x at held alts sel behind
   pub open_ones : AreOpen g s held sel.offered arms behind
   pub room : length arms + length alts ≤ g.arms
+  pub ahead : LeadAhead (at + alternatives_size s alts) arms
   -- somewhere all is as is said, also where no branch leads there
   pub end : ℕ
   pub left_behind : behind end
 
 -- What an open alternative waits for is evaluated here, over so many operands; its branch begins so many instructions behind the code, over those
--- that are held without it. There is room for it among the alternatives.
+-- that are held without it, behind the decision. There is room for it among the alternatives.
 pub record CommAt (g : Setting) (s : Site) (x : Context) (at above held : ℕ) (a : Alternative) (rest : List Alternative) (sel : Selecting) (arms : List Arm)
     (code : ℕ → Code) (behind : ℕ → Type 0) : Type 0 where
   pub comm : IsComm s a.comm
@@ -185,6 +199,7 @@ pub record CommAt (g : Setting) (s : Site) (x : Context) (at above held : ℕ) (
   pub branch : CommBranchAt g s x (at + (code between).size + between) held a a.comm behind
   pub others : SelectAt g s x (at + (code between).size) held rest sel arms behind
   pub room : length arms + 1 + length rest ≤ g.arms
+  pub far : alternatives_size s rest < between
 
 -- ## Guards of a resource
 

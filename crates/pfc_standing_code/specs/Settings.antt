@@ -1,13 +1,15 @@
 -- The code of a program, and what the activation at hand sees of the machine.
-use Rattle.std.specs.Prelude.{ℕ, ◌+◌, ◌<◌, ◌≤◌, ◌≡◌, ℤ, Bool, true, List, [], ◌∷◌, ◌++◌, drop, Option, Some, is_some}
-use Rattle.std.specs.List.{slice_get}
+use Rattle.std.specs.Prelude.{ℕ, ◌+◌, ◌<◌, ◌≤◌, ◌==◌, ◌≡◌, ◌⊎◌, ℤ, Bool, true, false, List, [], ◌∷◌, ◌++◌, drop, Option, Some, None}
+use Rattle.std.specs.List.{slice_get, list_any}
 use Rattle.pfc_code.specs.declared.instructions.Instr.{Instr}
 use Rattle.pfc_code.specs.declared.instructions.Instr.TheVariants.{JMP}
 use Rattle.pfc_tree.specs.Symbols.{Text}
+use Rattle.pfc_types.specs.Scopes.{Level}
+use Rattle.pfc_types.specs.Blocks.{Blocks}
 use Rattle.pfc_types.specs.rules.Expressions.{Env}
 use Rattle.pfc_semantics.specs.Programs.{Block, Program}
 use Rattle.pfc_semantics.specs.Remainders.{Context, Scan, Tried}
-use Rattle.pfc_translation.specs.Sites.{Site}
+use Rattle.pfc_translation.specs.Sites.{Site, is_mains}
 use Rattle.pfc_translation.specs.Codes.{Code, Lined}
 use Rattle.pfc_translation.specs.Operands.{most_operands}
 use Rattle.pfc_translation.specs.Images.{instructions}
@@ -70,15 +72,24 @@ site_of g b x = record { program = g.program; block = b; env = x.env; line = x.l
 
 -- ## Trials
 
+-- the guard is that of a resource whose variables are main's
+abbrev pub is_of_mains : Blocks → Option ℕ → Bool
+is_of_mains blocks None = false
+is_of_mains blocks (Some r) = is_mains blocks r
+
 -- In a scan a process tries the guard of another, and does nothing else: what it has in view are the names of a guard.
 abbrev pub IsInTrial : Trial → Env → Type 0
 IsInTrial of_own env = Unit {0}
-IsInTrial (of_turn scan back) env = is_some env.around.guard ≡ true
-IsInTrial (of_another attempt) env = is_some env.around.guard ≡ true
+IsInTrial (of_turn scan back) env = is_of_mains env.state.blocks env.around.guard ≡ true
+IsInTrial (of_another attempt) env = is_of_mains env.state.blocks env.around.guard ≡ true
 
 -- the process is in no scan, as where it performs a statement, calls, or communicates
 abbrev pub InNoScan : Setting → Type 0 → Type 0
 InNoScan g P = (g.trial ≡ of_own) × P
+
+-- in a scan no variables but main's are read: a guard names those of its resource alone
+abbrev pub MayRead : Setting → ℕ → Type 0
+MayRead g i = (g.trial ≡ of_own) ⊎ (is_mains g.program.state.blocks i ≡ true)
 
 -- the operands of the callers are the last of these
 abbrev pub AreOver : Setting → List ℤ → Type 0
@@ -103,6 +114,12 @@ with_accept g i caller = record g { accepts = i ∷ g.accepts; meetings = caller
 
 abbrev pub parted : Setting → Setting
 parted g = record g { accepts = drop 1 g.accepts; meetings = drop 1 g.meetings }
+
+-- Each accept that is open is in view: so where a statement stands, and not where the variable of a replicated alternative is written that accepts, whose
+-- accept is open before its names come into view.
+abbrev pub SeesAccepts : Setting → Site → Type 0
+SeesAccepts g s =
+    (i : ℕ) → list_any (λ j. j == i) g.accepts ≡ true → list_any (λ (level : Level). level.scope == i) s.env.view ≡ true
 
 -- ## Code at a place
 

@@ -1,19 +1,19 @@
 -- Expressions, variables and arguments whose parts have the shapes that their code needs: those of checked programs.
 --
 -- It is said of the parts themselves, so that no type is asked for again. In a guard of a resource a name that is evaluated is one that may stand there.
-use Rattle.std.specs.Prelude.{ℕ, ◌==◌, ◌<◌, ◌≡◌, ℤ, Bool, true, false, ◌||◌, if◌then◌else◌, List, [], ◌∷◌, length, Option, Some, None}
+use Rattle.std.specs.Prelude.{ℕ, ◌==◌, ◌<◌, ◌≡◌, ◌⊎◌, ℤ, Bool, true, false, ◌||◌, if◌then◌else◌, List, [], ◌∷◌, length, Option, Some, None}
 use Rattle.std.specs.List.{slice_get, list_any}
 use Rattle.pfc_tree.specs.Symbols.{Text}
 use Rattle.pfc_tree.specs.trees.Exprs.{ExprTree, SimpleTree, SummandTrees, TermTree, MultiplierTrees, FactorTree, DesigTree, SelectorTrees, ExprTrees}
 use Rattle.pfc_tree.specs.trees.Exprs.{ActualTree, ActualTrees, plain, related, sum, no_summands, more_summands, product, no_multipliers, more_multipliers}
 use Rattle.pfc_tree.specs.trees.Exprs.{number, literal, negation, paren, applied as used, desig, index, field, no_selectors, more_selectors, no_exprs}
 use Rattle.pfc_tree.specs.trees.Exprs.{more_exprs, actual, actual_width, no_actuals, more_actuals}
-use Rattle.pfc_types.specs.Types.{Forms, condition, form_of}
+use Rattle.pfc_types.specs.Types.{Forms, condition, form_of, is_simple}
 use Rattle.pfc_types.specs.Fields.{FieldList, type_named, position_of}
 use Rattle.pfc_types.specs.Scopes.{Level, meaning_of, meaning_in, scope_at}
 use Rattle.pfc_types.specs.Blocks.{Blocks, sub_at, module_at}
 use Rattle.pfc_types.specs.rules.Routines.{is_function_sort}
-use Rattle.pfc_types.specs.rules.Expressions.{find, guard_allows, selected, field_type}
+use Rattle.pfc_types.specs.rules.Expressions.{find, guard_allows, selected, field_type, as_desig}
 use Rattle.pfc_types.specs.declared.types.TypeId.{TypeId}
 use Rattle.pfc_types.specs.declared.types.TypeForm.TheVariants.{Array, Record}
 use Rattle.pfc_types.specs.declared.scope.Meaning.{Meaning}
@@ -22,12 +22,13 @@ use Rattle.pfc_types.specs.declared.heads.Formal.{Formal}
 use Rattle.pfc_types.specs.declared.heads.SubHead.{SubHead}
 use Rattle.pfc_types.specs.declared.heads.SubSort.{SubSort}
 use Rattle.pfc_types.specs.declared.heads.SubSort.TheVariants.{Procedure, Guarded}
-use Rattle.pfc_semantics.specs.Layouts.{is_laid, laid_names, sub_with}
+use Rattle.pfc_semantics.specs.Layouts.{is_laid, laid_names, sub_with, variable_place}
 use Rattle.pfc_semantics.specs.Displays.{Spot, TypedSpot}
 use Rattle.pfc_semantics.specs.Predeclared.{Function, eof, eoln, empty, clock, no_function, function_of}
 use Rattle.pfc_semantics.specs.Programs.{Block, block_number}
 use Rattle.pfc_semantics.specs.Expressions.{spot_of}
-use Rattle.pfc_translation.specs.Sites.{Site, at_line, forms_of, blocks_of, is_mains, is_accept, layout_with, place_of}
+use Rattle.pfc_semantics.specs.Statements.{item_of}
+use Rattle.pfc_translation.specs.Sites.{Site, at_line, forms_of, blocks_of, is_mains, is_accept, links_to, layout_with, place_of, refers}
 use Rattle.pfc_translation.specs.Addresses.{element_in, type_behind}
 use Rattle.pfc_translation.specs.Calls.{formals_cells}
 use Rattle.pfc_translation.specs.Operands.{arguments, results}
@@ -65,6 +66,12 @@ StandsAt s v m = slice_get (layout_with (unlined s) v.scope) (place_of (unlined 
 abbrev pub whole_of : Spot → Spot
 whole_of v = record v { selectors = [] }
 
+-- A variable of the scope i, with this place and this meaning: that of a name there, at the name's place; or the result of a function, which is of a simple
+-- type.
+pub data IsOfScope (b : Blocks) (i place : ℕ) (m : Meaning) : Type 0 where
+  of_name : (x : Text) (k : ℕ) → slice_get (scope_at b.scopes i) k ≡ Some (x, m) → place ≡ variable_place b i k → IsOfScope b i place m
+  of_result : (t : TypeId) → is_simple t ≡ true → m ≡ Variable t false → IsOfScope b i place m
+
 -- a whole variable in view, with its type
 pub record IsDeclaredAt (s : Site) (v : Spot) (t : Option TypeId) : Type 0 where
   pub seen : is_seen s v.scope ≡ true
@@ -74,6 +81,7 @@ pub record IsDeclaredAt (s : Site) (v : Spot) (t : Option TypeId) : Type 0 where
   pub variable : is_laid meaning ≡ true
   pub typed : t ≡ laid_type meaning
   pub whole : v.selectors ≡ []
+  pub named : IsOfScope (blocks_of s) v.scope v.variable meaning
 
 abbrev pub IsDeclared : Site → Spot → Option TypeId → Type 0
 IsDeclared s v t = IsDeclaredAt (unlined s) v t
@@ -258,3 +266,22 @@ IsPartOf s v ss t = IsDeclared s v.spot v.t × AreSelectors s v.t ss t
 
 abbrev pub IsDesig : Site → DesigTree → Option TypeId → Type 0
 IsDesig s (desig x ss p) t = IsPartOf s (spot_of s.env (find s.env x)) ss t
+
+-- ## What a requeue lends
+
+-- The variable outlives the activation of the block: it is one of main or of a module, or a reference parameter of the block itself.
+abbrev pub Outlives : Site → Spot → Type 0
+Outlives s v = (is_mains (blocks_of s) v.scope ≡ true) ⊎ ((links_to s v.scope ≡ 0) × (refers s v ≡ true))
+
+-- the variable that an argument names, or any of main
+abbrev pub desig_spot : Site → Option DesigTree → Spot
+desig_spot s None = record { scope = 0; variable = 0; selectors = [] }
+desig_spot s (Some (desig x ss p)) = (spot_of s.env (find s.env x)).spot
+
+abbrev pub lent_spot : Site → ActualTree → Spot
+lent_spot s a = desig_spot s (as_desig (item_of a))
+
+-- what is named for reference parameters outlives it
+abbrev pub NameLasting : Site → List Formal → ActualTrees → Type 0
+NameLasting s (f ∷ formals) (more_actuals a rest) = Either f.reference (Outlives s (lent_spot s a)) (Unit {0}) × NameLasting s formals rest
+NameLasting s formals args = Unit {0}

@@ -35,7 +35,7 @@ use Rattle.pfc_translation.specs.Selects.{message_cells, receiver_cells}
 use Rattle.pfc_standing_code.specs.Shapes.{a_number, shape_of, shape_cells}
 use Rattle.pfc_standing_code.specs.ValueTypes.{IsValueType}
 use Rattle.pfc_standing_code.specs.Typed.{StandsAt, IsDeclared, TakesCells, ByName, FromOutside, ByRequeue, IsSub, HasShape, IsGivenFirst, IsLentFirst}
-use Rattle.pfc_standing_code.specs.Typed.{AreArguments, IsPartOf, IsDesig}
+use Rattle.pfc_standing_code.specs.Typed.{AreArguments, IsPartOf, IsDesig, NameLasting}
 
 -- a variable of a simple type that is named alone
 abbrev pub IsSimpleVariable : Site → Spot → Type 0
@@ -204,8 +204,13 @@ IsCalled s m v ss args = ⊥
 abbrev pub IsCall : Site → DesigTree → ActualTrees → Type 0
 IsCall s (desig x ss p) args = IsCalled s (meaning_of (find s.env x)) (spot_of s.env (find s.env x)) ss args
 
+-- a requeue of a sub, which lends what outlives the activation that it ends
+abbrev pub IsSubRequeue : Site → ℕ → ActualTrees → Type 0
+IsSubRequeue s n args =
+    let head = sub_at (blocks_of s) n in IsSub s head 0 (ByRequeue s.block) × AreArguments s head.formals args × NameLasting s head.formals args
+
 abbrev pub IsRequeue : Site → Option Meaning → ActualTrees → Type 0
-IsRequeue s (Some (Sub n)) args = IsSubCall s (ByRequeue s.block) n args
+IsRequeue s (Some (Sub n)) args = IsSubRequeue s n args
 IsRequeue s m args = ⊥
 
 -- ## Statements

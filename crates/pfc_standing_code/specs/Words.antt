@@ -1,6 +1,7 @@
 -- Variables and objects as words of the machine, and what is true of the names in view.
-use Rattle.std.specs.Prelude.{ℕ, ◌+◌, ◌^◌, ◌<◌, ◌==◌, ◌||◌, ◌≡◌, ℤ, pos, Bool, true, false, if◌then◌else◌, List, [], ◌∷◌, ◌++◌, reverse, Option, Some}
+use Rattle.std.specs.Prelude.{ℕ, ◌+◌, ◌^◌, ◌<◌, ◌==◌, ◌||◌, ◌≡◌, ℤ, pos, Bool, true, false, if◌then◌else◌, List, [], ◌∷◌, ◌++◌, reverse, All, Option, Some}
 use Rattle.std.specs.List.{list_any}
+use Rattle.pfc_tree.specs.trees.Exprs.{ActualTrees}
 use Rattle.pfc_types.specs.Types.{is_simple}
 use Rattle.pfc_types.specs.Scopes.{Level}
 use Rattle.pfc_types.specs.Blocks.{Blocks}
@@ -10,13 +11,13 @@ use Rattle.pfc_types.specs.declared.heads.Formal.{Formal}
 use Rattle.pfc_semantics.specs.Values.{path_of}
 use Rattle.pfc_semantics.specs.Displays.{Spot, TypedSpot}
 use Rattle.pfc_semantics.specs.Programs.{Block, Program}
-use Rattle.pfc_semantics.specs.Remainders.{Argument, by_value, by_reference}
+use Rattle.pfc_semantics.specs.Remainders.{Argument, AwaitsLocation, Call, by_value, by_reference, pass_variable, to_requeue}
 use Rattle.pfc_semantics.specs.Alternatives.{context}
 use Rattle.pfc_translation.specs.Sites.{Site, is_mains, linked, links_to, cell_of, refers, type_cells, forms_of}
 use Rattle.pfc_cells.specs.Shapes.{IsPath, words_of}
 use Rattle.pfc_standing_code.specs.Shapes.{IsSound, IsOf, is_object_type}
 use Rattle.pfc_standing_code.specs.Settings.{View, Setting, site_of, IsInTrial, IsBeside}
-use Rattle.pfc_standing_code.specs.Typed.{unlined, whole_of, IsDeclaredAt, is_seen}
+use Rattle.pfc_standing_code.specs.Typed.{unlined, whole_of, IsDeclaredAt, is_seen, Outlives, NameLasting}
 
 -- ## Variables
 
@@ -106,3 +107,25 @@ pub data AreHeldAt (view : View) (s : Site) : List Formal → List Argument → 
 
 abbrev pub AreHeld : View → Site → List Formal → List Argument → List ℤ → List ℤ → Type 0
 AreHeld view s formals given ops below = AreHeldAt view (unlined s) formals given ops below
+
+-- What outlives the activation of the block: a value, and a variable that does.
+abbrev pub IsLasting : Site → Argument → Type 0
+IsLasting s (by_value v) = Unit {0}
+IsLasting s (by_reference v) = Outlives s v
+
+-- so all arguments of a requeue, those that were given and those that are still to come
+abbrev pub Lends : Site → List Argument → List Formal → ActualTrees → Call → Type 0
+Lends s given formals args (to_requeue scope) = All (IsLasting s) given × NameLasting s formals args
+Lends s given formals args call = Unit {0}
+
+-- and the variable whose address is awaited for one
+abbrev pub LendsTo : Site → Spot → Call → Type 0
+LendsTo s v (to_requeue scope) = Outlives s v
+LendsTo s v call = Unit {0}
+
+abbrev pub LendsWhole : Site → Spot → AwaitsLocation → Type 0
+LendsWhole s v (pass_variable rest args given call) = LendsTo s v call
+LendsWhole s v goal = Unit {0}
+
+abbrev pub LendsAt : Site → Spot → AwaitsLocation → Type 0
+LendsAt s v goal = LendsWhole s (whole_of v) goal

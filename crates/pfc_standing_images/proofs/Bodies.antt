@@ -14,7 +14,7 @@ use Rattle.pfc_semantics.specs.Remainders.{in_names}
 use Rattle.pfc_translation.specs.Statements.{stmts_code}
 use Rattle.pfc_translation.specs.Calls.{resource_of}
 use Rattle.pfc_translation.specs.Images.{site_in, guard_code, statements_code}
-use Rattle.pfc_standing_code.specs.Settings.{Trial, Setting, of_own, of_turn, IsAt, arrived, IsMains, same_block, both_mains}
+use Rattle.pfc_standing_code.specs.Settings.{Trial, Setting, of_own, of_turn, SeesAccepts, IsAt, arrived, IsMains, same_block, both_mains}
 use Rattle.pfc_standing_code.specs.TypedStatements.{AreTyped}
 use Rattle.pfc_standing_code.specs.Performs.{GuardAt, WayAt, own_again, Performs}
 use Rattle.pfc_standing_code.specs.Awaits.{PerformsAnywhere}
@@ -25,19 +25,20 @@ use Rattle.pfc_standing_images.proofs.Places.{phrase_stands}
 module _ (g : Setting) (k : CodeBlock) (room : length g.under + k.operands ≤ g.room) where
   -- statements, and what is left behind them
   statements_perform : g.trial ≡ of_own → (b : Block) (rest : Remainder) (at n : ℕ) (ts : StmtTrees) → AreTyped (site_in g.program b) b.next ts
+      → SeesAccepts g (site_in g.program b)
       → HasPhrase g k at n (stmts_code (site_in g.program b) b.next ts)
       → Performs g b b.env (at + (stmts_code (site_in g.program b) b.next ts).size) g.under [] rest
       → Performs g b b.env at g.under [] (behind b.next ts rest)
-  statements_perform own b rest at n no_stmts typed has then = subst (λ x. Performs g b b.env x g.under [] rest) (omega arith) then
-  statements_perform own b rest at n (more_stmts t ts) typed has then =
+  statements_perform own b rest at n no_stmts typed accepts has then = subst (λ x. Performs g b b.env x g.under [] rest) (omega arith) then
+  statements_perform own b rest at n (more_stmts t ts) typed accepts has then =
       let code = phrase_stands g k (length g.under) (stmts_code (site_in g.program b) b.next (more_stmts t ts)) has room in
-      ((own, refl), (at, arrived at, (b.last_line, (n, record { typed = typed; code = code }, then))))
+      ((own, refl), (at, arrived at, (b.last_line, (n, record { typed = typed; code = code; accepts = accepts }, then))))
 
   pub body_performs : (b : Block) (at n : ℕ) → g.trial ≡ of_own → g.meetings ≡ [] → IsOfBlock g b k → HasBody g k b at n → IsReady g b
       → Performs g b b.env at g.under [] (body_of b)
   body_performs b at n own none of_block has ready =
       let end = at + (statements_code g.program b).size in
-      statements_perform own b (ends b.last_line) at n b.stmts ready.statements has.statements
+      statements_perform own b (ends b.last_line) at n b.stmts ready.statements ready.accepts has.statements
       ((own, refl), (end, arrived end, (refl, subst (λ i. IsAt g end i b.last_line) (sym of_block.last) has.end, none)))
 
   -- the initialising bodies, and what is left behind the last
@@ -53,7 +54,7 @@ module _ (g : Setting) (k : CodeBlock) (room : length g.under + k.operands ≤ g
           m,
           both_mains m own first,
           ready.0.names,
-          statements_perform alone m (initialising bs rest) at has.0.0 m.stmts ready.0.statements has.0.1
+          statements_perform alone m (initialising bs rest) at has.0.0 m.stmts ready.0.statements ready.0.accepts has.0.1
               (initials_perform alone bs rest m m.env (at + (statements_code g.program m).size) behind_last ready.1 (λ j c is. mains (suc j) c is) first has.1
               then),
         ),

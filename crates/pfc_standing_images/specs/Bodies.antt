@@ -7,15 +7,16 @@ use Rattle.pfc_semantics.specs.Resources.{scan_of, way_to}
 use Rattle.pfc_semantics.specs.Configurations.{body_of}
 use Rattle.pfc_translation.specs.Images.{site_in}
 use Rattle.pfc_standing_code.specs.Shapes.{a_number}
-use Rattle.pfc_standing_code.specs.Settings.{Setting, site_of}
+use Rattle.pfc_standing_code.specs.Settings.{Setting, site_of, SeesAccepts}
 use Rattle.pfc_standing_code.specs.Typed.{HasShape}
 use Rattle.pfc_standing_code.specs.TypedStatements.{AreTyped}
 use Rattle.pfc_standing_code.specs.Words.{AreOwnNames, IsChecked}
 
--- the names in view in a body are checked, and its statements have the shapes that they are to have
+-- the names in view in a body are checked, its statements have the shapes that they are to have, and no accept is open out of view
 pub record IsReady (g : Setting) (b : Block) : Type 0 where
   pub names : IsChecked g b b.env
   pub statements : AreTyped (site_in g.program b) b.next b.stmts
+  pub accepts : SeesAccepts g (site_in g.program b)
 
 abbrev pub AreReady : Setting → List Block → Type 0
 AreReady g [] = Unit {0}

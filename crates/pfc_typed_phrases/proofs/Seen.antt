@@ -1,6 +1,6 @@
 -- A variable in view stands in a scope that is in view.
 use Rattle.std.proofs.Common.{◌≡◌, ℕ, ◌+◌, ◌<◌, ◌≤◌, ◌==◌, Bool, true, false, ◌&&◌, ◌||◌, cond, nat_lt, if◌then◌else◌, List, [], ◌∷◌, ◌++◌, length, take}
-use Rattle.std.proofs.Common.{bytes_eq, option_map, is_some, Option, Some, None, refl, sym, ap, ◌∙◌, subst, arith}
+use Rattle.std.proofs.Common.{bytes_eq, option_map, is_some, slice_get, Option, Some, None, refl, sym, ap, ◌∙◌, subst, arith}
 use Rattle.std.proofs.lemmas.Bool.Decides.{nat_tests}
 use Rattle.std.proofs.lemmas.Option.{slice_get_within}
 use Rattle.std.specs.List.{list_any}
@@ -20,7 +20,7 @@ use Rattle.pfc_semantics.specs.Displays.{Spot, TypedSpot}
 use Rattle.pfc_semantics.specs.Expressions.{spot_in, named_spot, found_spot, spot_of}
 use Rattle.pfc_translation.specs.Sites.{Site, blocks_of, module_of, is_mains, layout_with, place_of}
 use Rattle.pfc_image_cells.proofs.Layouts.{IsAt, found_place}
-use Rattle.pfc_standing_code.specs.Typed.{unlined, variables_by, variables_of, StandsAt}
+use Rattle.pfc_standing_code.specs.Typed.{unlined, variables_by, variables_of, StandsAt, IsOfScope, of_name}
 use Rattle.pfc_typed_phrases.specs.Names.{IsLaid}
 use Rattle.pfc_typed_phrases.proofs.Rules.{never}
 
@@ -129,6 +129,18 @@ names_before names k m at laid =
     let split = subst (λ (all : Names). length (laid_names (take (length at.before) all)) < length (laid_names all)) (sym at.splits) here in
     subst (λ (n : ℕ). length (laid_names (take n names)) < length (laid_names names)) at.count split
 
+-- the variable of a name is one of the name's scope
+pub is_of_scope : (b : Blocks) (i place k : ℕ) (m : Meaning) → IsAt (scope_at b.scopes i) k m → place ≡ variable_place b i k → IsOfScope b i place m
+is_of_scope b i place k m at is =
+    let name : slice_get (scope_at b.scopes i) k ≡ Some at.name =
+    subst (λ (j : ℕ). slice_get (scope_at b.scopes i) j ≡ Some at.name) at.count
+    (ap (λ (l : Names). slice_get l (length at.before)) at.splits ∙ behind at.before at.name at.after) in
+    of_name at.name.0 k (name ∙ ap (λ (n : Meaning). Some (at.name.0, n)) at.is) is
+  where
+    behind : (before : Names) (x : Text × Meaning) (after : Names) → slice_get (before ++ x ∷ after) (length before) ≡ Some x
+    behind [] x after = refl
+    behind (y ∷ before) x after = behind before x after
+
 -- In the scope of a process or of an accept a variable is one of its own names; in any other its layout has no others.
 pub own_variable :
     (s : Site) (v : Spot) (k : ℕ) (m : Meaning) → v.variable ≡ variable_place (blocks_of s) v.scope k → IsAt (scope_at (blocks_of s).scopes v.scope) k m
@@ -213,5 +225,7 @@ variable_laid s x t r state e stands = by (find s.env x) refl e
                 variable = refl;
                 typed = refl;
                 whole = ap (λ (v : TypedSpot). v.spot.selectors) spot;
+                named = is_of_scope (blocks_of s) (spot_of s.env (find s.env x)).spot.scope (spot_of s.env (find s.env x)).spot.variable f.place
+                    (Variable t r) there place;
               };
         }

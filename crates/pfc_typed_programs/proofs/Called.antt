@@ -27,9 +27,9 @@ called_stands t g scope left formals lawful whole of_image called = (
     there = there;
     stands = has;
     params = has.params ∙ sym (ap (λ (x : Block). params_of g.program x) at_number) ∙ is.takes;
-    body = λ alone no_meetings of_block seen.
+    body = λ alone no_meetings no_accepts of_block seen.
         body_performs g c of_block.room b c.body (has.n + length (guard_code g.program b b.guard).texts) alone no_meetings of_block has.body
-        (body_ready t lawful whole g b of_image alone own seen);
+        (body_ready t lawful whole g b of_image alone no_accepts own seen);
   },
 )
   where

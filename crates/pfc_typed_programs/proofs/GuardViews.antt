@@ -113,12 +113,17 @@ one_of_three mains a b i of_b of_main h = by (a == i) (b == i) (0 == i) refl ref
     by false false true e f h = ap (λ (r : Bool). r || false) (subst (λ (j : ℕ). mains j ≡ true) (equal_number 0 i f) of_main)
     by false false false e f h = absurd (cc)
 
+-- a guard is one of a resource, whose variables are main's
+pub guard_of_mains : (t : ProgramTree) → IsLawful (forget_program t) → (k : ℕ) (b : Block) (w : Guard) → slice_get (program_of t).blocks k ≡ Some b
+    → b.guard ≡ Some w → is_mains (program_of t).state.blocks b.outer ≡ true
+guard_of_mains t lawful k b w there e =
+    let around = guarded_in_resource t k b w lawful there e in
+    ap (λ (r : Bool). (b.outer == 0) || r) (ap (λ (o : Option ℕ). is_some o) around.1) ∙ or_right (b.outer == 0)
+
 pub guard_own : (t : ProgramTree) → IsLawful (forget_program t) → (k : ℕ) (b : Block) (w : Guard) → slice_get (program_of t).blocks k ≡ Some b
     → b.guard ≡ Some w → AreOwnNames (program_of t) b w.env
 guard_own t lawful k b w there e i seen =
     let three : SeesThree b w =
     subst (λ (o : Option Guard). IfSome o (λ z. SeesThree b z)) e (each_of IsGuardView (program_of t).blocks k b (guards_see t lawful) there) in
-    let around = guarded_in_resource t k b w lawful there e in
     let blocks = (program_of t).state.blocks in
-    let mains : is_mains blocks b.outer ≡ true = ap (λ (r : Bool). (b.outer == 0) || r) (ap (λ (o : Option ℕ). is_some o) around.1) ∙ or_right (b.outer == 0) in
-    one_of_three (is_mains blocks) b.scope b.outer i mains refl (subst (λ (v : List Level). list_any (λ (l : Level). l.scope == i) v ≡ true) three.3 seen)
+    one_of_three (is_mains blocks) b.scope b.outer i (guard_of_mains t lawful k b w there e) refl (subst (λ (v : List Level). list_any (λ (l : Level). l.scope == i) v ≡ true) three.3 seen)

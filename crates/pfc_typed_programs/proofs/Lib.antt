@@ -2,6 +2,7 @@ pub mod Labels
 pub mod Trees
 pub mod Blocks
 pub mod Places
+pub mod Guarded
 pub mod GuardViews
 pub mod Bodies
 pub mod Called

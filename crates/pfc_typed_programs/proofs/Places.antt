@@ -1,15 +1,17 @@
 -- What is in view at each place of a body is known.
-use Rattle.std.proofs.Common.{◌≡◌, ℕ, ◌+◌, ◌<◌, ◌≤◌, ◌==◌, ◌||◌, ◌⊎◌, inl, inr, Bool, true, false, nat_lt, List, [], ◌∷◌, length, get_or, slice_get}
+use Rattle.std.proofs.Common.{◌≡◌, ℕ, ◌+◌, ◌<◌, ◌≤◌, ◌==◌, ◌&&◌, ◌||◌, ◌⊎◌, inl, inr, Bool, true, false, nat_lt, List, [], ◌∷◌, length, get_or, slice_get}
 use Rattle.std.proofs.Common.{if◌then◌else◌, Option, Some, None, option_map, is_some, refl, ap, sym, ◌∙◌, subst, arith}
+use Rattle.std.specs.Prelude.{zero, suc, not, nat_le, position, unwrap_or}
 use Rattle.std.specs.List.{list_any}
 use Rattle.std.specs.Option.{IfSome, option_or}
 use Rattle.std.proofs.lemmas.Bool.Decides.{nat_tests}
-use Rattle.std.proofs.lemmas.Option.{slice_get_within}
+use Rattle.std.proofs.lemmas.List.Quantifiers.{position-Some}
+use Rattle.std.proofs.lemmas.Option.{slice_get_within, get_or_from_slice_get}
 use Rattle.pfc_tree.specs.Symbols.{Text}
 use Rattle.pfc_tree.specs.trees.Parts.{ProgramTree}
 use Rattle.pfc_tree.specs.forget.Parts.{forget_program}
 use Rattle.pfc_tree.specs.lawful.Parts.{IsLawful}
-use Rattle.pfc_types.specs.Types.{cells_in}
+use Rattle.pfc_types.specs.Types.{cells_in, is_simple}
 use Rattle.pfc_types.specs.Scopes.{Names, Level, here, scope_at, meaning_in, position_in, within, predeclared_names, meaning_of, found_in}
 use Rattle.pfc_types.specs.Blocks.{Blocks, State, no_module, sub_at, module_at, process_at, entry_at}
 use Rattle.pfc_types.specs.declared.types.TypeId.{TypeId}
@@ -19,30 +21,33 @@ use Rattle.pfc_types.specs.declared.heads.ModuleHead.{ModuleHead}
 use Rattle.pfc_types.specs.declared.heads.SubSort.{SubSort}
 use Rattle.pfc_types.specs.declared.heads.SubSort.TheVariants.{Procedure, Guarded, Function}
 use Rattle.pfc_types.specs.declared.scope.Meaning.{Meaning}
-use Rattle.pfc_types.specs.declared.scope.Meaning.TheVariants.{Variable, Sub, Module, Process}
+use Rattle.pfc_types.specs.declared.scope.Meaning.TheVariants.{Constant, Named, Variable, Sub, Module, Process, Entry, Predeclared, Faulty}
 use Rattle.pfc_types.specs.declared.view.Found.{Found}
 use Rattle.pfc_types.specs.declared.view.Around.{Around}
 use Rattle.pfc_types.specs.rules.FaultyNames.{all_typed}
 use Rattle.pfc_types.specs.rules.Routines.{sort_value, is_function_sort}
-use Rattle.pfc_types.specs.rules.Statements.{is_around}
+use Rattle.pfc_types.specs.rules.Expressions.{lends, found_lends}
+use Rattle.pfc_types.specs.rules.Statements.{is_around, innermost}
 use Rattle.pfc_types.specs.rules.Whole.{finished, broken}
+use Rattle.pfc_types.proofs.Clean.{and-left, and-right}
 use Rattle.pfc_semantics.specs.Layouts.{Layout, is_laid, sub_with, variable_place, sub_layout}
 use Rattle.pfc_semantics.specs.Displays.{Spot, TypedSpot}
 use Rattle.pfc_semantics.specs.Expressions.{spot_of, found_spot, named_spot, result_spot}
 use Rattle.pfc_semantics.specs.Programs.{Block, Program, Guard, block_at, program_of}
-use Rattle.pfc_translation.specs.Sites.{Site, at_line, in_accept, module_of, is_mains, is_accept, before_accept, layout_with, place_of}
+use Rattle.pfc_translation.specs.Sites.{Site, at_line, in_accept, module_of, is_mains, linked, is_accept, before_accept, layout_with, place_of}
+use Rattle.pfc_translation.specs.Sites.{is_reference}
 use Rattle.pfc_translation.specs.Images.{site_in}
-use Rattle.pfc_name_laws.specs.Reached.{is_function}
+use Rattle.pfc_name_laws.specs.Reached.{GivesSimple, is_function}
 use Rattle.pfc_name_laws.proofs.Numbers.{get_or-beyond, meaning_numbered, none_noted}
 use Rattle.pfc_image_laws.specs.Levels.{sees}
 use Rattle.pfc_image_numbers.proofs.Known.{Stands, stands as named_stands, found_sees, a_process_type}
 use Rattle.pfc_image_cells.proofs.Subs.{program_named}
 use Rattle.pfc_image_cells.proofs.Layouts.{IsAt, get_there, found_place}
 use Rattle.pfc_image_cells.proofs.Formals.{result_stands}
-use Rattle.pfc_image_cells.proofs.Trees.{equal_number, mains_are, Fine, Placed, mains_hold, own_sub}
-use Rattle.pfc_standing_code.specs.Typed.{unlined, is_near, variables_by, variables_of, StandsAt, IsDeclared}
+use Rattle.pfc_image_cells.proofs.Trees.{equal_number, same_number, mains_are, Fine, Placed, mains_hold, own_sub}
+use Rattle.pfc_standing_code.specs.Typed.{unlined, is_near, variables_by, variables_of, StandsAt, of_result, IsDeclared, Outlives}
 use Rattle.pfc_typed_phrases.specs.Names.{left_behind, IsNamedSub, HasBlock, IsLaid, HavePlaces, AreKnown}
-use Rattle.pfc_typed_phrases.proofs.Seen.{or_last, own_variable}
+use Rattle.pfc_typed_phrases.proofs.Seen.{or_last, is_of_scope, own_variable}
 use Rattle.pfc_typed_phrases.proofs.Known.{names_known}
 use Rattle.pfc_typed_statements.specs.Reached.{AreReached, AreCallable, IsStarted, IsSingle, IsOpen, HaveResults, HaveStarts}
 use Rattle.pfc_typed_statements.proofs.Reached.{reached_known, callable_known}
@@ -140,13 +145,50 @@ module_mains b k = by (nat_lt k (length b.modules)) refl
         let beyond : length b.modules ≤ k = grind (arith, nat_tests) in
         subst (λ (m : ModuleHead). is_mains b m.scope ≡ true) (sym (get_or-beyond b.modules k no_module beyond)) refl
 
+-- the result of a function is of a simple type
+simple_result : (sort : SubSort) (u : TypeId) → GivesSimple sort → sort ≡ Function (Some u) → is_simple u ≡ true
+simple_result sort u gives is =
+    let (v, same, simple) = subst (λ (k : SubSort). GivesSimple k) is gives in subst (λ (y : TypeId). is_simple y ≡ true) (sym (one u v same)) simple
+  where
+    one : (a b : TypeId) → Some a ≡ Some b → a ≡ b
+    one a b e = cc
+
 plain_leaves : (sort : SubSort) → is_function sort ≡ false → left_behind sort ≡ 0
 plain_leaves Procedure e = refl
 plain_leaves Guarded e = refl
 plain_leaves (Function t) e = absurd (cc)
 
+-- Where a guarded procedure is, its body has no accepts, and sees main's names and its own, which are the first.
+abbrev pub HasOwnView : Program → Block → Type 0
+HasOwnView p b =
+    b.env.around.guarded ≡ true
+    → (b.accepts ≡ 0) × (innermost b.env.view ≡ b.scope)
+    × ((i : ℕ) → sees b.env.view i ≡ true → (is_mains p.state.blocks i ≡ true) ⊎ (i ≡ b.scope))
+
+-- what is first is found at its place
+found_first : (i k : ℕ) (xs : List ℕ) → (k == i) ≡ true → unwrap_or (position (λ j. j == i) (k ∷ xs)) 0 ≡ 0
+found_first i k xs same = by (position (λ j. j == i) (k ∷ xs)) refl
+  where
+    by : (o : Option ℕ) → position (λ j. j == i) (k ∷ xs) ≡ o → unwrap_or o 0 ≡ 0
+    by None e = refl
+    by (Some zero) e = refl
+    by (Some (suc n)) e =
+        let before : (k == i) ≡ false = (position-Some (λ j. j == i) (k ∷ xs) (suc n) 0 e).2 0 (omega arith) in
+        let both : true ≡ false = sym same ∙ before in absurd (cc)
+
+-- the first of the activations that links lead to is the one at hand
+own_links : (blocks : Blocks) (view : List Level) (i : ℕ) → innermost view ≡ i → is_mains blocks i ≡ false
+    → unwrap_or (position (λ j. j == i) (linked blocks view)) 0 ≡ 0
+own_links blocks [] i first e = refl
+own_links blocks (l ∷ view) i first e = by (is_mains blocks l.scope) (ap (λ (n : ℕ). is_mains blocks n) first ∙ e)
+  where
+    by : (r : Bool) → r ≡ false → unwrap_or (position (λ j. j == i) (if r then [] else l.scope ∷ linked blocks view)) 0 ≡ 0
+    by true q = absurd (cc)
+    by false q = found_first i l.scope (linked blocks view) (ap (λ (n : ℕ). n == i) first ∙ same_number i)
+
 module _ (t : ProgramTree) (lawful : IsLawful (forget_program t)) (clean : broken t ≡ [])
     (filled : (u : TypeId) → 0 < cells_in (finished t).forms u) (b : Block) (placed : Placed (program_of t) b)
+    (own_view : HasOwnView (program_of t) b)
   where
     abbrev g : Program
     g = program_of t
@@ -370,6 +412,7 @@ module _ (t : ProgramTree) (lawful : IsLawful (forget_program t)) (clean : broke
             variable = refl;
             typed = refl;
             whole = refl;
+            named = of_result u (simple_result (sub_at bs n).sort u (((headed t lawful clean).subs n below).gives whole) sort) refl;
           });
         }
       where
@@ -386,8 +429,95 @@ module _ (t : ProgramTree) (lawful : IsLawful (forget_program t)) (clean : broke
             let is : f.meaning ≡ Sub n = cc in
             of_scope f f.scope (subst (λ (m : Meaning). Stands bs f.scope m) is (named_stands (finished t) (known t lawful clean) v x f h)) is
 
-    pub results : (v : List Level) (a : Around) (l : ℕ) → Views v → (a.guarded ≡ true → b.env.around.guarded ≡ true) → HaveResults (at (finished t) v a l)
-    results v a l view guarded = record { filled = filled; results = result_laid v a l view; guarded = guarded; near = sub_near v a l view }
+    -- ## What a requeue lends
+
+    -- the body of a guarded procedure, where what is around a statement is a body of one
+    abbrev Inside : List Level → Around → Type 0
+    Inside v a = a.guarded ≡ true → (b.env.around.guarded ≡ true) × (v ≡ b.env.view)
+
+    lasting_at : (v : List Level) (a : Around) (l : ℕ) → Views v → Inside v a → a.guarded ≡ true → (x : Text)
+        → found_lends (Some (innermost v)) (found_in bs.scopes v x) ≡ true
+        → Outlives (at (finished t) v a l) (spot_of (at (finished t) v a l).env (found_in bs.scopes v x)).spot
+    lasting_at v a l view within inside x h = by (found_in bs.scopes v x) refl h
+      where
+        s : Site
+        s = at (finished t) v a l
+
+        body_guarded : b.env.around.guarded ≡ true
+        body_guarded = (within inside).0
+
+        same_view : v ≡ b.env.view
+        same_view = (within inside).1
+
+        first : innermost v ≡ b.scope
+        first = ap (λ (w : List Level). innermost w) same_view ∙ (own_view body_guarded).1
+
+        -- a variable of the procedure's own is a parameter by reference
+        lent_variable : (f : Found) (i : ℕ) (u : TypeId) (r : Bool) → found_in bs.scopes v x ≡ Some f → f.scope ≡ Some i → f.meaning ≡ Variable u r
+            → (r || not (innermost v == i)) ≡ true → i ≡ b.scope → is_mains bs i ≡ false → Outlives s (spot i f.place)
+        lent_variable f i u r is q e lent same apart =
+            let seen = found_sees bs.scopes v x f i is q in
+            let place = subst (λ (n : Meaning). IsAt (scope_at bs.scopes i) f.place n) e (found_place bs.scopes v x f i is q) in
+            let there = stands v a l i f.place (Variable u r) view seen place refl in
+            let first_is : innermost v ≡ i = first ∙ sym same in
+            let its : innermost v == i ≡ true = ap (λ (n : ℕ). n == i) first_is ∙ same_number i in
+            let by_reference : r ≡ true = by_rule r (innermost v == i) its lent in
+            inr (
+              ap (λ (m : Bool). if m then length (linked bs b.env.view) else unwrap_or (position (λ j. j == i) (linked bs b.env.view)) 0) apart
+                  ∙ own_links bs b.env.view i (sym (ap (λ (w : List Level). innermost w) same_view) ∙ first_is) apart,
+              ap is_reference (get_or_from_slice_get (layout_with s i) (place_of s (spot i f.place)) (Variable u r) Faulty there) ∙ by_reference,
+            )
+          where
+            by_rule : (r c : Bool) → c ≡ true → (r || not c) ≡ true → r ≡ true
+            by_rule true c e h = refl
+            by_rule false true e h = absurd (cc)
+            by_rule false false e h = absurd (cc)
+
+        variable : (f : Found) (i : ℕ) (u : TypeId) (r : Bool) → found_in bs.scopes v x ≡ Some f → f.scope ≡ Some i → f.meaning ≡ Variable u r
+            → (r || not (innermost v == i)) ≡ true → Outlives s (spot i f.place)
+        variable f i u r is q e lent = by_mains (is_mains bs i) refl
+          where
+            seen_there : sees b.env.view i ≡ true
+            seen_there = subst (λ (w : List Level). sees w i ≡ true) same_view (found_sees bs.scopes v x f i is q)
+
+            by_mains : (m : Bool) → is_mains bs i ≡ m → Outlives s (spot i f.place)
+            by_mains true mains = inl mains
+            by_mains false apart =
+                elim ((own_view body_guarded).2 i seen_there) [
+                  | inl mains ↦ inl mains
+                  | inr same ↦ lent_variable f i u r is q e lent same apart
+                ]
+
+        by_meaning : (f : Found) (i : ℕ) → found_in bs.scopes v x ≡ Some f → f.scope ≡ Some i → (m : Meaning) → f.meaning ≡ m
+            → lends (Some (innermost v)) (Some i) m ≡ true → Outlives s (named_spot bs i f.place m).spot
+        by_meaning f i is q (Constant u n) e lent = absurd (cc)
+        by_meaning f i is q (Named u) e lent = absurd (cc)
+        by_meaning f i is q (Variable u r) e lent = variable f i u r is q e lent
+        by_meaning f i is q (Sub n) e lent = absurd (cc)
+        by_meaning f i is q (Module n) e lent = absurd (cc)
+        by_meaning f i is q (Process n) e lent = absurd (cc)
+        by_meaning f i is q (Entry n) e lent = absurd (cc)
+        by_meaning f i is q (Predeclared n) e lent = absurd (cc)
+        by_meaning f i is q Faulty e lent = inl refl
+
+        by_scope : (f : Found) → found_in bs.scopes v x ≡ Some f → (o : Option ℕ) → f.scope ≡ o
+            → lends (Some (innermost v)) o f.meaning ≡ true → Outlives s (found_spot bs o f).spot
+        by_scope f is None q lent = inl refl
+        by_scope f is (Some i) q lent = by_meaning f i is q f.meaning refl lent
+
+        by : (o : Option Found) → found_in bs.scopes v x ≡ o → found_lends (Some (innermost v)) o ≡ true → Outlives s (spot_of s.env o).spot
+        by None is lent = inl refl
+        by (Some f) is lent = by_scope f is f.scope refl lent
+
+    pub results : (v : List Level) (a : Around) (l : ℕ) → Views v → Inside v a → HaveResults (at (finished t) v a l)
+    results v a l view within =
+        record {
+          filled = filled;
+          results = result_laid v a l view;
+          guarded = λ e. (within e).0;
+          near = sub_near v a l view;
+          lasting = lasting_at v a l view within;
+        }
 
     -- ## Processes, entries and exported subs
 
@@ -424,6 +554,7 @@ module _ (t : ProgramTree) (lawful : IsLawful (forget_program t)) (clean : broke
                 variable = refl;
                 typed = refl;
                 whole = refl;
+                named = is_of_scope bs i (variable_place bs i f.place) f.place (Process n) k.place refl;
               });
               stands = subst (λ (w : TypedSpot). StandsAt s w.spot (Process n)) (sym found) k.stands_there;
               started = started v a l n
@@ -484,8 +615,7 @@ module _ (t : ProgramTree) (lawful : IsLawful (forget_program t)) (clean : broke
     known_at s v a l e view =
         subst (λ (z : State). AreKnown (at z v a l)) (sym e) (names_known t (at (finished t) v a l) clean refl refl (places v a l view))
 
-    reached_at : (s : State) (v : List Level) (a : Around) (l : ℕ) → s ≡ finished t → Views v → (a.guarded ≡ true → b.env.around.guarded ≡ true)
-        → AreReached (at s v a l)
+    reached_at : (s : State) (v : List Level) (a : Around) (l : ℕ) → s ≡ finished t → Views v → Inside v a → AreReached (at s v a l)
     reached_at s v a l e view guarded =
         subst (λ (z : State). AreReached (at z v a l)) (sym e) (reached_known t (at (finished t) v a l) refl (results v a l view guarded))
 
@@ -501,7 +631,7 @@ module _ (t : ProgramTree) (lawful : IsLawful (forget_program t)) (clean : broke
       line : ℕ
       is : u ≡ at b.env.state view around line
       views : Views view
-      guarded : around.guarded ≡ true → b.env.around.guarded ≡ true
+      guarded : Inside view around
 
     opened : (v : List Level) (n : ℕ) → Views v → is_accept b n ≡ true → Views (here b.env.state.blocks.scopes n v)
     opened v n h e i seen = by (n == i) refl seen
@@ -510,8 +640,16 @@ module _ (t : ProgramTree) (lawful : IsLawful (forget_program t)) (clean : broke
         by true q k = inr (subst (λ (j : ℕ). is_accept b j ≡ true) (equal_number n i q) e)
         by false q k = h i k
 
+    no_accept : b.accepts ≡ 0 → (n : ℕ) → is_accept b n ≡ true → ⊥
+    no_accept none n e =
+        let low : nat_le b.next n && nat_lt n (b.next + 0) ≡ true =
+        subst (λ (k : ℕ). nat_le b.next n && nat_lt n (b.next + k) ≡ true) none e in
+        let lower = and-left (nat_le b.next n) (nat_lt n (b.next + 0)) low in
+        let upper = and-right (nat_le b.next n) (nat_lt n (b.next + 0)) low in
+        grind (arith, nat_tests, lower, upper)
+
     inside : (u : Site) → IsInside (site_in g b) u → IsPlace u
-    inside u itself = record { view = b.env.view; around = b.env.around; line = b.last_line; is = refl; views = λ i seen. inl seen; guarded = λ h. h }
+    inside u itself = record { view = b.env.view; around = b.env.around; line = b.last_line; is = refl; views = λ i seen. inl seen; guarded = λ h. (h, refl) }
     inside u (lined w n i) =
         let r = inside w i in
         record { view = r.view; around = r.around; line = n; is = ap (λ (z : Site). at_line z n) r.is; views = r.views; guarded = r.guarded }
@@ -523,7 +661,7 @@ module _ (t : ProgramTree) (lawful : IsLawful (forget_program t)) (clean : broke
           line = r.line;
           is = ap (λ (z : Site). in_accept z n) r.is;
           views = opened r.view n r.views e;
-          guarded = r.guarded;
+          guarded = λ h. absurd (no_accept (own_view (r.guarded h).0).0 n e);
         }
     inside u (begun w i) =
         let r = inside w i in

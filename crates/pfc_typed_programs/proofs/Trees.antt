@@ -136,11 +136,11 @@ inits_made s n next (more_parts q qs) lawful =
 
 -- an initialising body is no process's
 abbrev pub IsOutside : Block → Type 0
-IsOutside b = b.env.around.process ≡ false
+IsOutside b = (b.env.around.process ≡ false) × (b.env.around.guarded ≡ false)
 
 module_inits_outside : (s : State) (n next : ℕ) (m : ModuleTree) → All IsOutside (module_inits s n next m)
 module_inits_outside s n next (the_module x exports ps None last p) = All-nil IsOutside
-module_inits_outside s n next (the_module x exports ps (Some (body ss from to)) last p) = All-cons IsOutside _ [] refl (All-nil IsOutside)
+module_inits_outside s n next (the_module x exports ps (Some (body ss from to)) last p) = All-cons IsOutside _ [] (refl, refl) (All-nil IsOutside)
 
 part_inits_outside : (s : State) (n next : ℕ) (q : PartTree) → All IsOutside (part_inits s n next q)
 part_inits_outside s n next (consts items) = All-nil IsOutside
@@ -184,7 +184,7 @@ main_outside t = by t.body
 
     by : (b : BodyTree)
         → IsOutside (block_of 0 0 (env_of_main s) (1 + parts_scopes t.parts) b (main_layout s.blocks (scope_at s.blocks.scopes 0)) 0 None)
-    by (body ss from to) = refl
+    by (body ss from to) = (refl, refl)
 
 -- ## Blocks that headings name
 

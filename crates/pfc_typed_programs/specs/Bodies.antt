@@ -76,5 +76,6 @@ pub record CalleeStands (t : ProgramTree) (g : Setting) (scope : ℕ) (formals :
   pub stands : BlockStands g (block_at g.program scope) c
   pub params : c.params ≡ formals_cells g.program.state.forms formals
   pub body :
-      g.trial ≡ of_own → g.meetings ≡ [] → IsOfBlock g (block_at g.program scope) c → IsSeen g (block_at g.program scope) (block_at g.program scope).env
+      g.trial ≡ of_own → g.meetings ≡ [] → g.accepts ≡ [] → IsOfBlock g (block_at g.program scope) c
+      → IsSeen g (block_at g.program scope) (block_at g.program scope).env
       → Performs g (block_at g.program scope) (block_at g.program scope).env c.body g.under [] (body_of (block_at g.program scope))

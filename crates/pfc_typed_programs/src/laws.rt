@@ -66,7 +66,7 @@ pub fn names_are_checked()
 pub fn checked_bodies_are_performed()
     ensures bodies { (t : ProgramTree) (g : Setting) (k : ℕ) (b : Block) (c : CodeBlock) → IsLawful (forget_program t) → broken t ≡ []
         → IsOfImage t g → slice_get g.program.blocks k ≡ Some b → slice_get (image_of t).blocks k ≡ Some c → IsOfBlock g b c → g.trial ≡ of_own
-        → g.meetings ≡ [] → IsSeen g b b.env → Performs g b b.env c.body g.under [] (body_of b) }
+        → g.meetings ≡ [] → g.accepts ≡ [] → IsSeen g b b.env → Performs g b b.env c.body g.under [] (body_of b) }
     ensures guards { (t : ProgramTree) (g : Setting) (k held : ℕ) (b : Block) (c : CodeBlock) (guard : Guard) → IsLawful (forget_program t)
         → broken t ≡ [] → IsOfImage t g → slice_get g.program.blocks k ≡ Some b → slice_get (image_of t).blocks k ≡ Some c → b.guard ≡ Some guard
         → held + c.operands ≤ g.room → IsSeen g b guard.env
@@ -78,17 +78,17 @@ pub fn checked_bodies_are_performed()
         × GuardAt g b (bar_of g.program (resource_of (site_in g.program b)) b guard) c.entry held (λ end. end ≤ turn) }
     ensures guarded { (t : ProgramTree) (g : Setting) (k : ℕ) (b : Block) (c : CodeBlock) → IsLawful (forget_program t) → broken t ≡ []
         → IsOfImage t g → slice_get g.program.blocks k ≡ Some b → slice_get (image_of t).blocks k ≡ Some c → IsOfBlock g b c → g.trial ≡ of_own
-        → g.meetings ≡ [] → EachGuardSeen g b b.guard → IsSeen g b b.env
+        → g.meetings ≡ [] → g.accepts ≡ [] → EachGuardSeen g b b.guard → IsSeen g b b.env
         → Performs g b b.env c.entry g.under [] (guarded_body g.program (resource_of (site_in g.program b)) b b.guard) }
     ensures requeues { (t : ProgramTree) (g : Setting) (k at : ℕ) (b : Block) (c : CodeBlock) (env : Env) → IsLawful (forget_program t)
         → broken t ≡ [] → IsOfImage t g → slice_get g.program.blocks k ≡ Some b → slice_get (image_of t).blocks k ≡ Some c → IsOfBlock g b c
         → (let r = resource_of (site_in g.program b) in g.trial ≡ of_turn (scan_of g.program r (way_to g.program r b b.guard)) c.entry)
-        → g.block ≡ b → g.meetings ≡ [] → slice_get (image_of t).scans (resource_of (site_in g.program b)) ≡ Some at
+        → g.block ≡ b → g.meetings ≡ [] → (own_again g).accepts ≡ [] → slice_get (image_of t).scans (resource_of (site_in g.program b)) ≡ Some at
         → EachGuardSeen (own_again g) b b.guard → IsSeen (own_again g) b b.env
         → Performs g b env at g.under [] (requeued_body g.program (resource_of (site_in g.program b)) b) }
     ensures main { (t : ProgramTree) (g : Setting) (b : Block) (c : CodeBlock) (env : Env) → IsLawful (forget_program t) → broken t ≡ []
         → IsOfImage t g → IsMains g b → slice_get (image_of t).blocks (length g.program.blocks) ≡ Some c → g.trial ≡ of_own → g.meetings ≡ []
-        → IsOfBlock g g.program.main c → AreSeen g g.program.modules → IsSeen g g.program.main g.program.main.env →
+        → g.accepts ≡ [] → IsOfBlock g g.program.main c → AreSeen g g.program.modules → IsSeen g g.program.main g.program.main.env →
         Performs g b env c.entry g.under [] (main_remainder g.program) }
 {}
 

@@ -1,8 +1,9 @@
 -- Assignments, messages and requeues in which no rule is broken.
-use Rattle.std.proofs.Common.{◌≡◌, ℕ, ◌<◌, Bool, true, false, not, ◌&&◌, if◌then◌else◌, is_some, List, Option, Some, None, refl, sym, ap, ◌∙◌, subst}
+use Rattle.std.proofs.Common.{◌≡◌, ℕ, ◌<◌, Bool, true, false, not, ◌&&◌, if◌then◌else◌, is_some, List, [], ◌∷◌, Option, Some, None, refl, sym, ap, ◌∙◌, subst}
 use Rattle.pfc_base.specs.declared.places.Place.{Place}
 use Rattle.pfc_tree.specs.Symbols.{Text}
-use Rattle.pfc_tree.specs.trees.Exprs.{ExprTree, DesigTree, ActualTrees, desig, no_selectors, more_selectors}
+use Rattle.pfc_tree.specs.trees.Exprs.{ExprTree, DesigTree, ActualTree, ActualTrees, desig, no_selectors, more_selectors, actual, actual_width}
+use Rattle.pfc_tree.specs.trees.Exprs.{no_actuals, more_actuals}
 use Rattle.pfc_types.specs.Faults.{Faults, ◌⨾◌, unless}
 use Rattle.pfc_types.specs.Types.{Forms, synchronous, carried_form, form_of, cells_in, is_same, is_simple, is_object}
 use Rattle.pfc_types.specs.Scopes.{Level, meaning_of}
@@ -17,9 +18,10 @@ use Rattle.pfc_types.specs.declared.heads.SubHead.{SubHead}
 use Rattle.pfc_types.specs.declared.heads.SubSort.{SubSort}
 use Rattle.pfc_types.specs.declared.heads.SubSort.TheVariants.{Procedure, Guarded, Function}
 use Rattle.pfc_types.specs.rules.Kinds.{has, may_have, may_agree, value_rule, has_object}
-use Rattle.pfc_types.specs.rules.Routines.{called_with, wants_for, anywhere}
+use Rattle.pfc_types.specs.declared.heads.Formal.{Formal}
+use Rattle.pfc_types.specs.rules.Routines.{a_value, a_variable_of, called_with, wants_for, anywhere, may_suit}
 use Rattle.pfc_types.specs.rules.Expressions.{find, as_desig, expr_place, expr_type, desig_place, desig_type, count_rule, broken_actuals, broken_desig}
-use Rattle.pfc_types.specs.rules.Expressions.{broken_expr}
+use Rattle.pfc_types.specs.rules.Expressions.{broken_expr, broken_actual, broken_wanted, desig_lends, is_variable}
 use Rattle.pfc_types.specs.rules.Calls.{requeue_rules, requeue_sub}
 use Rattle.pfc_types.specs.rules.Statements.{is_around, assigned_sub, target_of, target_type, sub_target, target_rules, broken_target, types_rule}
 use Rattle.pfc_types.specs.rules.Statements.{broken_assign, carried_by, channel_rule, broken_channel, names_any, only_any_rule, any_rule, broken_message}
@@ -30,8 +32,8 @@ use Rattle.pfc_semantics.specs.Expressions.{spot_of}
 use Rattle.pfc_translation.specs.Sites.{Site, type_cells}
 use Rattle.pfc_translation.specs.Selects.{receiver_cells}
 use Rattle.pfc_standing_code.specs.Shapes.{a_number, a_whole, shape_of, shape_cells, IsSound}
-use Rattle.pfc_standing_code.specs.Typed.{IsDeclared, is_near, ByRequeue, HasShape, IsDesig}
-use Rattle.pfc_standing_code.specs.TypedStatements.{IsAssignment, IsChannel, IsCarried, IsMessage, IsReceiver, IsSend, IsReceive, IsSubCall, IsRequeue}
+use Rattle.pfc_standing_code.specs.Typed.{IsDeclared, is_near, ByRequeue, Either, HasShape, IsDesig, Outlives, desig_spot, lent_spot, NameLasting}
+use Rattle.pfc_standing_code.specs.TypedStatements.{IsAssignment, IsChannel, IsCarried, IsMessage, IsReceiver, IsSend, IsReceive, IsSubRequeue, IsRequeue}
 use Rattle.pfc_name_laws.specs.Reached.{GivesSimple}
 use Rattle.pfc_typed_phrases.specs.Names.{left_behind, IsNamedSub, IsWhole, AreKnown}
 use Rattle.pfc_typed_phrases.proofs.Rules.{holds, never, same_type}
@@ -241,20 +243,51 @@ module _ (g : Program) (block : Block) (view : List Level) (around : Around) (li
 
   -- ## Requeues
 
+  named_lasting : around.guarded ≡ true → (o : Option DesigTree) → desig_lends s.env (Some (innermost view)) o ≡ true → Outlives s (desig_spot s o)
+  named_lasting inside None h = never h
+  named_lasting inside (Some (desig x ss p)) h = reached.lasting inside x h
+
+  -- what is named for reference parameters outlives the activation that ends
+  lent_lasting : around.guarded ≡ true → (a : ActualTree) (t : Option TypeId) (r : Bool)
+      → clean (broken_wanted s.env (Some (innermost view)) (if r then a_variable_of t else a_value t) a) ≡ true
+      → Either r (Outlives s (lent_spot s a)) (Unit {0})
+  lent_lasting inside a t false h = tt
+  lent_lasting inside (actual e) t true h =
+      named_lasting inside (as_desig e) (holds (is_variable s.env (Some (innermost view)) e) (expr_place e) 318
+      (and-right (clean (unless (may_suit t (expr_type s.env e)) (expr_place e) 317))
+      (clean (unless (is_variable s.env (Some (innermost view)) e) (expr_place e) 318)) h))
+  lent_lasting inside (actual_width e w) t true h =
+      named_lasting inside (as_desig e) (holds (is_variable s.env (Some (innermost view)) e) (expr_place e) 318
+      (and-right (clean (unless (may_suit t (expr_type s.env e)) (expr_place e) 317))
+      (clean (unless (is_variable s.env (Some (innermost view)) e) (expr_place e) 318)) h))
+
+  name_lasting : around.guarded ≡ true → (formals : List Formal) (args : ActualTrees)
+      → clean (broken_actuals s.env (Some (innermost view)) true (wants_for formals) args) ≡ true → NameLasting s formals args
+  name_lasting inside [] no_actuals h = tt
+  name_lasting inside [] (more_actuals a rest) h = tt
+  name_lasting inside (f ∷ formals) no_actuals h = tt
+  name_lasting inside (f ∷ formals) (more_actuals a rest) h =
+      let own = clean (broken_actual s.env true a) in
+      let wanted = clean (broken_wanted s.env (Some (innermost view)) (if f.reference then a_variable_of f.t else a_value f.t) a) in
+      let others = clean (broken_actuals s.env (Some (innermost view)) true (wants_for formals) rest) in
+      let behind = and-right own (wanted && others) h in
+      (lent_lasting inside a f.t f.reference (and-left wanted others behind), name_lasting inside formals rest (and-right wanted others behind))
+
   sub_asked :
-      (n : ℕ) (ending : Option ℕ) (p : Place) (args : ActualTrees) → IsWhole s (sub_at g.state.blocks n) → (sub_at g.state.blocks n).sort ≡ Guarded
+      (n : ℕ) (p : Place) (args : ActualTrees) → IsWhole s (sub_at g.state.blocks n) → (sub_at g.state.blocks n).sort ≡ Guarded
       → (named : IsNamedSub s (sub_at g.state.blocks n)) → is_near block named.within ≡ true → around.guarded ≡ true
       → clean (count_rule (called_with (wants_for (sub_at g.state.blocks n).formals) anywhere) args p) ≡ true
-      → clean (broken_actuals s.env ending true (wants_for (sub_at g.state.blocks n).formals) args) ≡ true → IsSubCall s (ByRequeue block) n args
-  sub_asked n ending p args whole is named near inside count h =
+      → clean (broken_actuals s.env (Some (innermost view)) true (wants_for (sub_at g.state.blocks n).formals) args) ≡ true → IsSubRequeue s n args
+  sub_asked n p args whole is named near inside count h =
       let head = sub_at g.state.blocks n in (
         record {
           headed = of_named s head (ByRequeue block) named (is, reached.guarded inside, near);
           taken = whole.block.taken;
           leaves = whole.block.leaves ∙ ap left_behind is;
         },
-        wanted_arguments s head.formals args (actuals_typed g block view around line known ending (wants_for head.formals) args
+        wanted_arguments s head.formals args (actuals_typed g block view around line known (Some (innermost view)) (wants_for head.formals) args
             (asked_formals head.formals whole.formals) (holds _ p 316 count) h).0,
+        name_lasting inside head.formals args h,
       )
 
   pub requeue_typed : (x : Text × Place) (args : ActualTrees) (p : Place) → clean (broken_requeue s.env x args p) ≡ true →
@@ -268,14 +301,14 @@ module _ (g : Program) (block : Block) (view : List Level) (around : Around) (li
           (and-left (clean (unless around.guarded p 418)) (clean (requeue_rules s.env (innermost view) (meaning_of (find s.env x.0)) x.1 args)) h)
 
       sub : (n : ℕ) → meaning_of (find s.env x.0) ≡ Some (Sub n) → (sort : SubSort) → (sub_at g.state.blocks n).sort ≡ sort
-          → clean (requeue_sub s.env (innermost view) sort (sub_at g.state.blocks n).formals x.1 args) ≡ true → IsSubCall s (ByRequeue block) n args
+          → clean (requeue_sub s.env (innermost view) sort (sub_at g.state.blocks n).formals x.1 args) ≡ true → IsSubRequeue s n args
       sub n e Procedure is h = never h
       sub n e (Function t) is h = never h
       sub n e Guarded is h =
           let count = clean (count_rule (called_with (wants_for (sub_at g.state.blocks n).formals) anywhere) args x.1) in
           let actuals = clean (broken_actuals s.env (Some (innermost view)) true (wants_for (sub_at g.state.blocks n).formals) args) in
           let near = reached.near x.0 n e in
-          sub_asked n (Some (innermost view)) x.1 args (known.subs x.0 n e) is near.0 near.1 inside (and-left count actuals h) (and-right count actuals h)
+          sub_asked n x.1 args (known.subs x.0 n e) is near.0 near.1 inside (and-left count actuals h) (and-right count actuals h)
 
       by : (m : Option Meaning) → meaning_of (find s.env x.0) ≡ m → clean (requeue_rules s.env (innermost view) m x.1 args) ≡ true → IsRequeue s m args
       by None e h = never h

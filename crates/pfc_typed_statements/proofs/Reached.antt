@@ -25,6 +25,7 @@ reached_known t s program have =
       results = have.results;
       guarded = have.guarded;
       near = have.near;
+      lasting = have.lasting;
     }
 
 none_faulty : (t : ProgramTree) → broken t ≡ [] → (i : ℕ) (x : Text) → meaning_in (scope_at (finished t).blocks.scopes i) x ≢ Some Faulty

@@ -4,10 +4,10 @@ use Rattle.pfc_tree.specs.Symbols.{Text}
 use Rattle.pfc_types.specs.Types.{cells_in, form_of, process_form}
 use Rattle.pfc_types.specs.Scopes.{meaning_of, meaning_in, scope_at}
 use Rattle.pfc_types.specs.Blocks.{sub_at, module_at, process_at, entry_at}
-use Rattle.pfc_types.specs.rules.Expressions.{find}
+use Rattle.pfc_types.specs.rules.Expressions.{find, found_lends}
 use Rattle.pfc_types.specs.rules.FaultyNames.{all_typed}
 use Rattle.pfc_types.specs.rules.Routines.{is_function_sort}
-use Rattle.pfc_types.specs.rules.Statements.{is_around}
+use Rattle.pfc_types.specs.rules.Statements.{is_around, innermost}
 use Rattle.pfc_types.specs.declared.types.TypeId.{TypeId}
 use Rattle.pfc_types.specs.declared.scope.Meaning.TheVariants.{Sub, Module, Process, Entry, Faulty}
 use Rattle.pfc_types.specs.declared.heads.SubSort.TheVariants.{Function}
@@ -15,7 +15,7 @@ use Rattle.pfc_semantics.specs.Expressions.{spot_of}
 use Rattle.pfc_semantics.specs.Statements.{name_in_process}
 use Rattle.pfc_translation.specs.Sites.{Site, forms_of, blocks_of}
 use Rattle.pfc_standing_code.specs.Shapes.{IsSound}
-use Rattle.pfc_standing_code.specs.Typed.{StandsAt, IsDeclared, TakesCells, is_near}
+use Rattle.pfc_standing_code.specs.Typed.{StandsAt, IsDeclared, TakesCells, is_near, Outlives}
 use Rattle.pfc_typed_phrases.specs.Names.{left_behind, IsLaid, IsNamedSub, IsWhole}
 
 pub record AreReached (s : Site) : Type 0 where
@@ -29,6 +29,9 @@ pub record AreReached (s : Site) : Type 0 where
   pub guarded : s.env.around.guarded ≡ true → s.block.env.around.guarded ≡ true
   pub near : (x : Text) (n : ℕ) → meaning_of (find s.env x) ≡ Some (Sub n)
       → (named : IsNamedSub s (sub_at (blocks_of s) n)) × (is_near s.block named.within ≡ true)
+  -- what may be named for a reference where a guarded procedure requeues outlives its activation
+  pub lasting : s.env.around.guarded ≡ true → (x : Text) → found_lends (Some (innermost s.env.view)) (find s.env x) ≡ true
+      → Outlives s (spot_of s.env (find s.env x)).spot
 
 -- ## What is called
 
@@ -72,6 +75,9 @@ pub record HaveResults (s : Site) : Type 0 where
   pub guarded : s.env.around.guarded ≡ true → s.block.env.around.guarded ≡ true
   pub near : (x : Text) (n : ℕ) → meaning_of (find s.env x) ≡ Some (Sub n)
       → (named : IsNamedSub s (sub_at (blocks_of s) n)) × (is_near s.block named.within ≡ true)
+  -- what may be named for a reference where a guarded procedure requeues outlives its activation
+  pub lasting : s.env.around.guarded ≡ true → (x : Text) → found_lends (Some (innermost s.env.view)) (find s.env x) ≡ true
+      → Outlives s (spot_of s.env (find s.env x)).spot
 
 -- processes can be started, entries called, and exported subs of modules
 pub record HaveStarts (s : Site) : Type 0 where

@@ -39,7 +39,7 @@ use Rattle.pfc_image_numbers.proofs.Alike.{AreAlike, expr_same, selected_same}
 use Rattle.pfc_standing_code.specs.Shapes.{Shape, a_number, shape_of}
 use Rattle.pfc_standing_code.specs.Typed.{IsDeclared, ByName, InExpressions, FromOutside, ByRequeue, IsSub, Either, IsFunction, IsUse, HasShape, HasShapeSimple}
 use Rattle.pfc_standing_code.specs.Typed.{AreSummands, HasShapeTerm, AreMultipliers, HasShapeFactor, IsGivenFirst, IsLentFirst, IsGiven, IsLent, IsVariable}
-use Rattle.pfc_standing_code.specs.Typed.{AreArguments, AreSelectors, AreIndices, IsPartOf, IsDesig}
+use Rattle.pfc_standing_code.specs.Typed.{AreArguments, AreSelectors, AreIndices, IsPartOf, IsDesig, Outlives, desig_spot, NameLasting}
 use Rattle.pfc_standing_code.specs.TypedStatements.{IsSimpleVariable, IsAssignment, IsMessage, IsReceiver, IsSend, IsReceive, IsItem, AreWritten, IsRead}
 use Rattle.pfc_standing_code.specs.TypedStatements.{AreRead, IsNumber, IsRank, IsProcedure, IsProcessType, IsActivation, IsEntryCall, IsEntry, IsProcess}
 use Rattle.pfc_standing_code.specs.TypedStatements.{IsField, IsCalledVariable, IsCalledProcess, IsSubCall, IsExported, IsModuleCall, IsCalled, IsCall}
@@ -90,7 +90,17 @@ module _ (g : Program) (b : Block) (state : State) (c d : Around) (alike : AreAl
     parts o ss = selected_same state v c d alike o ss
 
     declared : (w : Spot) (o : Option TypeId) → IsDeclared s w o → IsDeclared t w o
-    declared w o k = record { seen = k.seen; own = k.own; meaning = k.meaning; laid = k.laid; variable = k.variable; typed = k.typed; whole = k.whole }
+    declared w o k =
+        record {
+          seen = k.seen;
+          own = k.own;
+          meaning = k.meaning;
+          laid = k.laid;
+          variable = k.variable;
+          typed = k.typed;
+          whole = k.whole;
+          named = k.named;
+        }
 
     a_sub : (head : SubHead) (left : ℕ) (asked : ℕ → SubSort → Type 0) → IsSub s head left asked → IsSub t head left asked
     a_sub head left asked k =
@@ -411,12 +421,27 @@ module _ (g : Program) (b : Block) (state : State) (c d : Around) (alike : AreAl
     a_call : (x : DesigTree) (args : ActualTrees) → IsCall s x args → IsCall t x args
     a_call (desig x ss p) args k = called (meaning_of (find s.env x)) (spot_of s.env (find s.env x)) ss args k
 
+    lasting : (formals : List Formal) (args : ActualTrees) → NameLasting s formals args → NameLasting t formals args
+    lasting [] no_actuals k = tt
+    lasting [] (more_actuals a rest) k = tt
+    lasting (f ∷ formals) no_actuals k = tt
+    lasting (f ∷ formals) (more_actuals a rest) k = (of_desig f.reference (as_desig (item_of a)) k.0, lasting formals rest k.1)
+      where
+        of_desig : (r : Bool) (o : Option DesigTree) → Either r (Outlives s (desig_spot s o)) (Unit {0})
+            → Either r (Outlives t (desig_spot t o)) (Unit {0})
+        of_desig r None k = k
+        of_desig r (Some (desig x ss p)) k = k
+
     a_requeue : (m : Option Meaning) (args : ActualTrees) → IsRequeue s m args → IsRequeue t m args
     a_requeue None args k = k
     a_requeue (Some (AConstant u z)) args k = k
     a_requeue (Some (Named u)) args k = k
     a_requeue (Some (Variable u r)) args k = k
-    a_requeue (Some (Sub z)) args k = sub_call (ByRequeue s.block) z args k
+    a_requeue (Some (Sub z)) args k = (
+      a_sub (sub_at (blocks_of s) z) 0 (ByRequeue s.block) k.0,
+      arguments (sub_at (blocks_of s) z).formals args k.1,
+      lasting (sub_at (blocks_of s) z).formals args k.2,
+    )
     a_requeue (Some (Module z)) args k = k
     a_requeue (Some (Process z)) args k = k
     a_requeue (Some (Entry e)) args k = k

@@ -43,7 +43,16 @@ module _ (g : Setting) (homes : Homes) (entries : Entries) (store : Store) (keep
       record {
         whole = t;
         behind = 0;
-        declared = record { seen = d.seen; own = d.own; meaning = d.meaning; laid = d.laid; variable = d.variable; typed = d.typed; whole = refl };
+        declared = record {
+          seen = d.seen;
+          own = d.own;
+          meaning = d.meaning;
+          laid = d.laid;
+          variable = d.variable;
+          typed = d.typed;
+          whole = refl;
+          named = d.named;
+        };
         path = subst (λ (ss : List Selector). IsPath g.program.state.forms t (path_of ss) t 0) (sym d.whole) (here t);
         word = refl;
       }

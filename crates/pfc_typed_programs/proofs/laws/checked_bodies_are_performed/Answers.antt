@@ -24,10 +24,10 @@ main_body : (t : ProgramTree) (g : Setting) → IsOfImage t g → IsBody t g.pro
 main_body t g of_image = subst (λ (p : Program). IsBody t p.main) (sym of_image.program) of_main
 
 pub returns-clause-bodies : goal.returns-clause-bodies
-returns-clause-bodies c = λ t g k b block lawful whole of_image e f of_block own none seen.
+returns-clause-bodies c = λ t g k b block lawful whole of_image e f of_block own none shut seen.
     let has = block_stands t g of_image k b block e f in
     body_performs g block of_block.room b block.body (has.n + length (guard_code g.program b b.guard).texts) own none of_block has.body
-    (body_ready t lawful whole g b of_image own (a_block t g k b of_image e) seen)
+    (body_ready t lawful whole g b of_image own shut (a_block t g k b of_image e) seen)
 
 pub returns-clause-guards : goal.returns-clause-guards
 returns-clause-guards c = λ t g k held b block guard lawful whole of_image e f is room seen.
@@ -44,22 +44,23 @@ returns-clause-trials c = λ t g k held b block guard lawful whole of_image e f 
     )
 
 pub returns-clause-guarded : goal.returns-clause-guarded
-returns-clause-guarded c = λ t g k b block lawful whole of_image e f of_block own none guard seen.
+returns-clause-guarded c = λ t g k b block lawful whole of_image e f of_block own none shut guard seen.
     let is = a_block t g k b of_image e in
     guarded_performs g b block (block_stands t g of_image k b block e f) of_block own none
     (each_guard_ready t lawful whole g k b of_image (in_program t g k b of_image e) guard)
-    (body_ready t lawful whole g b of_image own is seen)
+    (body_ready t lawful whole g b of_image own shut is seen)
 
 pub returns-clause-requeues : goal.returns-clause-requeues
-returns-clause-requeues c = λ t g k at b block env lawful whole of_image e f of_block trial here none turn guard seen.
+returns-clause-requeues c = λ t g k at b block env lawful whole of_image e f of_block trial here none shut turn guard seen.
     let again = image_again t g of_image in
     let is = a_block t g k b of_image e in
     requeued_performs g b block at env trial here (block_stands t (own_again g) again k b block e f) of_block none
     (scan_stands t g of_image (resource_of (site_in g.program b)) at turn)
     (each_guard_ready t lawful whole (own_again g) k b again (in_program t g k b of_image e) guard)
-    (body_ready t lawful whole (own_again g) b again refl is seen)
+    (body_ready t lawful whole (own_again g) b again refl shut is seen)
 
 pub returns-clause-main : goal.returns-clause-main
-returns-clause-main c = λ t g b block env lawful whole of_image own e alone none of_block inits seen.
-    main_performs g block of_block.room b env alone none own of_block (main_stands t g of_image block e) (modules_ready t lawful whole g of_image alone inits)
-    (body_ready t lawful whole g g.program.main of_image alone (main_body t g of_image) seen)
+returns-clause-main c = λ t g b block env lawful whole of_image own e alone none shut of_block inits seen.
+    main_performs g block of_block.room b env alone none own of_block (main_stands t g of_image block e)
+    (modules_ready t lawful whole g of_image alone shut inits)
+    (body_ready t lawful whole g g.program.main of_image alone shut (main_body t g of_image) seen)

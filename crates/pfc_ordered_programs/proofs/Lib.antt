@@ -1,0 +1,10 @@
+pub mod Lists
+pub mod Types
+pub mod Plain
+pub mod Opening
+pub mod Named
+pub mod Found
+pub mod Modules
+pub mod Naming
+pub mod Order
+pub mod Programs

@@ -9,5 +9,5 @@ mod laws;
 
 pub use laws::{
     accepts_stand_once, callers_pass_locations, first_displays_come_back,
-    hands_show_what_was_asked, hands_show_what_was_offered,
+    hands_show_what_was_asked, hands_show_what_was_offered, processes_stay_placed,
 };

@@ -33,7 +33,7 @@ use Rattle.pfc_select_actions.specs.Conditions.{CanCommunicate, CanTakeAt}
 use Rattle.pfc_select_actions.specs.Selects as machine
 use Rattle.pfc_select_actions.specs.Selects.{open_count, open_ones, open_arms, matched_places}
 use Rattle.pfc_machine_acts.specs.Performing.{silent}
-use Rattle.pfc_standing_code.specs.Settings.{of_own, site_of}
+use Rattle.pfc_standing_code.specs.Settings.{of_own, site_of, SeesAccepts}
 use Rattle.pfc_standing_code.specs.TypedStatements.{AcceptsEntry}
 use Rattle.pfc_standing_code.specs.Words.{IsChecked}
 use Rattle.pfc_standing_code.specs.Performs.{IsOpen, Performs}
@@ -164,16 +164,20 @@ module _ (facts : Facts) (m : Machine) (c : Config) (p choice : ℕ) (level : Li
   place_there : (j : ℕ) × (slice_get sel.offered j ≡ Some at_it.o)
   place_there = among_all sel.offered its_one.place at_it.o at_it.in_text
 
+  sees : SeesAccepts level.setting (site_of level.setting b x)
+  sees =
+      standing.branch_sees level.setting (site_of level.setting b x) to (length ops) at_it.o.replica a at_it.o.next at_it.o.stmts behind_it opened.3
+
   within_those : StandsWithin facts c p x a
   within_those = those place_there.0 at_it.o a place_there.1 offer
 
   of_block : is_accept b a.scope ≡ true
   of_block = standing.of_block facts m c acting.homes acting.entries acting.alike p level acting.actor.stands own acting.actor.process processes b x checked a
-      accepts within_those
+      accepts sees within_those
 
   apart : AreApart b a.scope level.setting.accepts
   apart = standing.apart facts m c acting.homes acting.entries acting.alike p level acting.actor.stands own acting.actor.process processes b x checked a
-      accepts within_those
+      accepts sees within_those
 
   -- ## Its caller
 

@@ -58,7 +58,7 @@ among_all (y ∷ os) j o is = by_kind (λ i there. among_all os i o there) (is_c
 
 met_ends : (g : Setting) (s : Site) (to held : ℕ) (a : Accepting) (n : ℕ) (ts : StmtTrees) (P : ℕ → Type 0) → MetAt g s to held (Some a) n ts P
     → AcceptsEntry s.program.state.blocks s.block.scope a.entry a.scope × ((end : ℕ) × P end)
-met_ends g s to held a n ts P (entry, (j, stmt, (ends, (i, stmts, rest)))) = (entry, (_, rest))
+met_ends g s to held a n ts P (entry, (j, stmt, (ends, (i, stmts, rest))), sees) = (entry, (_, rest))
 
 -- it is an accept of the entry, and behind it the code goes on
 pub branch_goes_on : (g : Setting) (s : Site) (to held : ℕ) (r : Option Replica) (a : Accepting) (n : ℕ) (ts : StmtTrees) (P : ℕ → Type 0)

@@ -16,7 +16,7 @@ pub unmet_call_kept : (facts : Facts) (m : Machine) (c : Config) (p choice : ℕ
     → IsActing facts m c p level → HasArrived facts m c p level (calls x (to_entry v entry k) given)
     → IsKept facts m c p choice (calls x (to_entry v entry k) given)
 unmet_call_kept facts m c p choice level x v entry k given typed singles unmet acting arrived =
-    let (b, checked, (formals, over, held, (alone, (t, n, i, below, process, among, formals_are, over_is, object, there, rest)))) = arrived.arrived in
+    let (b, checked, (formals, over, held, (alone, (t, n, i, below, process, among, formals_are, over_is, object, there, rest)), lends)) = arrived.arrived in
     call_kept facts m c p choice level x v entry k given alone.0 acting arrived b checked alone.1 singles typed formals over held t n i below process among
     formals_are over_is object there rest
     (record {

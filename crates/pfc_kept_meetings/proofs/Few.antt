@@ -2,9 +2,11 @@
 use Rattle.std.proofs.Common.{◌≡◌, ◌≢◌, ℕ, zero, suc, ◌+◌, ◌<◌, ◌≤◌, ◌==◌, Bool, true, false, ◌||◌, if◌then◌else◌, List, [], ◌∷◌, length, get_or, slice_get}
 use Rattle.std.proofs.Common.{Some, None, refl, sym, ap, ap₂, ◌∙◌, subst, arith, ◌⊎◌, inl, inr}
 use Rattle.std.specs.List.{list_any}
-use Rattle.pfc_call_laws.proofs.Displays.{is_same, same_of, is_other, any_at}
-use Rattle.pfc_call_laws.proofs.Places.{or_cases}
-use Rattle.pfc_kept_meetings.specs.Waiting.{IsOnce}
+use Rattle.pfc_call_laws.proofs.Displays.{is_same, is_other, any_at}
+
+-- no number is there twice
+abbrev pub IsOnce : List ℕ → Type 0
+IsOnce xs = (j k r : ℕ) → slice_get xs j ≡ Some r → slice_get xs k ≡ Some r → j ≡ k
 
 -- what a list has at a place
 pub found_at : (xs : List ℕ) (k r d : ℕ) → slice_get xs k ≡ Some r → (k < length xs) × (get_or xs k d ≡ r)
@@ -129,120 +131,3 @@ are_fewer n p xs once below inside apart =
     subst (λ k. k < n) (all_counted n xs once below)
     (less_where n (λ j. list_any (λ i. i == j) xs) p inside
     (bit_false (list_any (λ i. i == p) xs) (λ is. let there = any_at p xs is in apart there.0 there.1)))
-
--- ## One list within another
-
-same_counts : (n : ℕ) (f h : ℕ → Bool) → ((j : ℕ) → f j ≡ h j) → counted n f ≡ counted n h
-same_counts zero f h same = refl
-same_counts (suc n) f h same = ap₂ (λ i j. i + j) (ap (λ (b : Bool). if b then 1 else 0) (same n)) (same_counts n f h same)
-
-at_most_one_more : (n x : ℕ) (f : ℕ → Bool) → counted n (λ j. x == j || f j) ≤ suc (counted n f)
-at_most_one_more n x f = by (below_or n x)
-  where
-    below_or : (n x : ℕ) → (x < n) ⊎ (n ≤ x)
-    below_or n x = grind arith
-
-    one : (i k : ℕ) → i ≡ suc k → i ≤ suc k
-    one i k is = grind (arith, is)
-
-    none : (i k : ℕ) → i ≡ k → i ≤ suc k
-    none i k is = grind (arith, is)
-
-    already : (n x : ℕ) (f : ℕ → Bool) → f x ≡ true → (j : ℕ) → (x == j || f j) ≡ f j
-    already n x f is j = by_test (x == j) refl
-      where
-        by_test : (b : Bool) → (x == j) ≡ b → (b || f j) ≡ f j
-        by_test true same = sym (ap (λ y. f y) (sym (same_of x j same)) ∙ is)
-        by_test false same = refl
-
-    by : (x < n) ⊎ (n ≤ x) → counted n (λ j. x == j || f j) ≤ suc (counted n f)
-    by (inr above) = none (counted n (λ j. x == j || f j)) (counted n f) (beyond n x f above)
-    by (inl below) = by_test (f x) refl
-      where
-        by_test : (b : Bool) → f x ≡ b → counted n (λ j. x == j || f j) ≤ suc (counted n f)
-        by_test false is = one (counted n (λ j. x == j || f j)) (counted n f) (one_more n x f below is)
-        by_test true is = none (counted n (λ j. x == j || f j)) (counted n f) (same_counts n (λ j. x == j || f j) f (already n x f is))
-
-at_most_all : (n : ℕ) (xs : List ℕ) → counted n (λ j. list_any (λ i. i == j) xs) ≤ length xs
-at_most_all n [] = none n
-  where
-    less_zero : (k : ℕ) → k ≤ 0 → 0 + k ≤ 0
-    less_zero k is = grind (arith, is)
-
-    none : (n : ℕ) → counted n (λ j. false) ≤ 0
-    none zero = grind arith
-    none (suc n) = less_zero (counted n (λ j. false)) (none n)
-at_most_all n (x ∷ xs) =
-    both (counted n (λ j. x == j || list_any (λ i. i == j) xs)) (counted n (λ j. list_any (λ i. i == j) xs)) (length xs)
-    (at_most_one_more n x (λ j. list_any (λ i. i == j) xs)) (at_most_all n xs)
-  where
-    both : (i k l : ℕ) → i ≤ suc k → k ≤ l → i ≤ suc l
-    both i k l one two = grind (arith, one, two)
-
-counts_more : (n : ℕ) (f h : ℕ → Bool) → ((j : ℕ) → f j ≡ true → h j ≡ true) → counted n f ≤ counted n h
-counts_more zero f h more = grind arith
-counts_more (suc n) f h more =
-    both (if f n then 1 else 0) (if h n then 1 else 0) (counted n f) (counted n h) (one (f n) (h n) (more n)) (counts_more n f h more)
-  where
-    one : (b c : Bool) → (b ≡ true → c ≡ true) → (if b then 1 else 0) ≤ (if c then 1 else 0)
-    one true c is = subst (λ (y : Bool). 1 ≤ (if y then 1 else 0)) (sym (is refl)) (grind arith)
-    one false true is = grind arith
-    one false false is = grind arith
-
-    both : (i k j l : ℕ) → i ≤ k → j ≤ l → i + j ≤ k + l
-    both i k j l one two = grind (arith, one, two)
-
--- above all numbers of a list
-abbrev above_all : List ℕ → ℕ
-above_all [] = 0
-above_all (x ∷ xs) = suc x + above_all xs
-
-under_all : (xs : List ℕ) (k r : ℕ) → slice_get xs k ≡ Some r → r < above_all xs
-under_all [] k r is = absurd (let no : None ≡ Some r = is in (let none : ⊥ = cc in none))
-under_all (x ∷ xs) zero r is = first x r (above_all xs) (let both : Some x ≡ Some r = is in cc)
-  where
-    first : (x r n : ℕ) → x ≡ r → r < suc x + n
-    first x r n same = grind (arith, same)
-under_all (x ∷ xs) (suc k) r is = later r x (above_all xs) (under_all xs k r is)
-  where
-    later : (r x n : ℕ) → r < n → r < suc x + n
-    later r x n less = grind (arith, less)
-
--- one that is no longer has no other numbers than those it has of the first
-pub only_these : (xs ys : List ℕ) (j : ℕ) → IsOnce xs → ((k r : ℕ) → slice_get xs k ≡ Some r → list_any (λ i. i == r) ys ≡ true) → length ys ≤ length xs
-    → list_any (λ i. i == j) ys ≡ true → list_any (λ i. i == j) xs ≡ true
-only_these xs ys j once within_ys few there = by (list_any (λ i. i == j) xs) refl
-  where
-    never : (a b c d : ℕ) → a ≡ c → suc a ≤ b → b ≤ d → d ≤ c → ⊥
-    never a b c d one two three four = grind (arith, one, two, three, four)
-
-    all_under : (k r : ℕ) → slice_get xs k ≡ Some r → r < suc j + above_all xs
-    all_under k r is = more r j (above_all xs) (under_all xs k r is)
-      where
-        more : (r j m : ℕ) → r < m → r < suc j + m
-        more r j m less = grind (arith, less)
-
-    j_under : j < suc j + above_all xs
-    j_under = grind arith
-
-    one_apart : list_any (λ i. i == j) xs ≡ false → suc (counted (suc j + above_all xs) (λ r. list_any (λ i. i == r) xs)) ≤ counted (suc j + above_all xs) (λ
-        r. list_any (λ i. i == r) ys)
-    one_apart apart =
-        subst (λ k. k ≤ counted (suc j + above_all xs) (λ r. list_any (λ i. i == r) ys)) (one_more (suc j + above_all xs) j (λ r. list_any (λ i. i == r) xs)
-        j_under apart)
-        (counts_more (suc j + above_all xs) (λ r. j == r || list_any (λ i. i == r) xs) (λ r. list_any (λ i. i == r) ys) both)
-      where
-        both : (r : ℕ) → (j == r || list_any (λ i. i == r) xs) ≡ true → list_any (λ i. i == r) ys ≡ true
-        both r is = by_part (or_cases (j == r) (list_any (λ i. i == r) xs) is)
-          where
-            by_part : ((j == r) ≡ true) ⊎ (list_any (λ i. i == r) xs ≡ true) → list_any (λ i. i == r) ys ≡ true
-            by_part (inl same) = subst (λ i. list_any (λ y. y == i) ys ≡ true) (same_of j r same) there
-            by_part (inr is_in) = (let at = any_at r xs is_in in within_ys at.0 r at.1)
-
-    by : (b : Bool) → list_any (λ i. i == j) xs ≡ b → b ≡ true
-    by true is = refl
-    by false is =
-        absurd
-        (never (counted (suc j + above_all xs) (λ r. list_any (λ i. i == r) xs)) (counted (suc j + above_all xs) (λ r. list_any (λ i. i == r) ys)) (length xs)
-        (length ys)
-        (all_counted (suc j + above_all xs) xs once all_under) (one_apart is) (at_most_all (suc j + above_all xs) ys) few)

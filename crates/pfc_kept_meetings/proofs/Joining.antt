@@ -61,7 +61,7 @@ use Rattle.pfc_kept_meetings.proofs.Together.{begins_behind}
 -- where the code behind an accept goes on
 ends_at : (g : Setting) (b : Block) (x : Context) (at held : ℕ) (a : Accepting) (o : Open) (P : ℕ → Type 0)
     → MetAt g (site_of g b x) at held (Some a) o.next o.stmts P → (end : ℕ) × P end
-ends_at g b x at held a o P (entry, (n, stmt, (ends, (j, stmts, rest)))) = (_, rest)
+ends_at g b x at held a o P (entry, (n, stmt, (ends, (j, stmts, rest))), sees) = (_, rest)
 
 module _ (facts : Facts) (m : Machine) (c : Config) (p choice : ℕ) (level : LivingLevel) (x : Context) (o : Open) (k : Remainder)
     (own : level.setting.trial ≡ of_own) (acting : IsActing facts m c p level) (arrived : HasArrived facts m c p level (meets x o k)) (b : Block)
@@ -283,8 +283,8 @@ by_block : (facts : Facts) (m : Machine) (c : Config) (p choice : ℕ) (level : 
 by_block facts m c p choice level x o k a processes typed runs offer acting arrived b checked own none plain there met behind within_those =
     joined_kept facts m c p choice level x o k own acting arrived b checked none plain a offer processes typed runs
     (standing.of_block facts m c acting.homes acting.entries acting.alike p level acting.actor.stands own acting.actor.process processes b x checked a met.0
-    within_those) (standing.apart facts m c acting.homes acting.entries acting.alike p level acting.actor.stands own acting.actor.process processes b x
-    checked a met.0 within_those) there met behind
+    met.2 within_those) (standing.apart facts m c acting.homes acting.entries acting.alike p level acting.actor.stands own acting.actor.process processes b x
+    checked a met.0 met.2 within_those) there met behind
 
 pub accept_is_kept : (facts : Facts) (m : Machine) (c : Config) (p choice : ℕ) (level : LivingLevel) (x : Context) (o : Open) (k : Remainder) (a : Accepting)
     → HasProcesses facts.tree → HasTypedEntries facts.tree → KeepsAccepts facts c → o.offer ≡ to_accept a

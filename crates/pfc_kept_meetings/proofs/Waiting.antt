@@ -21,7 +21,7 @@ use Rattle.pfc_machines.specs.declared.machine.Machine.{Machine}
 use Rattle.pfc_machines.specs.declared.alternatives.Offer.TheVariants.{Accept as AcceptOffer}
 use Rattle.pfc_machines.specs.Descriptors.{descriptor_of}
 use Rattle.pfc_standing_code.specs.Effects.{Arm}
-use Rattle.pfc_standing_code.specs.Settings.{Setting, of_own, site_of}
+use Rattle.pfc_standing_code.specs.Settings.{Setting, of_own, site_of, SeesAccepts}
 use Rattle.pfc_standing_code.specs.Performs.{MetAt, BranchAt, IsOpen, AreOpen, Performs}
 use Rattle.pfc_standing_code.specs.TypedStatements.{AcceptsEntry}
 use Rattle.pfc_following_source.specs.Behind.{BehindAccept, BehindOpen, branch_of}
@@ -69,7 +69,7 @@ first_there g c q want x (o ∷ os) k s is =
 -- where the code behind it goes on
 accept_ends : (g : Setting) (s : Site) (first held : ℕ) (a : Accepting) (n : ℕ) (ts : StmtTrees) (P : ℕ → Type 0)
     → MetAt g s first held (Some a) n ts P → AcceptsEntry s.program.state.blocks s.block.scope a.entry a.scope × ((end : ℕ) × P end)
-accept_ends g s first held a n ts P (entry, (j, stmt, (ends, (i, stmts, rest)))) = (entry, (_, rest))
+accept_ends g s first held a n ts P (entry, (j, stmt, (ends, (i, stmts, rest))), sees) = (entry, (_, rest))
 
 branch_ends : (g : Setting) (s : Site) (first held : ℕ) (r : Option Replica) (a : Accepting) (n : ℕ) (ts : StmtTrees) (P : ℕ → Type 0)
     → BranchAt g s first held r (Some a) n ts P → AcceptsEntry s.program.state.blocks s.block.scope a.entry a.scope × ((end : ℕ) × P end)
@@ -169,6 +169,9 @@ module _ (facts : Facts) (m : Machine) (c : Config) (p : ℕ) (level : LivingLev
   within_those : StandsWithin facts c q x a
   within_those = offers.within q x shows.opened shows.left open_there.0 met.o a shows.hand open_there.1 accept_there.1
 
+  sees : SeesAccepts its_level.setting (site_of its_level.setting b x)
+  sees = standing.branch_sees its_level.setting (site_of its_level.setting b x) to (length ops) met.o.replica a met.o.next met.o.stmts behind_it open_so.3
+
   -- there is room for as many meetings as there are processes
   pub may_meet : process_count facts ≤ (descriptor_of m.descriptors q).communications.room.meetings
   may_meet =
@@ -178,8 +181,8 @@ module _ (facts : Facts) (m : Machine) (c : Config) (p : ℕ) (level : LivingLev
 
   pub of_block : is_accept b a.scope ≡ true
   of_block = standing.of_block facts m c acting.homes acting.entries acting.alike q its_level shows.under_way.stands shows.offers.own inside processes b x
-      shows.offers.checked a accepts within_those
+      shows.offers.checked a accepts sees within_those
 
   pub apart : AreApart b a.scope its_level.setting.accepts
   apart = standing.apart facts m c acting.homes acting.entries acting.alike q its_level shows.under_way.stands shows.offers.own inside processes b x
-      shows.offers.checked a accepts within_those
+      shows.offers.checked a accepts sees within_those

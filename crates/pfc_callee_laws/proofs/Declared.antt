@@ -1,6 +1,6 @@
 -- Declarations of constants, types, variables, parameters and entries, by what their names stand for.
-use Rattle.std.proofs.Common.{◌≡◌, ℕ, zero, suc, ◌+◌, ◌<◌, ◌≤◌, ◌&&◌, ◌||◌, ◌⊎◌, inl, inr, Bool, true, false, not, if◌then◌else◌, nat_lt, is_some, List, []}
-use Rattle.std.proofs.Common.{◌∷◌, ◌++◌, length, length-append, drop, get_or, get_or-set_same, Option, Some, None, refl, sym, ap, ◌∙◌, subst, arith}
+use Rattle.std.proofs.Common.{◌≡◌, ℕ, zero, suc, ◌+◌, ◌<◌, ◌≤◌, ◌==◌, ◌&&◌, ◌||◌, ◌⊎◌, inl, inr, Bool, true, false, not, if◌then◌else◌, nat_lt, is_some, List}
+use Rattle.std.proofs.Common.{[], ◌∷◌, ◌++◌, length, length-append, drop, get_or, get_or-set_same, Option, Some, None, refl, sym, ap, ◌∙◌, subst, arith}
 use Rattle.std.specs.List.{All}
 use Rattle.std.proofs.Math.Seq.{get_or-append_seam}
 use Rattle.std.proofs.lemmas.List.Elements.{All-nil}
@@ -27,6 +27,7 @@ use Rattle.pfc_types.specs.rules.Declarations.{var_state, vars_state, passed_fit
 use Rattle.pfc_types.specs.rules.Declarations.{formal_heading, formals_heading, group_viewed, group_heading, groups_heading, accept_groups, heading}
 use Rattle.pfc_types.specs.rules.Declarations.{accept_heading, EntryHeading, entry_formal, entry_formals, entry_group, entry_groups, entry_meaning, entry_state}
 use Rattle.pfc_types.specs.rules.Declarations.{entries_state, process_named}
+use Rattle.pfc_types.proofs.Clean.{and-left}
 use Rattle.pfc_types.proofs.Prefixes.{begins_push}
 use Rattle.pfc_types.proofs.Walking.{note_kept}
 use Rattle.pfc_types.proofs.WalkDeclarations.{made_kept, consts_walked, types_walked, vars_walked, entries_walked}
@@ -84,7 +85,9 @@ module _ (mains : ℕ → Bool) (block : ℕ → Block) where
   -- a variable or a parameter of this type may be declared in the scope i
   abbrev pub IsPart : Forms → ℕ → Bool → Option TypeId → Type 0
   IsPart forms i reference None = Unit {0}
-  IsPart forms i reference (Some t) = (t.place < length forms) × (mains i ≡ false → reference ≡ false → is_object forms t ≡ false)
+  IsPart forms i reference (Some t) =
+      (t.place < length forms) × (mains i ≡ false → reference ≡ false → is_object forms t ≡ false)
+      × (mains i ≡ false → (held_of forms t).conditions ≡ false)
 
   variable_fine : (forms : Forms) (subs : List SubHead) (i : ℕ) (reference : Bool) (t : Option TypeId) → IsPart forms i reference t
       → IsFine mains block forms subs i (variable_meaning reference t)
@@ -158,8 +161,12 @@ module _ (mains : ℕ → Bool) (block : ℕ → Block) where
           no_object (held_of forms t).shared (held_of forms t).conditions (nat_lt 0 (held_of forms t).processes)
           (subst (λ (o : Owner). shared_fits o forms t ≡ true) other p) (subst (λ (o : Owner). condition_fits o forms t ≡ true) other q)
 
+      unheld : OwnerFits owner i → condition_fits owner forms t ≡ true → mains i ≡ false → (held_of forms t).conditions ≡ false
+      unheld (inl main) q apart = (let both : true ≡ false = sym main ∙ apart in absurd (cc))
+      unheld (inr other) q apart = not_false (held_of forms t).conditions (subst (λ (o : Owner). condition_fits o forms t ≡ true) other q)
+
       by : (r q : Bool) → shared_fits owner forms t ≡ r → condition_fits owner forms t ≡ q → IsPart forms i false (where_so (r && q) t)
-      by true true e f = (place, λ apart value. free fits e f apart)
+      by true true e f = (place, λ apart value. free fits e f apart, λ apart. unheld fits f apart)
       by true false e f = tt
       by false q e f = tt
 
@@ -254,16 +261,20 @@ module _ (mains : ℕ → Bool) (block : ℕ → Block) where
   parameter_part : (reference : Bool) (forms : Forms) (i : ℕ) (t : Option TypeId) → HasPlace forms t
       → IsPart forms i reference (parameter_type reference forms t)
   parameter_part reference forms i None place = tt
-  parameter_part reference forms i (Some t) place = by (passed_fits reference forms t) (parameter_fits forms t) refl
+  parameter_part reference forms i (Some t) place = by (passed_fits reference forms t) (parameter_fits forms t) refl refl
     where
       value : (r : Bool) → passed_fits r forms t ≡ true → r ≡ false → is_object forms t ≡ false
       value true h e = absurd (cc)
       value false h e = not_false (is_object forms t) h
 
-      by : (r q : Bool) → passed_fits reference forms t ≡ r → IsPart forms i reference (where_so (r && q) t)
-      by true true e = (place, λ apart plain. value reference e plain)
-      by true false e = tt
-      by false q e = tt
+      by : (r q : Bool) → passed_fits reference forms t ≡ r → parameter_fits forms t ≡ q → IsPart forms i reference (where_so (r && q) t)
+      by true true e f = (
+        place,
+        λ apart plain. value reference e plain,
+        λ apart. not_false (held_of forms t).conditions (and-left (not (held_of forms t).conditions) ((held_of forms t).processes == 0) f),
+      )
+      by true false e f = tt
+      by false q e f = tt
 
   -- a group of parameters
   group_begun : (i : ℕ) (view : List Level) (h : Heading) (g : GroupTree) → IsBegun i h → IsBegun i (group_viewed i view h g)

@@ -9,7 +9,7 @@ use Rattle.std.proofs.lemmas.List.Elements.{All-nil, All-cons, All-append, All-w
 use Rattle.pfc_base.specs.declared.places.Place.{Place}
 use Rattle.pfc_tree.specs.Symbols.{Text}
 use Rattle.pfc_types.specs.Faults.{Faults, none, one, ◌⨾◌, unless}
-use Rattle.pfc_types.specs.Types.{Forms, is_object}
+use Rattle.pfc_types.specs.Types.{Forms, held_of, is_object}
 use Rattle.pfc_types.specs.Growing.{Begins}
 use Rattle.pfc_types.specs.Scopes.{Names, Level, scope_at, meaning_in}
 use Rattle.pfc_types.specs.Blocks.{State, no_sub, no_process, sub_at, process_at, note, declare, add_name, export_sub, open_scope}
@@ -99,10 +99,12 @@ pushed_true Q xs x d n below h k = by (nat_lt n (length xs)) refl
 
 -- The scopes of main are told, and the block of each scope.
 module _ (mains : ℕ → Bool) (block : ℕ → Block) where
-  -- Outside main's scopes a variable holds no object, unless it is a reference, and there is no process. The block of a sub stands in the scope in which it
-  -- is declared.
+  -- Outside main's scopes a variable holds no condition, and no object unless it is a reference, and there is no process. The block of a sub stands in the
+  -- scope in which it is declared.
   abbrev pub IsFine : Forms → List SubHead → ℕ → Meaning → Type 0
-  IsFine forms subs i (Variable t reference) = (t.place < length forms) × (mains i ≡ false → reference ≡ false → is_object forms t ≡ false)
+  IsFine forms subs i (Variable t reference) =
+      (t.place < length forms) × (mains i ≡ false → reference ≡ false → is_object forms t ≡ false)
+      × (mains i ≡ false → (held_of forms t).conditions ≡ false)
   IsFine forms subs i (Named t) = t.place < length forms
   IsFine forms subs i (Process n) = mains i ≡ true
   IsFine forms subs i (Sub n) = (n < length subs) × ((block (get_or subs n no_sub).scope).outer ≡ i)
@@ -147,6 +149,7 @@ module _ (mains : ℕ → Bool) (block : ℕ → Block) where
   object_grown forms later subs i (Variable t r) b h = (
     let more = begins_length forms later b in let low = h.0 in omega (arith, low, more),
     λ apart value. ap (λ (x : Held). (x.shared || x.conditions) || nat_lt 0 x.processes) (held_begins forms later t b h.0) ∙ h.1 apart value,
+    λ apart. ap (λ (x : Held). x.conditions) (held_begins forms later t b h.0) ∙ h.2 apart,
   )
   object_grown forms later subs i (Named t) b h = (let more = begins_length forms later b in omega (arith, h, more))
   object_grown forms later subs i (Constant t n) b h = tt

@@ -15,5 +15,4 @@ pub mod Mains
 pub mod Calls
 pub mod Modules
 pub mod Processes
-pub mod Guarded
 pub mod Requeues

@@ -5,12 +5,13 @@ use Rattle.std.specs.Prelude.{nat_le, bytes_eq}
 use Rattle.std.specs.List.{All, slice_get}
 use Rattle.std.specs.Option.{IfSome}
 use Rattle.std.proofs.lemmas.Bool.Decides.{nat_tests}
+use Rattle.std.proofs.lemmas.List.Elements.{All-head, All-tail}
 use Rattle.std.proofs.lemmas.Map.Entries.{All-lookup}
 use Rattle.pfc_tree.specs.Symbols.{Text}
 use Rattle.pfc_tree.specs.trees.Parts.{ProgramTree}
 use Rattle.pfc_tree.specs.forget.Parts.{forget_program}
 use Rattle.pfc_tree.specs.lawful.Parts.{IsLawful}
-use Rattle.pfc_types.specs.Types.{Forms}
+use Rattle.pfc_types.specs.Types.{Forms, held_of}
 use Rattle.pfc_types.specs.Scopes.{Names, scope_at, meaning_in}
 use Rattle.pfc_types.specs.Blocks.{Blocks, sub_at, process_at}
 use Rattle.pfc_types.specs.declared.types.TypeId.{TypeId}
@@ -53,6 +54,15 @@ HoldsNone forms m =
 -- where it is laid out
 abbrev pub IsPlainName : Forms → Meaning → Type 0
 IsPlainName forms m = is_laid m ≡ true → HoldsNone forms m
+
+-- what is true of all stands at each place
+at_place : {A : Type 0} (P : A → Type 0) (xs : List A) (n : ℕ) (x : A) → All P xs → slice_get xs n ≡ Some x → P x
+at_place P [] n x h e = absurd (cc)
+at_place P (y ∷ xs) zero x h e = subst P (one y x e) (All-head P y xs h)
+  where
+    one : {B : Type 0} (a b : B) → Some a ≡ Some b → a ≡ b
+    one a b q = cc
+at_place P (y ∷ xs) (suc n) x h e = at_place P xs n x (All-tail P y xs h) e
 
 pub own_plain : (m : Meaning) → IsOwn m → is_reference m ≡ false
 own_plain (Variable t r) h = h
@@ -103,6 +113,12 @@ module _ (t : ProgramTree) (lawful : IsLawful (forget_program t)) where
   declared_in n i x e =
       (subst (λ (m : Option Meaning). IfSome m (IsFine mains its forms bs.subs i)) e
       (All-lookup (IsFine mains its forms bs.subs i) (bytes_eq x) (scope_at bs.scopes i) (fine.names i))).1
+
+  -- outside main's scopes no variable holds a condition
+  pub unheld : (i k : ℕ) (x : Text) (u : TypeId) (r : Bool) → mains i ≡ false → slice_get (scope_at bs.scopes i) k ≡ Some (x, Variable u r)
+      → (held_of forms u).conditions ≡ false
+  unheld i k x u r apart e =
+      (at_place (λ (y : Text × Meaning). IsFine mains its forms bs.subs i y.1) (scope_at bs.scopes i) k (x, Variable u r) (fine.names i) e).2 apart
 
   pub of_sub : (n : ℕ) → n < length bs.subs → IsFineSub mains its bs.scopes (sub_at bs n)
   of_sub n below = fine.subs_fine n below

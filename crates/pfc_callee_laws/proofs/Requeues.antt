@@ -14,6 +14,7 @@ use Rattle.pfc_types.specs.declared.heads.SubHead.{SubHead}
 use Rattle.pfc_types.specs.declared.heads.SubSort.{SubSort}
 use Rattle.pfc_types.specs.declared.heads.SubSort.TheVariants.{Procedure, Guarded, Function}
 use Rattle.pfc_types.specs.declared.heads.ModuleHead.{ModuleHead}
+use Rattle.pfc_types.specs.rules.Statements.{innermost}
 use Rattle.pfc_types.specs.rules.Whole.{finished, broken}
 use Rattle.pfc_semantics.specs.Layouts.{sub_with}
 use Rattle.pfc_semantics.specs.Programs.{Block, Program, block_at, block_number, program_of}
@@ -30,14 +31,13 @@ use Rattle.pfc_typed_programs.specs.Bodies.{IsBody, of_block, of_module as of_in
 use Rattle.pfc_typed_programs.specs.Accepts.{HasEntries}
 use Rattle.pfc_typed_programs.proofs.AcceptTrees.{IsSubs, program_fits}
 use Rattle.pfc_typed_programs.proofs.Blocks.{each_of}
-use Rattle.pfc_nesting_laws.proofs.Numbered.{every_at}
+use Rattle.pfc_typed_programs.proofs.Guarded.{IsOfItsModule, program_so}
 use Rattle.pfc_nesting_laws.proofs.Programs.{by_scope, own_not_mains}
 use Rattle.pfc_callee_laws.specs.Callees.{is_guarded_sort, IsCalledFrom, IsGuardedBlock, IsRequeuedFrom}
 use Rattle.pfc_callee_laws.proofs.Known.{any_sees}
 use Rattle.pfc_callee_laws.proofs.Program.{of_sub, of_process, outside_accepts}
 use Rattle.pfc_callee_laws.proofs.Mains.{of_mains}
 use Rattle.pfc_callee_laws.proofs.Modules.{begins, guard_there, mains_of, of_module, callee_there}
-use Rattle.pfc_callee_laws.proofs.Guarded.{IsOfItsModule, program_so}
 
 -- ## Headings by their scopes
 
@@ -114,7 +114,8 @@ module _ (t : ProgramTree) (lawful : IsLawful (forget_program t)) (clean : broke
 
   module _ (k : ℕ) (b : Block) (at : slice_get g.blocks k ≡ Some b) (inside : b.env.around.guarded ≡ true) where
     its_module : (is_some b.guard ≡ true) × (b.accepts ≡ 0) × ((j : ℕ) → sees b.env.view j ≡ true → (j ≡ b.scope) ⊎ ((j ≡ b.outer) ⊎ (j ≡ 0)))
-    its_module = every_at IsOfItsModule g.blocks k b (program_so (finished t) 0 1 t.parts lawful.0) at inside
+        × (innermost b.env.view ≡ b.scope)
+    its_module = each_of IsOfItsModule g.blocks k b (program_so (finished t) 0 1 t.parts lawful.0) at inside
 
     -- it is that of a guarded procedure
     its_head : (head : SubHead) × (sub_with bs.subs b.scope ≡ Some head) × (head.sort ≡ Guarded)

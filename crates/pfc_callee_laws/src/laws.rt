@@ -1,21 +1,23 @@
 //! The laws. The functions do nothing: their contracts are the laws.
-ghost use Rattle.std.specs.Prelude.{◌≡◌, ℕ, ◌<◌, true, List, [], ◌∷◌, length, Some};
+ghost use Rattle.std.specs.Prelude.{◌≡◌, ℕ, ◌<◌, Bool, true, false, List, [], ◌∷◌, length, Some};
 ghost use Rattle.std.specs.List.{slice_get};
 ghost use Rattle.pfc_tree.specs.Symbols.{Text};
 ghost use Rattle.pfc_tree.specs.trees.Parts.{ProgramTree};
 ghost use Rattle.pfc_tree.specs.forget.Parts.{forget_program};
 ghost use Rattle.pfc_tree.specs.lawful.Parts.{IsLawful};
+ghost use Rattle.pfc_types.specs.Types.{held_of};
 ghost use Rattle.pfc_types.specs.Scopes.{meaning_in, scope_at};
 ghost use Rattle.pfc_types.specs.Blocks.{sub_at, module_at, process_at, entry_at};
 ghost use Rattle.pfc_types.specs.declared.heads.Formal.{Formal};
-ghost use Rattle.pfc_types.specs.declared.scope.Meaning.TheVariants.{Sub};
+ghost use Rattle.pfc_types.specs.declared.types.TypeId.{TypeId};
+ghost use Rattle.pfc_types.specs.declared.scope.Meaning.TheVariants.{Sub, Variable};
 ghost use Rattle.pfc_types.specs.rules.Routines.{is_function_sort};
 ghost use Rattle.pfc_types.specs.rules.FaultyNames.{all_typed};
 ghost use Rattle.pfc_types.specs.rules.Whole.{finished, broken};
 ghost use Rattle.pfc_semantics.specs.Programs.{Block, block_at, layout_cells, program_of};
 ghost use Rattle.pfc_semantics.specs.Processes.{declaration_of};
 ghost use Rattle.pfc_translation.specs.Images.{image_of};
-ghost use Rattle.pfc_translation.specs.Sites.{Site, module_of};
+ghost use Rattle.pfc_translation.specs.Sites.{Site, is_mains, module_of};
 ghost use Rattle.pfc_standing_code.specs.Typed.{ByName, InExpressions, FromOutside, ByRequeue, IsOfSub};
 ghost use Rattle.pfc_typed_programs.specs.Bodies.{IsBody};
 ghost use Rattle.pfc_callee_laws.specs.Callees.{IsSubBlock, IsProcessBlock, HasResultAt, IsCalledFrom, IsOfModule, IsRequeuedFrom, IsApart, IsMainsBody};
@@ -92,4 +94,11 @@ pub fn processes_are_apart()
         → declaration_of (program_of t) q < length (finished t).blocks.processes }
     ensures entries { (t : ProgramTree) (n entry : ℕ) → IsLawful (forget_program t) → broken t ≡ []
         → all_typed (entry_at (finished t).blocks n entry) ≡ true }
+{}
+
+/// Outside main's scopes no variable holds a condition, and no parameter does.
+pub fn conditions_are_declared_in_main()
+    ensures { (t : ProgramTree) (i k : ℕ) (x : Text) (u : TypeId) (reference : Bool) → IsLawful (forget_program t)
+        → is_mains (finished t).blocks i ≡ false → slice_get (scope_at (finished t).blocks.scopes i) k ≡ Some (x, Variable u reference)
+        → (held_of (finished t).forms u).conditions ≡ false }
 {}

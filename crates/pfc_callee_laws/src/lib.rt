@@ -7,7 +7,7 @@
 mod laws;
 
 pub use laws::{
-    called_subs_are_nested, cells_are_counted, functions_have_results, mains_bodies_stand,
-    modules_have_their_procedures, processes_are_apart, subs_and_processes_have_blocks,
-    subs_stand_where_declared,
+    called_subs_are_nested, cells_are_counted, conditions_are_declared_in_main,
+    functions_have_results, mains_bodies_stand, modules_have_their_procedures, processes_are_apart,
+    subs_and_processes_have_blocks, subs_stand_where_declared,
 };

@@ -1,0 +1,5 @@
+pub mod Tokens
+pub mod Held
+pub mod Values
+pub mod Names
+pub mod Places

@@ -19,6 +19,7 @@ use Rattle.pfc_machine_acts.specs.Acting.{choice_among, comes_to}
 use Rattle.pfc_machine_acts.specs.Conditions.{CanDo}
 use Rattle.pfc_machine_acts.specs.Performing.{acts_by}
 use Rattle.pfc_machine_acts.specs.Quietly.{quietly}
+use Rattle.pfc_run_rules.specs.Rules.{KeepsToRules}
 use Rattle.pfc_representation.specs.Levels.{Facts, program_in, LivingLevel, HasSetting}
 use Rattle.pfc_representation.specs.Machines.{Represents}
 use Rattle.pfc_representation.specs.Actions.{IsChoice, ComeToSame, IsKept}
@@ -42,7 +43,8 @@ numbered_at facts level numbered has = λ t same.
     ∙ ap (λ (g : Program). number_at (objects_of g)) (sym has.image.program ∙ same)
 
 module _ (facts : Facts) (m : Machine) (c : Config) (p : ℕ) (picking : Picking) (kept : IsNextKept facts c p)
-    (numbered : AreNumbered facts) (is : Represents facts m c) (about : IsAboutToAct facts m c p) where
+    (numbered : AreNumbered facts) (rules : KeepsToRules (program_in facts) c p) (is : Represents facts m c)
+    (about : IsAboutToAct facts m c p) where
   abbrev n : Action
   n = next_of (program_in facts) c p
 
@@ -76,7 +78,7 @@ module _ (facts : Facts) (m : Machine) (c : Config) (p : ℕ) (picking : Picking
     alike =
         by_kept
         (kept come.before choice come.level
-        (numbered_at facts come.level numbered (has_setting facts come.before c p come.level come.acting)) about.rules come.acting come.arrived
+        (numbered_at facts come.level numbered (has_setting facts come.before c p come.level come.acting)) rules come.acting come.arrived
         (choice_is picking (choices (program_in facts) c p n)))
 
   pub acts_alike : ActsAsItsSource facts m c p picking

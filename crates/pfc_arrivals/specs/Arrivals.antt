@@ -30,13 +30,12 @@ use Rattle.pfc_representation.specs.Actions.{IsChoice, ComeToSame, IsKept}
 abbrev pub begins : ℕ → Machine → Machine
 begins p m = record m { world = begun m.world p }
 
--- Process p is ready and may be picked, in a run that keeps to the rules. What its next action takes as a count or as a rank has 32 bits.
+-- Process p is ready and may be picked. What its next action takes as a count or as a rank has 32 bits.
 pub record IsAboutToAct (facts : Facts) (m : Machine) (c : Config) (p : ℕ) : Type 0 where
   pub process : p < length c.activities
   pub ready : at c.table.rows p ≡ Is_ready
   pub few : c.table.done < 10 ^ 18
   pub number : TakesNumber (next_of (program_in facts) c p)
-  pub rules : KeepsToRules (program_in facts) c p
 
 -- Quiet instructions of process p, no more than the code has, lead to the action that comes next in the source text.
 pub record ComesToAction (facts : Facts) (m : Machine) (c : Config) (p : ℕ) : Type 0 where

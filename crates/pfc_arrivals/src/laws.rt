@@ -8,7 +8,8 @@ ghost use Rattle.pfc_translation.specs.Images.{image_of};
 ghost use Rattle.pfc_machine_acts.specs.declared.acts.ActionEnd.{ActionEnd};
 ghost use Rattle.pfc_machine_acts.specs.Acting.{IsActed, choice_among};
 ghost use Rattle.pfc_machine_acts.specs.Performing.{choices_for};
-ghost use Rattle.pfc_representation.specs.Levels.{Facts};
+ghost use Rattle.pfc_run_rules.specs.Rules.{KeepsToRules};
+ghost use Rattle.pfc_representation.specs.Levels.{Facts, program_in};
 ghost use Rattle.pfc_representation.specs.Machines.{Represents};
 ghost use Rattle.pfc_arrivals.specs.Arrivals.{IsAboutToAct, ComesToAction, ActsAsItsSource, HasAgreed, AreNumbered, IsNextKept};
 
@@ -18,11 +19,11 @@ pub fn code_comes_to_actions()
     ensures { (facts : Facts) (m : Machine) (c : Config) (p : ℕ) → Represents facts m c → IsAboutToAct facts m c p → ComesToAction facts m c p }
 {}
 
-/// Where its next action is kept, in a program whose objects have the numbers of its image, such a process may act, and does on the machine what it does in
-/// the source text.
+/// Where its next action is kept, in a program whose objects have the numbers of its image, and the run keeps to the rules, such a process may act, and does
+/// on the machine what it does in the source text.
 pub fn who_is_picked_may_act()
     ensures { (facts : Facts) (m : Machine) (c : Config) (p : ℕ) (picking : Picking)
-        → IsNextKept facts c p → AreNumbered facts → Represents facts m c → IsAboutToAct facts m c p
+        → IsNextKept facts c p → AreNumbered facts → KeepsToRules (program_in facts) c p → Represents facts m c → IsAboutToAct facts m c p
         → ActsAsItsSource facts m c p picking }
 {}
 

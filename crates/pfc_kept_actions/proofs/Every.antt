@@ -1,20 +1,17 @@
 -- Each kind of action is kept.
-use Rattle.std.proofs.Common.{◌≡◌, ℕ, ◌<◌, ◌^◌, ◌⊎◌, inl, inr, ℤ, true, List, [], ◌∷◌, ◌++◌, length, slice_get, Option, Some, All, refl, sym, ap, ◌∙◌, subst}
+use Rattle.std.proofs.Common.{◌≡◌, ℕ, ◌<◌, ◌^◌, ◌⊎◌, inl, inr, ℤ, List, [], ◌∷◌, ◌++◌, length, slice_get, Option, Some, All, refl, sym, ap, ◌∙◌, subst}
 use Rattle.pfc_code.specs.declared.instructions.Instr.{Instr}
 use Rattle.pfc_code.specs.declared.instructions.Instr.TheVariants.{RET, RETF, END}
 use Rattle.pfc_world.specs.Tables.{Table}
-use Rattle.pfc_semantics.specs.Displays.{Spot}
 use Rattle.pfc_semantics.specs.Programs.{Program}
 use Rattle.pfc_semantics.specs.Store.{Store}
 use Rattle.pfc_semantics.specs.Configurations.{Mark, plain, of_monitor, of_resource, Caller, of_nobody, of_remainder, of_value, Activation, Config, activity_of}
-use Rattle.pfc_semantics.specs.Remainders.{Context, Argument, AwaitsValue, Call, Offer, Open, Remainder, Action, Selecting, to_procedure, to_function}
+use Rattle.pfc_semantics.specs.Remainders.{Context, Argument, Call, Offer, Open, Remainder, Action, Selecting, to_procedure, to_function}
 use Rattle.pfc_semantics.specs.Remainders.{to_module, to_requeue, to_process, to_entry, to_send, to_receive, to_accept, to_wait, to_end, reads, writes, turns}
 use Rattle.pfc_semantics.specs.Remainders.{calls, finishes, prints, inputs, skips, asks_eof, asks_eoln, asks_clock, asks_empty, draws, joins, initials, waits}
 use Rattle.pfc_semantics.specs.Remainders.{signals, delays, resumes, sleeps, meets, decides, parts, scans, bars, passes, faults}
 use Rattle.pfc_semantics.specs.Selects.{choices, matched_places}
 use Rattle.pfc_translation.specs.Objects.{objects_of}
-use Rattle.pfc_translation.specs.Sites.{is_mains}
-use Rattle.pfc_standing_code.specs.Settings.{of_own}
 use Rattle.pfc_standing_code.specs.Following.{MeetsBy}
 use Rattle.pfc_stacks.specs.Refs.{word_of}
 use Rattle.pfc_stacks.specs.Stacks.{stack_of, operands_of, last_activation}
@@ -35,9 +32,8 @@ use Rattle.pfc_kept_own_actions.proofs.Arrived.{has_setting}
 use Rattle.pfc_kept_own_actions.proofs.Asking.{drawn_kept, asked_kept}
 use Rattle.pfc_kept_own_actions.proofs.Faulting.{faults_kept}
 use Rattle.pfc_kept_own_actions.proofs.Printing.{prints_kept}
-use Rattle.pfc_kept_own_actions.proofs.Reading.{reads_kept}
 use Rattle.pfc_kept_own_actions.proofs.Taking.{taken_kept}
-use Rattle.pfc_kept_own_actions.proofs.Trying.{mains_reads_kept}
+use Rattle.pfc_kept_own_actions.proofs.Trying.{reads_kept}
 use Rattle.pfc_kept_own_actions.proofs.Turning as turning
 use Rattle.pfc_kept_own_actions.proofs.Writing.{writes_kept}
 use Rattle.pfc_kept_object_actions.proofs.Coends.{time_kept}
@@ -51,7 +47,7 @@ use Rattle.pfc_kept_calls.proofs.Callable.{procedure_calls_kept, function_calls_
 use Rattle.pfc_kept_modules.specs.Endings.{AreOutside, IsInOnce}
 use Rattle.pfc_kept_modules.proofs.Ending.{procedure_left}
 use Rattle.pfc_kept_modules.proofs.Enterable.{module_entries_kept}
-use Rattle.pfc_kept_modules.proofs.Requeueable.{lasting_requeues_kept}
+use Rattle.pfc_kept_modules.proofs.Requeueable.{every_requeue_kept}
 use Rattle.pfc_kept_scans.proofs.Barring.{bars_kept}
 use Rattle.pfc_kept_scans.proofs.Passing.{passes_kept}
 use Rattle.pfc_kept_scans.proofs.Scanning as scanning
@@ -62,7 +58,7 @@ use Rattle.pfc_kept_meetings.proofs.Calling.{entry_call_kept}
 use Rattle.pfc_kept_meetings.proofs.Joining.{accept_is_kept}
 use Rattle.pfc_kept_meetings.proofs.Parts as meetings
 use Rattle.pfc_kept_meetings.proofs.Told.{has_processes, has_typed_entries}
-use Rattle.pfc_kept_selects.specs.Groups.{LeadAhead, TakesMessage, TakesEntry}
+use Rattle.pfc_kept_selects.specs.Groups.{TakesMessage, TakesEntry}
 use Rattle.pfc_kept_selects.proofs.Deciding.{unmatched_are_kept}
 use Rattle.pfc_kept_selects.proofs.Divided.{divided}
 use Rattle.pfc_kept_selects.proofs.Messages.{messages_are_kept}
@@ -135,7 +131,7 @@ module _
     numbers = sym (has_setting facts m c p level acting).number ∙ numbered facts.tree same
 
     of_call :
-        (x : Context) (call : Call) (given : List Argument) → AskedOfCall facts m c p level given call → Arrives (calls x call given)
+        (x : Context) (call : Call) (given : List Argument) → AskedOfCall facts c call → Arrives (calls x call given)
         → IsChoice choice (choices g c p (calls x call given)) → Kept (calls x call given)
     of_call x (to_procedure scope k) given told arrived picks =
         procedure_calls_kept facts m c p choice level (calls x (to_procedure scope k) given) tt acting arrived picks
@@ -144,7 +140,7 @@ module _
     of_call x (to_module n scope k) given told arrived picks =
         module_entries_kept facts m c p choice level (calls x (to_module n scope k) given) tt acting arrived picks
     of_call x (to_requeue scope) given told arrived picks =
-        lasting_requeues_kept facts m c p choice level (calls x (to_requeue scope) given) told.0 told.1 acting arrived
+        every_requeue_kept facts m c p choice level (calls x (to_requeue scope) given) tt acting arrived
     of_call x (to_process v k) given told arrived picks =
         creations_kept facts m c p choice level (calls x (to_process v k) given)
         (record { creatable = λ t of is. are_creatable t is; objects = objects }) acting arrived picks
@@ -170,19 +166,19 @@ module _
         absurd (subst (λ (y : Offer). MeetsBy level.setting b x (stack_of m.stacks p).at (operands_of m.stacks p) o y k) is by.1.1)
 
     of_decision :
-        (x : Context) (sel : Selecting) (k : Remainder) → LeadAhead (stack_of m.stacks p).at level.arms
+        (x : Context) (sel : Selecting) (k : Remainder)
         → (TakesEntry g c p sel choice → KeepsAccepts facts c × StandWithin facts c p x sel.offered)
         → Arrives (decides x sel k) → (matched_places g c p sel ≡ []) ⊎ (TakesMessage g c p sel choice ⊎ TakesEntry g c p sel choice)
         → Kept (decides x sel k)
-    of_decision x sel k ahead told arrived (inl none) = unmatched_are_kept facts m c p choice level x sel k ahead none acting arrived
-    of_decision x sel k ahead told arrived (inr (inl message)) = messages_are_kept facts m c p choice level x sel k message acting arrived
-    of_decision x sel k ahead told arrived (inr (inr takes)) =
+    of_decision x sel k told arrived (inl none) = unmatched_are_kept facts m c p choice level x sel k none acting arrived
+    of_decision x sel k told arrived (inr (inl message)) = messages_are_kept facts m c p choice level x sel k message acting arrived
+    of_decision x sel k told arrived (inr (inr takes)) =
         let (accepts, within) = told takes in
         entries_are_kept facts m c p choice level x sel k takes (has_processes facts.tree acting.alike.program)
         (has_typed_entries facts.tree acting.alike.program) accepts within acting arrived
 
     of_end :
-        (line : ℕ) → IsAsked facts m c p choice level (finishes line) → Arrives (finishes line) → IsChoice choice (choices g c p (finishes line))
+        (line : ℕ) → IsAsked facts c p choice level (finishes line) → Arrives (finishes line) → IsChoice choice (choices g c p (finishes line))
         → IsEnd level.setting.last → Kept (finishes line)
     of_end line told arrived picks (inl is) = lives.ends_kept facts m c p choice level (finishes line) is acting arrived picks
     of_end line told arrived picks (inr (inl is)) =
@@ -195,14 +191,9 @@ module _
         last_of facts acting.homes acting.entries c.store c.table p (stack_of m.stacks p).room level (word_of (last_activation m.stacks p))
         (descriptor_of m.descriptors p).communications (activity_of g c p).activations (acting.entries p) acting.actor.stands.callers
 
-    of_read : (x : Context) (v : Spot) (u : AwaitsValue) → (level.setting.trial ≡ of_own) ⊎ (is_mains level.setting.program.state.blocks v.scope ≡ true)
-        → Arrives (reads x v u) → IsChoice choice (choices g c p (reads x v u)) → Kept (reads x v u)
-    of_read x v u (inl own) arrived picks = reads_kept facts m c p choice level (reads x v u) own acting arrived picks
-    of_read x v u (inr mains) arrived picks = mains_reads_kept facts m c p choice level (reads x v u) mains acting arrived picks
-
     pub every_kept :
-        (n : Action) → IsAsked facts m c p choice level n → Arrives n → IsChoice choice (choices g c p n) → Kept n
-    every_kept (reads x v u) told arrived picks = of_read x v u told arrived picks
+        (n : Action) → IsAsked facts c p choice level n → Arrives n → IsChoice choice (choices g c p n) → Kept n
+    every_kept (reads x v u) told arrived picks = reads_kept facts m c p choice level (reads x v u) tt acting arrived picks
     every_kept (writes x v new k) told arrived picks = writes_kept facts m c p choice level (writes x v new k) tt acting arrived picks
     every_kept (turns x k) told arrived picks = turning.turns_kept facts m c p choice level (turns x k) tt acting arrived picks
     every_kept (calls x call given) told arrived picks = of_call x call given told arrived picks
@@ -225,7 +216,7 @@ module _
     every_kept (sleeps x n k) told arrived picks = time_kept facts m c p choice level (sleeps x n k) tt acting arrived picks
     every_kept (meets x o k) told arrived picks = of_meeting x o k o.offer refl told arrived picks
     every_kept (decides x sel k) told arrived picks =
-        of_decision x sel k told.0 told.1 arrived (divided g c p choice x sel k picks)
+        of_decision x sel k told arrived (divided g c p choice x sel k picks)
     every_kept (parts x caller k) told arrived picks = meetings.ends_kept facts m c p choice level (parts x caller k) tt acting arrived picks
     every_kept (scans x scan k) told arrived picks =
         scanning.turns_kept facts m c p choice level x scan k rules.barred (let so = by_rules (scans x scan k) arrived in so.1) acting arrived
@@ -234,4 +225,4 @@ module _
         (subst (λ (q : Program). IsOfItsBlock q bar) (sym same) (let so = by_rules (bars x bar k) arrived in so.1)) acting arrived picks
     every_kept (passes x whom scan k) told arrived picks =
         passes_kept facts m c p choice level x whom scan k (by_rules (passes x whom scan k) arrived) acting arrived
-    every_kept (faults x f) told arrived picks = faults_kept facts m c p choice level (faults x f) told acting arrived picks
+    every_kept (faults x f) told arrived picks = faults_kept facts m c p choice level (faults x f) tt acting arrived picks

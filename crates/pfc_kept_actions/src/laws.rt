@@ -14,7 +14,7 @@ ghost use Rattle.pfc_kept_actions.specs.Asked.{IsAsked};
 /// Wherever the code of the process that acts has arrived at an action, of which this is told, the machine does what the action does in the source text, where
 /// the run keeps to the rules and the objects of the program have the numbers of its image.
 pub fn told_actions_are_kept()
-    ensures { (facts : Facts) (m : Machine) (c : Config) (p choice : ℕ) (level : LivingLevel) (n : Action) → IsAsked facts m c p choice level n
+    ensures { (facts : Facts) (m : Machine) (c : Config) (p choice : ℕ) (level : LivingLevel) (n : Action) → IsAsked facts c p choice level n
         → IsNumbered level → KeepsToRules (program_in facts) c p → IsActing facts m c p level → HasArrived facts m c p level n
         → IsChoice choice (choices (program_in facts) c p n) → IsKept facts m c p choice n }
 {}

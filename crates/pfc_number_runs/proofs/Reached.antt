@@ -23,7 +23,7 @@ use Rattle.pfc_number_laws.proofs.Runs.{starts_small, numbers_are_small}
 
 pub comes_so : (g : Program) (first c : Config) → IsReached g first c → ComesTo g first c
 comes_so g first _ at_first = steps.at_first
-comes_so g first _ (one_further c picking p before going picks) =
+comes_so g first _ (one_further c picking p before on) =
     acts c p (choice_among (picking_behind picking c) (choices_of g c p)) (comes_so g first c before)
 
 takes_so : (n : Action) → TakesSmall n → TakesNumber n

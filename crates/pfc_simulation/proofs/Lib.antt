@@ -3,4 +3,5 @@ mod Effects
 mod Resting
 pub mod Looks
 pub mod Simulating
+pub mod Stepping
 pub mod Steps

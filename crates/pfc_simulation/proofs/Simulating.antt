@@ -29,7 +29,9 @@ use Rattle.pfc_representation.specs.Machines.{Represents, Reports, Agrees, goes_
 use Rattle.pfc_representation.specs.Actions.{ComeToSame}
 use Rattle.pfc_settling_laws.proofs.Reported.{agreeing_reports, still_represented}
 use Rattle.pfc_settling_laws.proofs.Settled.{agrees_settled}
-use Rattle.pfc_arrivals.specs.Arrivals.{IsAboutToAct, ActsAsItsSource, AreNumbered}
+use Rattle.pfc_arrivals.specs.Arrivals.{IsAboutToAct, AreNumbered, IsNextKept}
+use Rattle.pfc_run_rules.specs.Rules.{KeepsToRules}
+use Rattle.pfc_representation.specs.Acting.{TakesNumber}
 use Rattle.pfc_arrivals.proofs.Picked.{acts_alike}
 use Rattle.pfc_sessions.specs.Courses.{IsCourse}
 use Rattle.pfc_sessions.specs.Runs.{IsPicked, step_of, run_from}
@@ -40,7 +42,9 @@ use Rattle.pfc_run_agreement.specs.Courses.{IsSourceCourse}
 use Rattle.pfc_run_agreement.proofs.Agreeing.{same_ending, settled_output, settled_fault, same_runs}
 use Rattle.pfc_run_agreement.proofs.Coursing.{same_course}
 use Rattle.pfc_run_agreement.proofs.Keeping.{kept_agrees}
-use Rattle.pfc_simulation.specs.Reached.{IsReached, at_first, one_further, RunKeepsToRules, IsRunKept}
+use Rattle.pfc_simulation.specs.Reached.{GoesOn, IsReached, at_first, one_further, RunKeepsToRules, IsRunKept}
+use Rattle.pfc_simulation.proofs.Stepping.{StepsAgree, still_sound}
+use Rattle.pfc_simulation.proofs.Stepping as step
 use Rattle.pfc_simulation.proofs.Communications.{Keeps}
 use Rattle.pfc_simulation.proofs.Effects.{effect_keeps}
 use Rattle.pfc_simulation.proofs.Resting.{Rests, effect_rests}
@@ -72,47 +76,6 @@ module _ (facts : Facts) (first : Config) (m : Machine) (c : Config) (so : Relat
         settled = look_alike facts (machine_settled m) (settled_config c) reports_then;
       }
 
--- ## What an action comes to
-
--- the step of the machine beside the configuration behind the action
-record Comes (facts : Facts) (c behind : Config) (picking : Picking) (n : ℕ) (t : Step) : Type 0 where
-  agrees : Agrees facts t.machine behind
-  fault : t.fault ≡ fault_of behind.fault
-  printed : behind.output ≡ c.output ++ t.printed
-  picks : t.fault ≡ None → t.picking ≡ after_choosing picking n
-  rests : behind.table.acting ≡ None
-
-told_same : (p line : ℕ) (f g : RunFault) → f ≡ g
-    → ◌≡◌ {A = Option FaultAt} (Some (record { process = p; line = line; fault = f })) (Some (record { process = p; line = line; fault = g }))
-told_same p line f g same = ap (λ (x : RunFault). (let told : FaultAt = record { process = p; line = line; fault = x } in Some told)) same
-
-none_told : (x : FaultAt) → ◌≡◌ {A = Option FaultAt} (Some x) None → ⊥
-none_told x h = cc
-
-comes : (facts : Facts) (before : Machine) (c : Config) (p line n : ℕ) (picking : Picking) (x : PrintedEffect) (y : Effect) → c.fault ≡ None
-    → c.table.acting ≡ None → ComeToSame facts before c p line x y → Keeps c.fault y → Rests y
-    → Comes facts c (after (program_in facts) c p line y) picking n (counted x line p n picking before)
-comes facts before c p line n picking (Ok x) (Ok d) sound alone same keeps rests = record {
-  agrees = same.0;
-  fault = ap fault_of (sym (keeps ∙ sound));
-  printed = same.1;
-  picks = λ none. refl;
-  rests = rests;
-}
-comes facts before c p line n picking (Err f) (Err g) sound alone same keeps rests = record {
-  agrees = same.1;
-  fault = told_same p line f g same.0;
-  printed = sym (append-nil c.output);
-  picks = λ none. absurd (none_told (record { process = p; line = line; fault = f }) none);
-  rests = alone;
-}
-comes facts before c p line n picking (Ok x) (Err g) sound alone same keeps rests = absurd same
-comes facts before c p line n picking (Err f) (Ok d) sound alone same keeps rests = absurd same
-
-still_sound : (o : Option source.FaultAt) → fault_of o ≡ None → o ≡ None
-still_sound None is = refl
-still_sound (Some f) is = absurd (none_told (record { process = f.process; line = f.line; fault = f.fault }) is)
-
 first_of : (a b : Bool) → (a || b) ≡ false → a ≡ false
 first_of false b h = refl
 first_of true b h = h
@@ -127,125 +90,68 @@ module _
     (numbers : RunKeepsToRules (program_in facts) first) (picking : Picking) (m : Machine)
     (c : Config) (p : ℕ) (so : Relates facts first m c) (pick : IsPicked picking (machine_settled m) p)
   where
-    abbrev pub image : PlainImage
-    image = image_of facts.tree
-
-    abbrev pub g : Program
+    abbrev g : Program
     g = program_in facts
 
-    abbrev pub s : Machine
+    abbrev s : Machine
     s = machine_settled m
 
-    abbrev pub d : Config
+    abbrev d : Config
     d = settled_config c
-
-    abbrev behind : Picking
-    behind = after_pick picking s.world.rows
-
-    abbrev pub next : Action
-    next = next_of g d p
 
     reports : Reports facts s d
     reports = reports_then facts first m c so
 
-    pub rows : s.world.rows ≡ d.table.rows
+    rows : s.world.rows ≡ d.table.rows
     rows = ap (λ (w : Table). w.rows) reports.world
 
-    pub sound : d.fault ≡ None
-    sound = settled_fault c ∙ so.sound
-
     pub goes : runs.ending_at d ≡ None
-    goes = same_ending s d sound rows ∙ pick.goes
-
-    pub represents : Represents facts s d
-    represents = still_represented facts s d (agrees_then facts first m c so) goes
+    goes = same_ending s d (settled_fault c ∙ so.sound) rows ∙ pick.goes
 
     pub picks : picked picking d.table.rows ≡ Process p
     picks = ap (λ (xs : List Stand). picked picking xs) (sym rows) ∙ pick.picks
 
+    pub on : GoesOn c picking p
+    on = record {
+      goes = goes;
+      picks = picks;
+      few = subst (λ (n : ℕ). n < 10 ^ 18) (ap (λ (w : Table). w.done) reports.world)
+          (few_of s.world.done (first_of (nat_le (10 ^ 18) s.world.done) (nat_le (10 ^ 18) s.world.moment) pick.counts));
+    }
+
+    pub represents : Represents facts s d
+    represents = step.represents facts picking m c p so.agrees on
+
+    told : TakesNumber (next_of g d p) × KeepsToRules g d p
+    told = numbers c picking p so.reached on
+
+    pub rules : KeepsToRules g d p
+    rules = let so_told = told in so_told.1
+
     pub about : IsAboutToAct facts s d p
-    about =
-        let (within, ready) = picks_ready picking s.world.rows p pick.picks in
-        let there : at d.table.rows p ≡ Is_ready = ap (λ (xs : List Stand). at xs p) (sym rows) ∙ ready_is (at s.world.rows p) ready in
-        record {
-          process = subst (λ (n : ℕ). p < n) (ap (λ (xs : List Stand). length xs) rows ∙ reports.words.rows) within;
-          ready = there;
-          few = subst (λ (n : ℕ). n < 10 ^ 18) (ap (λ (w : Table). w.done) reports.world)
-              (few_of s.world.done (first_of (nat_le (10 ^ 18) s.world.done) (nat_le (10 ^ 18) s.world.moment) pick.counts));
-          number = (let of_action = numbers c p so.reached there in of_action.0);
-          rules = (let of_action = numbers c p so.reached there in of_action.1);
-        }
+    about = step.about facts picking m c p so.agrees on (let so_told = told in so_told.0)
 
-    acts : ActsAsItsSource facts s d p behind
-    acts = acts_alike facts s d p behind (kept c p so.reached about.ready) numbered represents about
+    pub next_kept : IsNextKept facts d p
+    next_kept = kept c picking p so.reached on
 
-    -- as the machine acts
-    module _ (does : ActsAsItsSource facts s d p behind) where
-      abbrev before : Machine
-      before = does.may.before
+    steps : StepsAgree facts picking m c p
+    steps = step.steps_agree facts picking m c p so.agrees on numbered (let so_told = told in so_told.0) rules next_kept
 
-      abbrev many : ℕ
-      many = choices_for does.may.instr p before
-
-      abbrev choice : ℕ
-      choice = choice_among behind many
-
-      abbrev done : PrintedEffect
-      done = comes_to (quietly image does.may.instr p before) (acts_by image does.may.instr choice p before)
-
-      abbrev t : Step
-      t = step_of image picking m p
-
-      step_same : t ≡ counted done (line_of next) p many behind before
-      step_same =
-          step_is image p behind s does.may.count before does.may.instr does.may.next
-          ∙ ap (λ (line : ℕ). counted done line p many behind before) does.line
-
-      choice_same : choice ≡ runs.choice_among (picking_behind picking c) (choices_of g c p)
-      choice_same =
-          same_choice behind many ∙ ap (λ (n : ℕ). runs.choice_among behind n) does.choices_same
-          ∙ ap (λ (xs : List Stand). runs.choice_among (after_pick picking xs) (choices_of g c p)) rows
-
-      comes_so : Comes facts d (behind_action g picking c p) behind many t
-      comes_so =
-          let alone : d.table.acting ≡ None = represents.alike.between.acting in
-          let by_choice =
-          comes facts before d p (line_of next) many behind done (effect g d p choice next) sound alone does.same (effect_keeps g d p choice next)
-          (effect_rests g d p alone choice next) in
-          subst (λ (x : Step). Comes facts d (behind_action g picking c p) behind many x) (sym step_same)
-          (subst (λ (n : ℕ). Comes facts d (source_step g d p n).config behind many (counted done (line_of next) p many behind before)) choice_same by_choice)
-
-      alike : Comes facts d (behind_action g picking c p) behind many t → AreStepsAlike g picking c p t
-      alike is = record {
-        fault = is.fault;
-        printed = is.printed ∙ ap (λ (xs : List ℕ). xs ++ t.printed) (settled_output c);
-        picks = λ none.
-            is.picks none ∙ same_choosing behind many ∙ ap (λ (n : ℕ). runs.behind_choice behind n) does.choices_same
-            ∙ ap (λ (xs : List Stand). runs.behind_choice (after_pick picking xs) (choices_of g c p)) rows;
-        faulted = λ f told.
-            look_alike facts (machine_settled t.machine) (settled_config (behind_action g picking c p))
-            (agreeing_reports facts (machine_settled t.machine) (settled_config (behind_action g picking c p))
-            (agrees_settled facts t.machine (behind_action g picking c p) is.agrees));
-      }
-
-      acts_so : Comes facts d (behind_action g picking c p) behind many t → ActsAlike image g picking m c p (Relates facts first)
-      acts_so is = record {
-        may = does.may;
-        alike = alike is;
-        kept = λ none. record {
-          agrees = is.agrees;
-          reached = one_further c picking p so.reached goes picks;
-          sound = still_sound (behind_action g picking c p).fault (sym is.fault ∙ none);
-          alone = is.rests;
-        };
-      }
-
-    pub acts_alike_so : ActsAlike image g picking m c p (Relates facts first)
-    acts_alike_so = acts_so acts (comes_so acts)
+    pub acts_alike_so : ActsAlike (image_of facts.tree) g picking m c p (Relates facts first)
+    acts_alike_so = record {
+      may = steps.may;
+      alike = steps.alike;
+      kept = λ none. record {
+        agrees = steps.agrees;
+        reached = one_further c picking p so.reached on;
+        sound = still_sound (behind_action g picking c p).fault (sym steps.fault ∙ none);
+        alone = steps.rests;
+      };
+    }
 
     -- also where the action is a fault
-    pub agrees_behind : Agrees facts (step_of image picking m p).machine (behind_action g picking c p)
-    agrees_behind = let is = comes_so acts in is.agrees
+    pub agrees_behind : Agrees facts (step_of (image_of facts.tree) picking m p).machine (behind_action g picking c p)
+    agrees_behind = steps.agrees
 
 -- ## Any number of actions
 

@@ -4,7 +4,7 @@
     bench/machine-runs.py CASES [GROUP ..] [--first N] [--every N] [--show N] [--seconds N]
 
 CASES is a folder of files GROUP.jsonl, as of bench/meaning.py; --code is left out of the words, and a case that holds `walk --trace` is compared
-with that, too. No program runs this machine yet: bench/machine_driver.txt is tried by `rt try`, without a proof, in a copy of the repository, so
+with that, too. It tells each action, which no program does: bench/machine_driver.txt is tried by `rt try`, without a proof, in a copy of the repository, so
 many seconds long. --show N prints each action of the N-th case that is taken, from 0, and what it writes. It needs rt.
 """
 import os, re, shutil, subprocess, sys, tempfile

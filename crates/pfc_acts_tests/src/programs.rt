@@ -1,7 +1,8 @@
 //! Programs with their actions.
 ghost use Rattle.std.specs.Prelude.{◌≡◌, IfOk};
 ghost use Rattle.pfc_code.specs.Images.{plain_image};
-ghost use Rattle.pfc_acts_tests.specs.Programs.{block_by, process_by, sum_image, reference_image, semaphore_image, message_image, rendezvous_image, monitor_image, select_image, resource_image, fault_image};
+ghost use Rattle.pfc_acts_tests.specs.Programs.{block_by, process_by, sum_image, reference_image, semaphore_image, message_image, rendezvous_image};
+ghost use Rattle.pfc_acts_tests.specs.Programs.{monitor_image, select_image, resource_image, fault_image};
 
 use super::runs::run_of;
 use pfc_base::{Memory, Name, Text};

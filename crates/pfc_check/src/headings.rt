@@ -3,7 +3,8 @@ ghost use Rattle.std.specs.Prelude.{◌≡◌, map, OnOk, IfOk};
 ghost use Rattle.pfc_tree.specs.views.Types.{group_view};
 ghost use Rattle.pfc_types.specs.Views.{levels};
 ghost use Rattle.pfc_types.specs.Blocks.{note};
-ghost use Rattle.pfc_types.specs.rules.Declarations.{passed_fits, parameter_fits, parameter_rules, parameter_type, group_type, broken_group, formal_heading, formals_heading, group_viewed, group_heading, heading, accept_heading};
+ghost use Rattle.pfc_types.specs.rules.Declarations.{passed_fits, parameter_fits, parameter_rules, parameter_type, group_type, broken_group, formal_heading};
+ghost use Rattle.pfc_types.specs.rules.Declarations.{formals_heading, group_viewed, group_heading, heading, accept_heading};
 ghost use Rattle.pfc_check.specs.States.{state_of, around, heading_of};
 
 use crate::state::{Block, State};

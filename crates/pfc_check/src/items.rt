@@ -2,7 +2,8 @@
 ghost use Rattle.std.specs.Prelude.{◌≡◌, ◌≤◌, map, option_map, OnOk, IfOk};
 ghost use Rattle.pfc_tree.specs.views.Types.{type_item_view, var_view, vars_view};
 ghost use Rattle.pfc_types.specs.Blocks.{note};
-ghost use Rattle.pfc_types.specs.rules.Declarations.{constant_meaning, const_state, consts_state, type_state, types_state, shared_fits, condition_fits, owner_rules, owned_type, populated, brought, var_name_state, var_names_state, var_state, vars_state};
+ghost use Rattle.pfc_types.specs.rules.Declarations.{constant_meaning, const_state, consts_state, type_state, types_state, shared_fits, condition_fits};
+ghost use Rattle.pfc_types.specs.rules.Declarations.{owner_rules, owned_type, populated, brought, var_name_state, var_names_state, var_state, vars_state};
 ghost use Rattle.pfc_phrases.specs.Views.{ordinal_view};
 ghost use Rattle.pfc_check.specs.States.{state_of, around, owner_of};
 

@@ -6,7 +6,8 @@ ghost use Rattle.pfc_tree.specs.views.Stmts.{stmt_view, stmts_view, body_view, a
 ghost use Rattle.pfc_types.specs.Views.{levels};
 ghost use Rattle.pfc_types.specs.Blocks.{note};
 ghost use Rattle.pfc_types.specs.rules.Constants.{same_ordinal, constant_value, constant_place};
-ghost use Rattle.pfc_types.specs.rules.Declarations.{same_formal, same_formals, accept_rule, accepted, label_noted, labels_noted, stmt_state, stmts_state, body_state, arms_state, arm_state, accept_state, alts_state, alt_state};
+ghost use Rattle.pfc_types.specs.rules.Declarations.{same_formal, same_formals, accept_rule, accepted, label_noted, labels_noted, stmt_state, stmts_state};
+ghost use Rattle.pfc_types.specs.rules.Declarations.{body_state, arms_state, arm_state, accept_state, alts_state, alt_state};
 ghost use Rattle.pfc_phrases.specs.Found.{refused};
 ghost use Rattle.pfc_phrases.specs.Views.{ordinal_view};
 ghost use Rattle.pfc_check.specs.States.{state_of, seen_in, labels_of};

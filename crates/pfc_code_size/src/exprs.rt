@@ -2,7 +2,8 @@
 //!
 //! Each function is given how many instructions were counted before, and gives how many there are with its phrase.
 ghost use Rattle.std.specs.Prelude.{◌≡◌, ◌+◌, ◌<◌, if◌then◌else◌, IfOk, OnErr};
-ghost use Rattle.pfc_tree.specs.views.Exprs.{expr_view, simple_view, term_view, factor_view, desig_view, summands_view, multipliers_view, selectors_view, exprs_view, actual_view, actuals_view};
+ghost use Rattle.pfc_tree.specs.views.Exprs.{expr_view, simple_view, term_view, factor_view, desig_view, summands_view, multipliers_view, selectors_view};
+ghost use Rattle.pfc_tree.specs.views.Exprs.{exprs_view, actual_view, actuals_view};
 ghost use Rattle.pfc_phrases.specs.Views.{env_view};
 ghost use Rattle.pfc_facts.specs.Views.{function_view};
 ghost use Rattle.pfc_types.specs.Scopes as scopes;

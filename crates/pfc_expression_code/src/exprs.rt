@@ -1,6 +1,7 @@
 //! The code of expressions, of variables and of arguments: each phrase is put behind all that is there.
 ghost use Rattle.std.specs.Prelude.{◌≡◌, ◌++◌, ◌<◌, length, if◌then◌else◌, true, OnOk, IfOk, IfErr};
-ghost use Rattle.pfc_tree.specs.views.Exprs.{expr_view, simple_view, term_view, factor_view, desig_view, summands_view, multipliers_view, selectors_view, exprs_view, actual_view, actuals_view};
+ghost use Rattle.pfc_tree.specs.views.Exprs.{expr_view, simple_view, term_view, factor_view, desig_view, summands_view, multipliers_view, selectors_view};
+ghost use Rattle.pfc_tree.specs.views.Exprs.{exprs_view, actual_view, actuals_view};
 ghost use Rattle.pfc_tree.specs.trees.Exprs.{sum, product};
 ghost use Rattle.pfc_types.specs.rules.Expressions as rules;
 ghost use Rattle.pfc_emit.specs.declared.emitter.EmitFault.TheVariants.{Full};

@@ -6,7 +6,9 @@ ghost use Rattle.pfc_tree.specs.trees.Exprs as trees;
 ghost use Rattle.pfc_tree.specs.views.Exprs.{actuals_of, expr_view, simple_view, term_view, factor_view, desig_view, selector_view, actual_view, actuals_view};
 ghost use Rattle.pfc_grammar.specs.Heads.{as_sign, as_add_op, as_mul_op, as_selector, begins_factor, begins_expr};
 ghost use Rattle.pfc_grammar.specs.placed.Reading.{Reader, bind, pure, take_as, list_of, many, many_onto};
-ghost use Rattle.pfc_grammar.specs.placed.Exprs.{selector_behind, desig_behind, desig_with, actual_with, actuals_with, paren_behind, applied_behind, plain_factor, multiplier_behind, term_with, summand_behind, simple_behind, simple_with, expr_with, factor_at, expr_at};
+ghost use Rattle.pfc_grammar.specs.placed.Exprs.{selector_behind, desig_behind, desig_with, actual_with, actuals_with, paren_behind, applied_behind};
+ghost use Rattle.pfc_grammar.specs.placed.Exprs.{plain_factor, multiplier_behind, term_with, summand_behind, simple_behind, simple_with, expr_with, factor_at};
+ghost use Rattle.pfc_grammar.specs.placed.Exprs.{expr_at};
 ghost use Rattle.pfc_token_parser.specs.Giving.{Halts, Gives, sees};
 
 use pfc_base::{Name, Place, Text, Token, sign, word};

@@ -3,7 +3,8 @@ ghost use Rattle.std.specs.Prelude.{◌≡◌, ◌≤◌, ◌<◌, ℕ, pos, ◌
 ghost use Rattle.std.specs.Fmt.{signed_decimal};
 ghost use Rattle.pfc_types.specs.Types.{extent};
 ghost use Rattle.pfc_types.specs.declared.scope.Meaning.{Meaning};
-ghost use Rattle.pfc_translation.specs.Objects.{all_labelled, elements_labelled, fields_labelled, labelled_before, name_labelled, names_labelled, with_index as indexed};
+ghost use Rattle.pfc_translation.specs.Objects.{all_labelled, elements_labelled, fields_labelled, labelled_before, name_labelled, names_labelled};
+ghost use Rattle.pfc_translation.specs.Objects.{with_index as indexed};
 ghost use Rattle.pfc_labels.specs.Processes.{infos, processes_in};
 
 use crate::naming::{field_name, variable_name};

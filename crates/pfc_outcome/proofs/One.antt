@@ -1,5 +1,5 @@
 -- There is one outcome.
-use Rattle.std.proofs.Common.{◌≡◌, ℕ, zero, suc, ◌+◌, ◌<◌, ◌≤◌, ◌⊎◌, inl, inr, List, [], ◌∷◌, All, drop, slice_index, true, false, Option, Some, None, sym, ap}
+use Rattle.std.proofs.Common.{◌≡◌, ℕ, zero, suc, ◌+◌, ◌<◌, ◌≤◌, ◌⊎◌, inl, inr, List, [], ◌∷◌, All, drop, slice_index, Option, Some, None, sym, ap}
 use Rattle.std.proofs.Common.{ap₂, ◌∙◌, subst, arith, take-append-drop}
 use Rattle.pfc_base.specs.declared.places.Place.{Place}
 use Rattle.pfc_base.specs.declared.tokens.Token.{Token}
@@ -20,7 +20,7 @@ use Rattle.pfc_outcome.specs.Loading.{Lack, first_lack, long, missing}
 use Rattle.pfc_outcome.specs.Meanings.{Meaning}
 use Rattle.pfc_outcome.specs.Options.{Asked, options_of}
 use Rattle.pfc_outcome.specs.Outcomes.{Outcome, IsOutcome, IsOutcomeBy, IsOutcomeOf, IsOutcomeOfCutting, IsOutcomeOfFiles, IsOutcomeOfText, IsOutcomeOfTokens}
-use Rattle.pfc_outcome.specs.Outcomes.{IsOutcomeOfTree, IsUnlisted, behind, large, listing_written, names_by, no_fault, not_built, refused, run, static_fault}
+use Rattle.pfc_outcome.specs.Outcomes.{IsOutcomeOfTree, IsUnlisted, behind, large, listing_written, names_by, no_fault, refused, run, static_fault}
 use Rattle.pfc_outcome.specs.Outcomes.{syntax_fault, syntax_refusal}
 use Rattle.pfc_outcome.specs.Requests.{Request}
 
@@ -52,21 +52,14 @@ module _ (m : Meaning) (request : Request) where
   tree_outcome : (tree : ProgramTree) (a b : Outcome) → IsOutcomeOfTree m tree request a → IsOutcomeOfTree m tree request b → a ≡ b
   tree_outcome tree a b (static_fault f broken x) (static_fault g broken' y) =
       let same : Some f ≡ Some g = sym broken ∙ broken' in let one : f ≡ g = cc in x ∙ ap refused one ∙ sym y
-  tree_outcome tree a b (static_fault f broken x) (not_built whole lacks y) = absurd (let h : Some f ≡ None = sym broken ∙ whole in cc)
-  tree_outcome tree a b (static_fault f broken x) (large whole built many y) = absurd (let h : Some f ≡ None = sym broken ∙ whole in cc)
-  tree_outcome tree a b (static_fault f broken x) (run whole built few y) = absurd (let h : Some f ≡ None = sym broken ∙ whole in cc)
-  tree_outcome tree a b (not_built whole lacks x) (static_fault g broken y) = absurd (let h : Some g ≡ None = sym broken ∙ whole in cc)
-  tree_outcome tree a b (not_built whole lacks x) (not_built _ _ y) = x ∙ sym y
-  tree_outcome tree a b (not_built whole lacks x) (large _ built many y) = absurd (let h : true ≡ false = sym lacks ∙ built in cc)
-  tree_outcome tree a b (not_built whole lacks x) (run _ built few y) = absurd (let h : true ≡ false = sym lacks ∙ built in cc)
-  tree_outcome tree a b (large whole built many x) (static_fault g broken y) = absurd (let h : Some g ≡ None = sym broken ∙ whole in cc)
-  tree_outcome tree a b (large whole built many x) (not_built _ lacks y) = absurd (let h : true ≡ false = sym lacks ∙ built in cc)
-  tree_outcome tree a b (large whole built many x) (large _ _ _ y) = x ∙ sym y
-  tree_outcome tree a b (large whole built many x) (run _ _ few y) = absurd (omega (arith, many, few))
-  tree_outcome tree a b (run whole built few x) (static_fault g broken y) = absurd (let h : Some g ≡ None = sym broken ∙ whole in cc)
-  tree_outcome tree a b (run whole built few x) (not_built _ lacks y) = absurd (let h : true ≡ false = sym lacks ∙ built in cc)
-  tree_outcome tree a b (run whole built few x) (large _ _ many y) = absurd (omega (arith, many, few))
-  tree_outcome tree a b (run whole built few x) (run _ _ _ y) = x ∙ sym y
+  tree_outcome tree a b (static_fault f broken x) (large whole many y) = absurd (let h : Some f ≡ None = sym broken ∙ whole in cc)
+  tree_outcome tree a b (static_fault f broken x) (run whole few y) = absurd (let h : Some f ≡ None = sym broken ∙ whole in cc)
+  tree_outcome tree a b (large whole many x) (static_fault g broken y) = absurd (let h : Some g ≡ None = sym broken ∙ whole in cc)
+  tree_outcome tree a b (large whole many x) (large _ _ y) = x ∙ sym y
+  tree_outcome tree a b (large whole many x) (run _ few y) = absurd (omega (arith, many, few))
+  tree_outcome tree a b (run whole few x) (static_fault g broken y) = absurd (let h : Some g ≡ None = sym broken ∙ whole in cc)
+  tree_outcome tree a b (run whole few x) (large _ many y) = absurd (omega (arith, many, few))
+  tree_outcome tree a b (run whole few x) (run _ _ y) = x ∙ sym y
 
   refusal_is : (ts : List Token) (end : Place) (c d i j : ℕ) → c ≡ d → i ≡ j → refused (syntax_refusal ts end c i) ≡ refused (syntax_refusal ts end d j)
   refusal_is ts end c d i j codes places = ap₂ (λ (x y : ℕ). refused (syntax_refusal ts end x y)) codes places

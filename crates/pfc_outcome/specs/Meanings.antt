@@ -1,5 +1,5 @@
 -- What programs mean, as far as an outcome speaks of it. How a run is made is not said here: it is a part of the meaning that is handed in.
-use Rattle.std.specs.Prelude.{ℕ, List, Bool}
+use Rattle.std.specs.Prelude.{ℕ, List}
 use Rattle.pfc_code.specs.Images.{PlainImage}
 use Rattle.pfc_state.specs.declared.endings.Ending.{Ending}
 use Rattle.pfc_state.specs.declared.standings.Standing.{Standing}
@@ -14,8 +14,6 @@ pub record Run : Type 0 where
 
 -- the meaning of the programs that break no rule
 pub record Meaning : Type 0 where
-  -- the program holds what is not built yet
-  pub is_unbuilt : ProgramTree → Bool
-  -- its image: the code text shows it, and its instructions are counted
+  -- the image of a program: the code text shows it, and its instructions are counted
   pub image : ProgramTree → PlainImage
   pub run : ProgramTree → Settings → Run

@@ -1,5 +1,5 @@
 -- The outcome of the words and the files, case by case: a status, and the bytes that are written.
-use Rattle.std.specs.Prelude.{◌≡◌, ℕ, ◌<◌, ◌≤◌, true, false, List, [], ◌++◌, All, if◌then◌else◌, length, map, get_or, codes, Option, Some, None, Result, Ok}
+use Rattle.std.specs.Prelude.{◌≡◌, ℕ, ◌<◌, ◌≤◌, false, List, [], ◌++◌, All, if◌then◌else◌, length, map, get_or, Option, Some, None, Result, Ok}
 use Rattle.std.specs.Prelude.{Err, unwrap_or}
 use Rattle.pfc_base.specs.declared.places.Place.{Place}
 use Rattle.pfc_base.specs.declared.faults.Refusal.{Refusal}
@@ -89,10 +89,6 @@ code_written m t request = if request.code then code_text (m.image t) else []
 abbrev pub refused : Refusal → Outcome
 refused r = without_run 1 (refusal_line_text r)
 
--- a program that is in order and is not built yet
-abbrev pub not_built_yet : Outcome
-not_built_yet = without_run 1 (codes "-- refused 200 at line 1, column 1: not built yet\n")
-
 -- the most instructions of a program
 abbrev pub most_instructions : ℕ
 most_instructions = 200000
@@ -104,14 +100,12 @@ instruction_count m t = length (m.image t).code
 abbrev pub too_large : Refusal
 too_large = record { code = 501; place = record { line = 1; column = 1 } }
 
--- A tree is refused with the first static rule that is broken in it, if there is one. Else it is refused where it holds what is not built
--- yet, and where its program is too large. Any other is run, behind its code text where that is asked for.
+-- A tree is refused with the first static rule that is broken in it, if there is one. Else it is refused where its program is too large.
+-- Any other is run, behind its code text where that is asked for.
 pub data IsOutcomeOfTree (m : Meaning) (tree : ProgramTree) (request : Request) (outcome : Outcome) : Type 0 where
   static_fault : (fault : Refusal) → first_fault tree ≡ Some fault → outcome ≡ refused fault → IsOutcomeOfTree m tree request outcome
-  not_built : first_fault tree ≡ None → m.is_unbuilt tree ≡ true → outcome ≡ not_built_yet → IsOutcomeOfTree m tree request outcome
-  large : first_fault tree ≡ None → m.is_unbuilt tree ≡ false → most_instructions < instruction_count m tree → outcome ≡ refused too_large
-      → IsOutcomeOfTree m tree request outcome
-  run : first_fault tree ≡ None → m.is_unbuilt tree ≡ false → instruction_count m tree ≤ most_instructions
+  large : first_fault tree ≡ None → most_instructions < instruction_count m tree → outcome ≡ refused too_large → IsOutcomeOfTree m tree request outcome
+  run : first_fault tree ≡ None → instruction_count m tree ≤ most_instructions
       → outcome ≡ behind (code_written m tree request) (run_under m tree request (policy_of request)) → IsOutcomeOfTree m tree request outcome
 
 -- ## A text

@@ -1,7 +1,8 @@
 //! The options of the command line.
 ghost use Rattle.std.specs.Prelude.{◌≡◌, ◌≢◌, ◌≤◌, IfOk, IfSome, option_map, codes, false, None};
 ghost use Rattle.clap.specs.Words.{app_of, first_of, found_of, kind_of, rows_of, rule_of, with_rule};
-ghost use Rattle.pfc_outcome.specs.Options.{asked_by, file_rule, flag, is_set, most_actions, most_made, number_at, number_of, options_of, pfc_command, source_of, with_number, with_word};
+ghost use Rattle.pfc_outcome.specs.Options.{asked_by, file_rule, flag, is_set, most_actions, most_made, number_at, number_of, options_of, pfc_command};
+ghost use Rattle.pfc_outcome.specs.Options.{source_of, with_number, with_word};
 ghost use Rattle.pfc_outcome.specs.Asked.{asked_of, plain_source, texts_of};
 
 use clap::builder::ValueParser;

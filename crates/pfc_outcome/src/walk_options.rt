@@ -3,7 +3,8 @@ ghost use Rattle.std.specs.Prelude.{◌≡◌, ◌≤◌, IfOk, IfSome, option_m
 ghost use Rattle.clap.specs.Words.{app_of, found_of, rows_of, rule_of};
 ghost use Rattle.pfc_outcome.specs.Options.{most_actions};
 ghost use Rattle.pfc_outcome.specs.Asked.{walk_asked_of, texts_of};
-ghost use Rattle.pfc_outcome.specs.WalkOptions.{limit_for, most_watched, needed_file_rule, shown_by, shown_of, shown_with, walk_asked_by, walk_command, walk_options_of};
+ghost use Rattle.pfc_outcome.specs.WalkOptions.{limit_for, most_watched, needed_file_rule, shown_by, shown_of, shown_with, walk_asked_by, walk_command};
+ghost use Rattle.pfc_outcome.specs.WalkOptions.{walk_options_of};
 
 use crate::options::{
     MOST_ACTIONS, Options, Source, USUAL_LIMIT, USUAL_SEED, file, flag, is_set, number, number_in,

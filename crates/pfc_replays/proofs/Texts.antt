@@ -19,7 +19,7 @@ use Rattle.pfc_traces.proofs.Reading.{reads_back}
 use Rattle.pfc_traces.proofs.Replaying.{replays}
 use Rattle.pfc_outcome.specs.Meanings.{Meaning, Run}
 use Rattle.pfc_outcome.specs.Outcomes.{Outcome, Ran, IsOutcomeOfCutting, IsOutcomeOfText, IsOutcomeOfTokens, IsOutcomeOfTree, behind, code_written, no_fault}
-use Rattle.pfc_outcome.specs.Outcomes.{not_built, not_built_yet, ran_with, refused, report_of, run, run_under, static_fault, status_of, stopped_at}
+use Rattle.pfc_outcome.specs.Outcomes.{ran_with, refused, report_of, run, run_under, static_fault, status_of, stopped_at}
 use Rattle.pfc_outcome.specs.Outcomes.{syntax_fault, syntax_refusal, too_large, large}
 use Rattle.pfc_outcome.specs.Requests.{Request, Settings, policy_of, script_policy, settings_of}
 use Rattle.pfc_replays.specs.Laws.{ReplaysText}
@@ -112,10 +112,9 @@ module _ (m : Meaning) (of : IsOfSource m) (request : Request) where
       (tree : ProgramTree) (outcome : Outcome) (ran : Ran) → IsOutcomeOfTree m tree request outcome → outcome.ran ≡ Some ran → IsReplayed ran
       → IsOutcomeOfTree m tree (with_script request (script_of ran)) (replayed outcome ran)
   tree_again tree outcome ran (static_fault fault broken is) ran_so again = absurd (not_ran outcome (refused fault) ran is refl ran_so)
-  tree_again tree outcome ran (not_built whole lacks is) ran_so again = absurd (not_ran outcome not_built_yet ran is refl ran_so)
-  tree_again tree outcome ran (large whole built many is) ran_so again = absurd (not_ran outcome (refused too_large) ran is refl ran_so)
-  tree_again tree outcome ran (run whole built few is) ran_so again =
-      run whole built few (under_again tree (code_written m tree request) (policy_of request) outcome ran is ran_so again)
+  tree_again tree outcome ran (large whole many is) ran_so again = absurd (not_ran outcome (refused too_large) ran is refl ran_so)
+  tree_again tree outcome ran (run whole few is) ran_so again =
+      run whole few (under_again tree (code_written m tree request) (policy_of request) outcome ran is ran_so again)
 
   -- ## A text
 

@@ -2,7 +2,8 @@
 ghost use Rattle.std.specs.Prelude.{◌≡◌, ◌<◌, ◌++◌, IfOk, OnOk, MatchOption, None, Some, length};
 ghost use Rattle.pfc_base.specs.Faults.{number_of};
 ghost use Rattle.pfc_code.specs.Images.{plain_image};
-ghost use Rattle.pfc_report.specs.Reports.{HasReport, NameProcesses, NamesProcess, at_line, ending_text, process_text, report_text, script_line, script_standings, standing_line, standings_text, why_text, words_of, words_of_wait};
+ghost use Rattle.pfc_report.specs.Reports.{HasReport, NameProcesses, NamesProcess, at_line, ending_text, process_text, report_text, script_line};
+ghost use Rattle.pfc_report.specs.Reports.{script_standings, standing_line, standings_text, why_text, words_of, words_of_wait};
 
 use pfc_base::Memory;
 use pfc_code::{Image, Page};

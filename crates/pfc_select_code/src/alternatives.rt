@@ -9,7 +9,8 @@ ghost use Rattle.pfc_translation.specs.Selects.{guarded_code};
 ghost use Rattle.pfc_emit.specs.declared.emitter.EmitFault.TheVariants.{Full, Memory as NoMemory};
 ghost use Rattle.pfc_addresses.specs.Sites.{site_view};
 ghost use Rattle.pfc_expression_code.specs.Putting.{IsMade, IsTooLarge};
-ghost use Rattle.pfc_select_code.specs.Alternatives.{alt_places, arm_place, arm_places, each_places, open_accept, open_alt, open_alternatives, open_comm, open_each, open_receive, open_send, open_spread, open_timeout, spread_places};
+ghost use Rattle.pfc_select_code.specs.Alternatives.{alt_places, arm_place, arm_places, each_places, open_accept, open_alt, open_alternatives, open_comm};
+ghost use Rattle.pfc_select_code.specs.Alternatives.{open_each, open_receive, open_send, open_spread, open_timeout, spread_places};
 ghost use Rattle.pfc_select_code.specs.Values.{at_values};
 
 use crate::accepts::head_of;

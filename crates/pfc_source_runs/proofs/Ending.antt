@@ -25,7 +25,7 @@ use Rattle.pfc_machine_acts.specs.Quietly.{next_instr}
 use Rattle.pfc_run_agreement.specs.Agreement.{fault_of}
 use Rattle.pfc_run_agreement.proofs.Agreeing.{settled_fault}
 use Rattle.pfc_source_runs.specs.Points.{Point, point_after, Passes}
-use Rattle.pfc_source_runs.specs.Standing.{NamesOneOf}
+use Rattle.pfc_source_runs.specs.Standing.{NamesOneOf, IsWornOut}
 
 -- ## What an end comes to
 
@@ -39,7 +39,7 @@ pub data Ends (facts : Facts) (limit : ℕ) (first : Point) (f : Run) (h : sr.Ru
   agreeing : IsPlain (process_count facts) f.ending → Agrees facts f.machine h.config → Ends facts limit first f h printed
   uncounted : f.ending ≡ Memory → (count left : ℕ) → left + count ≡ limit
       → ((k : ℕ) → k < count → Passes (program_in facts) (point_after (program_in facts) k first))
-      → Agrees facts f.machine (settled_config (point_after (program_in facts) count first).config)
+      → IsWornOut facts f.machine (point_after (program_in facts) count first)
       → (point_after (program_in facts) count first).config.output ≡ first.config.output ++ (printed ++ f.printed) → Ends facts limit first f h printed
 
 pub along : (facts : Facts) (limit : ℕ) (first : Point) (f f' : Run) (h h' : sr.Run) (printed : List ℕ) → f ≡ f' → h ≡ h'

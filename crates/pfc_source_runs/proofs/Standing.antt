@@ -27,6 +27,7 @@ use Rattle.pfc_simulation.specs.Reached.{RunKeepsToRules, IsRunKept}
 use Rattle.pfc_simulation.proofs.Simulating.{goes_on_agreeing}
 use Rattle.pfc_source_runs.specs.Points.{Point, first_point, point_after}
 use Rattle.pfc_source_runs.specs.Standing.{IsUntried, StandsFor, behind_action, settled, before_action, IsBrokenOff, IsCut, on_the_way, at_the_end, uncounted}
+use Rattle.pfc_source_runs.specs.Standing.{IsWornOut}
 use Rattle.pfc_source_runs.specs.Standing.{IsWanting, refused, worn_out, NamesOneOf, IsAtEnd, IsStanding, StandsIn, passing, ended}
 use Rattle.pfc_source_runs.proofs.Coming.{IsAt, starts_at, comes_to, passes_to}
 use Rattle.pfc_source_runs.proofs.Ending.{Ends, agreeing, uncounted as not_counted}
@@ -92,13 +93,13 @@ module _
         }
 
     worn : Ends facts limit first f h [] → f.ending ≡ Memory → new ≡ f.machine → AppendsFront before after f.printed
-        → IsBrokenOff g limit h first (λ s. Agrees facts new (settled_config s.config)) before after
+        → IsBrokenOff g limit h first (λ s. IsWornOut facts new s) before after
     worn (agreeing plain agrees) wears machine front = absurd (plain.0 wears)
     worn (not_counted uncounts count left sum passed agrees output) wears machine front = record {
       count = count;
       left = left;
       way = way_to g limit first count left sum passed;
-      stands = subst (λ (x : Machine). Agrees facts x (settled_config (point_after g count first).config)) (sym machine) agrees;
+      stands = subst (λ (x : Machine). IsWornOut facts x (point_after g count first)) (sym machine) agrees;
       bytes = f.printed;
       output = output;
       front = front;
@@ -153,11 +154,11 @@ module _ (facts : Facts) (limit : ℕ) (h : sr.Run) (first : Point) (m : Machine
   in_cut : IsCut facts limit h first m before after → StandsIn facts limit h first m
   in_cut (on_the_way b) = on_a_way (λ s. Agrees facts m s.config) (λ s. behind_action) b
   in_cut (at_the_end e) = ended e.agrees
-  in_cut (uncounted b) = on_a_way (λ s. Agrees facts m (settled_config s.config)) (λ s. settled) b
+  in_cut (uncounted b) = on_a_way (λ s. IsWornOut facts m s) (λ s worn. settled worn.0) b
 
   in_wanting : IsWanting facts limit h first m before after → StandsIn facts limit h first m
   in_wanting (refused b) = on_a_way (λ s. IsUntried facts m s) (λ s. before_action) b
-  in_wanting (worn_out b) = on_a_way (λ s. Agrees facts m (settled_config s.config)) (λ s. settled) b
+  in_wanting (worn_out b) = on_a_way (λ s. IsWornOut facts m s) (λ s worn. settled worn.0) b
 
   pub somewhere : (ending : Ending) → IsStanding facts limit h first m ending before after → StandsIn facts limit h first m
   somewhere Finished e = ended e.agrees

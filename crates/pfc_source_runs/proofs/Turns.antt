@@ -1,6 +1,6 @@
 -- Runs, turn by turn, to their ends.
 use Rattle.std.proofs.Common.{◌≡◌, ℕ, zero, suc, ◌+◌, ◌<◌, ◌==◌, Bool, true, false, List, ◌++◌, Option, Some, None, refl, sym, ap, ◌∙◌, subst, arith}
-use Rattle.std.proofs.Common.{append_assoc, append-nil}
+use Rattle.std.proofs.Common.{◌≤◌, ◌^◌, ◌||◌, ◌⊎◌, inl, inr, nat_le, append_assoc, append-nil}
 use Rattle.std.proofs.lemmas.Bool.Decides.{nat_tests}
 use Rattle.pfc_code.specs.Images.{PlainImage}
 use Rattle.pfc_sched.specs.Picks.{Picking, picked, after_pick, item_of}
@@ -10,6 +10,7 @@ use Rattle.pfc_state.specs.Stands.{Stand}
 use Rattle.pfc_state.specs.declared.endings.Ending.{Ending}
 use Rattle.pfc_state.specs.declared.endings.Ending.TheVariants.{Fault, Limit, Memory}
 use Rattle.pfc_state.specs.declared.endings.ScriptWhy.TheVariants.{NotReady as Not_ready, NoProcess as No_process, Ended}
+use Rattle.pfc_world.specs.Tables.{Table}
 use Rattle.pfc_semantics.specs.Configurations.{Config}
 use Rattle.pfc_semantics.specs.Events.{Event, step as source_step}
 use Rattle.pfc_semantics.specs.Programs.{Program}
@@ -20,7 +21,8 @@ use Rattle.pfc_machines.specs.declared.machine.Machine.{Machine}
 use Rattle.pfc_machine_acts.specs.Settling.{machine_settled}
 use Rattle.pfc_representation.specs.Levels.{Facts, program_in}
 use Rattle.pfc_representation.specs.Rooms.{process_count}
-use Rattle.pfc_representation.specs.Machines.{Agrees, Represents}
+use Rattle.pfc_representation.specs.Machines.{Agrees, Represents, Reports}
+use Rattle.pfc_settling_laws.proofs.Reported.{agreeing_reports}
 use Rattle.pfc_settling_laws.proofs.Settled.{agrees_settled}
 use Rattle.pfc_arrivals.specs.Arrivals.{IsAboutToAct}
 use Rattle.pfc_sessions.specs.Runs.{Run, ending_at, is_worn_out, ended_with, behind_bytes, by_pick, unless_ended, unless_worn_out, unless_fault, behind_step}
@@ -33,10 +35,18 @@ use Rattle.pfc_run_agreement.proofs.Agreeing.{same_ending, settled_fault}
 use Rattle.pfc_simulation.specs.Reached.{RunKeepsToRules, IsRunKept}
 use Rattle.pfc_simulation.proofs.Simulating.{Relates, agrees_then, agrees_here, acts_alike_so, agrees_behind, represents, about}
 use Rattle.pfc_source_runs.specs.Points.{Point, by_process, point_behind, next_point, point_after, Passes}
+use Rattle.pfc_source_runs.specs.Standing.{CountsNoMore}
 use Rattle.pfc_source_runs.proofs.Coming.{IsAt, picks_so, passes_so, comes_so}
 use Rattle.pfc_source_runs.proofs.Ending.{Ends, agreeing, uncounted, along, plain_ending, plain_deadlock, plain_limit, plain_script, plain_fault, fault_process}
 use Rattle.pfc_source_runs.proofs.Ending.{faulty_run}
 use Rattle.pfc_arrivals.specs.Arrivals.{AreNumbered}
+
+either : (a b : Bool) → (a || b) ≡ true → (a ≡ true) ⊎ (b ≡ true)
+either true b h = inl refl
+either false b h = inr h
+
+reaches : (n : ℕ) → nat_le (10 ^ 18) n ≡ true → 10 ^ 18 ≤ n
+reaches n h = grind (arith, h)
 
 module _ (facts : Facts) (numbered : AreNumbered facts) (limit : ℕ) (first : Point) (kept : IsRunKept facts first.config)
     (numbers : RunKeepsToRules (program_in facts) first.config) where
@@ -80,6 +90,17 @@ module _ (facts : Facts) (numbered : AreNumbered facts) (limit : ℕ) (first : P
 
     same_end : sr.ending_at d ≡ ending_at m
     same_end = same_ending m d (settled_fault t.config ∙ so.relates.sound) rows
+
+    -- what the machine counts is what the source text counts
+    counts_no_more : is_worn_out m ≡ true → CountsNoMore d
+    counts_no_more is = by (either (nat_le (10 ^ 18) m.world.done) (nat_le (10 ^ 18) m.world.moment) is)
+      where
+        reports : Reports facts m d
+        reports = agreeing_reports facts m d agrees
+
+        by : (nat_le (10 ^ 18) m.world.done ≡ true) ⊎ (nat_le (10 ^ 18) m.world.moment ≡ true) → CountsNoMore d
+        by (inl h) = inl (subst (λ (n : ℕ). 10 ^ 18 ≤ n) (ap (λ (w : Table). w.done) reports.world) (reaches m.world.done h))
+        by (inr h) = inr (subst (λ (n : ℕ). 10 ^ 18 ≤ n) (ap (λ (w : Table). w.moment) reports.world) (reaches m.world.moment h))
 
     -- ## Without an action
 
@@ -199,7 +220,7 @@ module _ (facts : Facts) (numbered : AreNumbered facts) (limit : ℕ) (first : P
           (sr.run_from g limit (suc left) t.picking t.config)
           (sr.run_from g limit (suc left) t.picking t.config) s.printed
           (ap (unless_ended m _) is ∙ ap (unless_worn_out m (goes_by (picked s.picking m.world.rows))) counts) refl
-          (uncounted refl n (suc left) sum passed agrees (so.printed ∙ ap (λ (xs : List ℕ). first.config.output ++ xs) (sym (append-nil s.printed))))
+          (uncounted refl n (suc left) sum passed (agrees, counts_no_more counts) (so.printed ∙ ap (λ (xs : List ℕ). first.config.output ++ xs) (sym (append-nil s.printed))))
       turns sum passed None false is counts =
           along facts limit first (run_from image limit (suc left) s.picking s.machine) (goes_by (picked s.picking m.world.rows))
           (sr.run_from g limit (suc left) t.picking t.config) (source_by (picked s.picking m.world.rows)) s.printed

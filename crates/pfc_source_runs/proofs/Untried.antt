@@ -21,7 +21,7 @@ use Rattle.pfc_sessions.specs.Stages as stages
 use Rattle.pfc_sessions.specs.Stages.{Stage}
 use Rattle.pfc_sessions.specs.Steps.{begins, before_action}
 use Rattle.pfc_simulation.specs.Reached.{RunKeepsToRules, IsRunKept}
-use Rattle.pfc_simulation.proofs.Simulating.{represents, about}
+use Rattle.pfc_simulation.proofs.Simulating.{represents, about, next_kept, rules}
 use Rattle.pfc_simulation.proofs.Steps.{quiet_leads}
 use Rattle.pfc_source_runs.specs.Points.{Point}
 use Rattle.pfc_source_runs.specs.Standing.{IsUntried}
@@ -78,7 +78,9 @@ module _ (facts : Facts) (c : Config) (kept : IsRunKept facts c) (numbered : Are
     before = come.before;
     acting = come.acting;
     arrived = come.arrived;
-    machine = is.machine ∙ ap at_rest (stands_before facts numbered m d is.process (kept t.config is.process so.relates.reached ready.ready) ready.rules come);
+    machine = is.machine ∙ ap at_rest (stands_before facts numbered m d is.process
+        (next_kept facts c kept numbered numbers s.picking s.machine t.config is.process so.relates is.picked)
+        (rules facts c kept numbered numbers s.picking s.machine t.config is.process so.relates is.picked) come);
   }
 
   pub is_untried : IsUntried facts new t

@@ -1,10 +1,11 @@
 -- Where the machine of a session stands behind its run, whole or broken off, in the source text's run.
-use Rattle.std.specs.Prelude.{ℕ, ◌≡◌, ◌<◌, List, ◌++◌, Option}
+use Rattle.std.specs.Prelude.{ℕ, ◌≡◌, ◌<◌, ◌≤◌, ◌^◌, ◌⊎◌, List, ◌++◌, Option}
 use Rattle.pfc_io.specs.Writes.{AppendsFront}
 use Rattle.pfc_sched.specs.Picks.{picked}
 use Rattle.pfc_sched.specs.declared.picking.Pick.TheVariants.{Process}
 use Rattle.pfc_state.specs.declared.endings.Ending.{Ending}
 use Rattle.pfc_state.specs.declared.endings.Ending.TheVariants.{Finished, Fault, Deadlock, Limit, Script, SinkFailed, Memory}
+use Rattle.pfc_semantics.specs.Configurations.{Config}
 use Rattle.pfc_semantics.specs.Programs.{Program}
 use Rattle.pfc_semantics.specs.Runs.{Run}
 use Rattle.pfc_semantics.specs.Steps.{next_of}
@@ -19,8 +20,7 @@ use Rattle.pfc_source_runs.specs.Points.{Point, point_after, IsOnTheWay}
 
 -- ## A machine and a point
 
--- The machine stands for the settled configuration: who is picked there has gone through quiet instructions to its next action, and has not acted. That can
--- be tried again.
+-- The machine stands for the settled configuration: who is picked there has gone through quiet instructions to its next action, and has not acted.
 pub record IsUntried (facts : Facts) (m : Machine) (s : Point) : Type 0 where
   pub process : ℕ
   pub picks : picked s.picking (settled_config s.config).table.rows ≡ Process process
@@ -55,17 +55,25 @@ pub record IsCutAtEnd (facts : Facts) (h : Run) (first : Point) (m : Machine) (b
   pub output : h.config.output ≡ first.config.output ++ bytes
   pub front : AppendsFront before after bytes
 
--- The sink took no more: behind an action; at the run's end; or where the machine counts no more, which never comes.
+-- So many actions were done, or so much time is past, that the machine counts no more.
+abbrev pub CountsNoMore : Config → Type 0
+CountsNoMore c = (10 ^ 18 ≤ c.table.done) ⊎ (10 ^ 18 ≤ c.table.moment)
+
+-- the machine agrees with the settled configuration at the point, and counts no more
+abbrev pub IsWornOut : Facts → Machine → Point → Type 0
+IsWornOut facts m s = Agrees facts m (settled_config s.config) × CountsNoMore (settled_config s.config)
+
+-- The sink took no more: behind an action; at the run's end; or where the machine counts no more.
 pub data IsCut (facts : Facts) (limit : ℕ) (h : Run) (first : Point) (m : Machine) (before after : Option (List ℕ)) : Type 0 where
   on_the_way : IsBrokenOff (program_in facts) limit h first (λ s. Agrees facts m s.config) before after → IsCut facts limit h first m before after
   at_the_end : IsCutAtEnd facts h first m before after → IsCut facts limit h first m before after
-  uncounted : IsBrokenOff (program_in facts) limit h first (λ s. Agrees facts m (settled_config s.config)) before after
+  uncounted : IsBrokenOff (program_in facts) limit h first (λ s. IsWornOut facts m s) before after
       → IsCut facts limit h first m before after
 
 -- Memory was wanting: before an action; or where the machine counts no more.
 pub data IsWanting (facts : Facts) (limit : ℕ) (h : Run) (first : Point) (m : Machine) (before after : Option (List ℕ)) : Type 0 where
   refused : IsBrokenOff (program_in facts) limit h first (λ s. IsUntried facts m s) before after → IsWanting facts limit h first m before after
-  worn_out : IsBrokenOff (program_in facts) limit h first (λ s. Agrees facts m (settled_config s.config)) before after
+  worn_out : IsBrokenOff (program_in facts) limit h first (λ s. IsWornOut facts m s) before after
       → IsWanting facts limit h first m before after
 
 -- ## Runs

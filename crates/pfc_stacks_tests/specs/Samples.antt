@@ -96,3 +96,18 @@ with_other = main_with 21 23 (sub_cells (function_cells (pos 99))) (pos 50 ∷ [
 -- main at address 1 of the code, with two operands more of which b is the top
 abbrev pub sample_stacks : Option ℕ → ℤ → ℤ → Stacks
 sample_stacks look a b = main_with 1 23 (sub_cells (function_cells (pos 99))) (b ∷ a ∷ pos 50 ∷ []) look ∷ other ∷ []
+
+-- ## One activation
+
+abbrev pub lone_block : Block
+lone_block = record { label = 112 ∷ []; entry = 0; body = 0; params = 0; cells = 6; operands = 8; level = 0; line = 1 }
+
+-- six cells behind its own: three that hold 11, 12 and 13, and three that hold 0
+abbrev pub lone_cells : List ℤ
+lone_cells =
+    pos 0 ∷ pos 0 ∷ pos 0 ∷ pos 0 ∷ pos 0 ∷ pos 0 ∷ pos 0 ∷ pos 0 ∷ pos 11 ∷ pos 12 ∷ pos 13 ∷ pos 0 ∷ pos 0 ∷ pos 0 ∷ []
+
+-- main alone before its first instruction, with four operands of which d is the top
+abbrev pub lone_stacks : ℤ → ℤ → ℤ → ℤ → Stacks
+lone_stacks a b c d =
+    record { at = 0; base = 0; cells = lone_cells; operands = d ∷ c ∷ b ∷ a ∷ []; room = 8; spare = 0; looks_from = None } ∷ []

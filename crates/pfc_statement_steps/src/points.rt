@@ -17,7 +17,8 @@ ghost use Rattle.pfc_phrases.specs.Views.{env_view};
 ghost use Rattle.pfc_program.specs.declared.tables.Tables.{Tables};
 ghost use Rattle.pfc_pending.specs.Ahead.{begun_ahead, step_ahead};
 ghost use Rattle.pfc_pending.specs.Texts.{stmt_at};
-ghost use Rattle.pfc_pending.specs.Waiting.{Waiting, remainder_of, awaits_of, point_over, choose_of, choose_arm_of, while_true_of, until_true_of, count_from_of, count_to_of, counting_of, until_of, pass_over, counter_view};
+ghost use Rattle.pfc_pending.specs.Waiting.{Waiting, remainder_of, awaits_of, point_over, choose_of, choose_arm_of, while_true_of, until_true_of};
+ghost use Rattle.pfc_pending.specs.Waiting.{count_from_of, count_to_of, counting_of, until_of, pass_over, counter_view};
 ghost use Rattle.pfc_pending.specs.declared.pending.Point.TheVariants as point;
 ghost use Rattle.pfc_statement_steps.specs.Begins.{node_view};
 

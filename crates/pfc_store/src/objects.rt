@@ -5,7 +5,9 @@ ghost use Rattle.pfc_types.specs.Scopes.{scope_at};
 ghost use Rattle.pfc_types.specs.Blocks.{module_at};
 ghost use Rattle.pfc_state.specs.Waits.{same_truth};
 ghost use Rattle.pfc_semantics.specs.Values.{ordinal};
-ghost use Rattle.pfc_semantics.specs.Objects.{no_objects, a_semaphore, a_channel, a_condition, a_process, numbering_of, numbered_copies, numbered_fields as fields_in_order, all_numberings, numbered_names, module_number as number_of_module, of_main, main_objects};
+ghost use Rattle.pfc_semantics.specs.Objects.{no_objects, a_semaphore, a_channel, a_condition, a_process, numbering_of, numbered_copies};
+ghost use Rattle.pfc_semantics.specs.Objects.{numbered_fields as fields_in_order, all_numberings, numbered_names, module_number as number_of_module, of_main};
+ghost use Rattle.pfc_semantics.specs.Objects.{main_objects};
 ghost use Rattle.pfc_store.specs.Views.{value_view, values_view};
 ghost use Rattle.pfc_store.specs.Numbered.{objects_view, numbered, numbered_parts, numbered_variables, behind};
 

@@ -1,6 +1,7 @@
 //! The ends of a reading, and the reading of one token.
 ghost use Rattle.std.specs.Prelude.{◌≡◌, ◌<◌, length, IfSome, IfOk, option_map};
-ghost use Rattle.pfc_grammar.specs.Heads.{as_word, as_sign, as_name, as_number, as_literal, as_plus_minus, as_relation, as_add_op, as_mul_op, as_selector, as_direction, is_word};
+ghost use Rattle.pfc_grammar.specs.Heads.{as_word, as_sign, as_name, as_number, as_literal, as_plus_minus, as_relation, as_add_op, as_mul_op, as_selector};
+ghost use Rattle.pfc_grammar.specs.Heads.{as_direction, is_word};
 ghost use Rattle.pfc_grammar.specs.placed.Reading.{take_as, first_place};
 ghost use Rattle.pfc_token_parser.specs.Giving.{Gives, taken, sees};
 

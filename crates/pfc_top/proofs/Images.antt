@@ -1,5 +1,5 @@
 -- Images, and refusals, from a tree up to its text.
-use Rattle.std.proofs.Common.{◌≡◌, ℕ, ◌≤◌, length, false, List, Some, None, Result, Ok, Err, IfOk, IfErr, refl, ◌∙◌, subst, sym}
+use Rattle.std.proofs.Common.{◌≡◌, ℕ, ◌<◌, ◌≤◌, length, List, Some, None, Result, Ok, Err, IfOk, IfErr, refl, subst, sym}
 use Rattle.pfc_base.specs.declared.places.Place.{Place}
 use Rattle.pfc_base.specs.declared.faults.Refusal.{Refusal}
 use Rattle.pfc_base.specs.declared.tokens.Token.{Token}
@@ -12,29 +12,22 @@ use Rattle.pfc_tree.specs.trees.Parts.{ProgramTree}
 use Rattle.pfc_tree.specs.forget.Parts.{forget_program}
 use Rattle.pfc_grammar.specs.Outcomes.{IsTreeOf}
 use Rattle.pfc_types.specs.rules.Whole.{first_fault}
-use Rattle.pfc_meaning.specs.Unbuilt.{unbuilt}
+use Rattle.pfc_number_laws.specs.Written.{FitsTree}
 use Rattle.pfc_translation.specs.Images.{image_of}
-use Rattle.pfc_relation.specs.code.Images as main
-use Rattle.pfc_main_code.proofs.Images.{images_same}
-use Rattle.pfc_outcome.specs.Outcomes.{Outcome, IsLevel, IsOutcomeOfTokens, IsOutcomeOfTree, IsUnlisted, not_built_yet, no_fault, refused, static_fault}
-use Rattle.pfc_outcome.specs.Outcomes.{syntax_fault, syntax_refusal}
+use Rattle.pfc_outcome.specs.Outcomes.{Outcome, IsLevel, IsOutcomeOfTokens, IsOutcomeOfTree, IsUnlisted, large, no_fault, refused, static_fault}
+use Rattle.pfc_outcome.specs.Outcomes.{syntax_fault, syntax_refusal, too_large}
 use Rattle.pfc_outcome.specs.Requests.{Request}
 use Rattle.pfc_top.specs.Compiling.{IsImage, AreCompiled, IsCompiled, RefusedFor, IsUncompiled, AreUncompiled, IsWithout}
 use Rattle.pfc_top.specs.Meanings.{source_meaning}
 use Rattle.pfc_top.specs.declared.compiling.Uncompiled.{Uncompiled}
-use Rattle.pfc_top.specs.declared.compiling.Uncompiled.TheVariants.{Refused, NotBuilt, Memory}
+use Rattle.pfc_top.specs.declared.compiling.Uncompiled.TheVariants.{Refused, Memory}
 
 -- ## Images
 
--- the image of a program that is run is the one over which runs of main bodies are proved
-pub main_image : (tree : ProgramTree) (image : PlainImage) → IsImage tree image → image ≡ main.image_of tree
-main_image tree image is = is.same ∙ images_same tree is.runnable.small.lawful is.runnable.whole is.runnable.built
-
-pub is_image : (tree : ProgramTree) (image : PlainImage) → IsSmall (forget_program tree) → first_fault tree ≡ None →
-    unbuilt tree ≡ false → image ≡ image_of tree
-    → length image.code ≤ 200000 → IsImage tree image
-is_image tree image small whole built same few = record {
-  runnable = record { small = small; whole = whole; built = built; few = subst (λ (i : PlainImage). length i.code ≤ 200000) same few };
+pub is_image : (tree : ProgramTree) (image : PlainImage) → IsSmall (forget_program tree) → first_fault tree ≡ None → FitsTree tree
+    → image ≡ image_of tree → length image.code ≤ 200000 → IsImage tree image
+is_image tree image small whole fits same few = record {
+  runnable = record { small = small; whole = whole; fits = fits; few = subst (λ (i : PlainImage). length i.code ≤ 200000) same few };
   same = same;
 }
 
@@ -57,7 +50,6 @@ text_image text ts us end (Err why) cut same is = tt
 lifted : (P Q : Request → Outcome → Type 0) → ((request : Request) (outcome : Outcome) → P request outcome → Q request outcome) →
     (why : Uncompiled) → RefusedFor P why → RefusedFor Q why
 lifted P Q up (Refused r) h = λ request. up request (refused r) (h request)
-lifted P Q up NotBuilt h = λ request. up request not_built_yet (h request)
 lifted P Q up Memory h = tt
 
 pub tokens_refusal : (ts : List Token) (end : Place) (tree : ProgramTree) (r : Result Image Uncompiled) → IsTreeOf ts tree →
@@ -84,6 +76,10 @@ text_refusal text ts us end (Err why) cut same h =
 pub static_refusal : (tree : ProgramTree) (r : Refusal) → first_fault tree ≡ Some r → IsWithout tree (Refused r)
 static_refusal tree r broken = λ request. static_fault r broken refl
 
+-- so does its size, where no rule is broken
+pub large_refusal : (tree : ProgramTree) → first_fault tree ≡ None → 200000 < length (image_of tree).code → IsWithout tree (Refused too_large)
+large_refusal tree whole many = λ request. large whole many refl
+
 -- a syntax fault refuses tokens
 pub syntax_refused : (ts : List Token) (end : Place) (code i : ℕ) (why : Uncompiled) → why ≡ Refused (syntax_refusal ts end code i) →
     IsSyntaxFault (symbols ts) code i → AreUncompiled ts end why
@@ -95,6 +91,3 @@ syntax_refused ts end code i why same fault =
 pub refused_for : (is : Request → Outcome → Type 0) (why : Uncompiled) (r : Refusal) → why ≡ Refused r → RefusedFor is why →
     (request : Request) → is request (refused r)
 refused_for is why r same h = subst (λ (w : Uncompiled). RefusedFor is w) same h
-
-pub not_built_for : (is : Request → Outcome → Type 0) (why : Uncompiled) → why ≡ NotBuilt → RefusedFor is why → (request : Request) → is request not_built_yet
-not_built_for is why same h = subst (λ (w : Uncompiled). RefusedFor is w) same h

@@ -1,3 +1,4 @@
 pub mod Courses
 pub mod Images
 pub mod Outcomes
+pub mod Reports

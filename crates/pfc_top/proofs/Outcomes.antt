@@ -22,7 +22,7 @@ use Rattle.pfc_outcome.specs.Loading.{Lack, Lacks, first_lack, long}
 use Rattle.pfc_outcome.specs.Options.{Asked}
 use Rattle.pfc_outcome.specs.Requests.{Request, policy_of, request_of}
 use Rattle.pfc_outcome.specs.declared.loading.Loaded.{Loaded}
-use Rattle.pfc_drive.specs.States.{State}
+use Rattle.pfc_sessions.specs.declared.session.Session.{Session}
 use Rattle.pfc_io.specs.Files.{File}
 use Rattle.pfc_top.specs.Answers.{Gives, GivesFront, GivesFrontOfAll, GivesOne, IsAnswerToText, IsSound, IsWritten, Replies, ended}
 use Rattle.pfc_top.specs.Compiling.{IsCompiled}
@@ -150,7 +150,7 @@ program_outcome_is text image is request =
       cut = is.cut;
       is =
           no_fault is.compiled.tree is.compiled.written is.compiled.level
-          (run is.compiled.is.runnable.whole is.compiled.is.runnable.built is.compiled.is.runnable.few refl);
+          (run is.compiled.is.runnable.whole is.compiled.is.runnable.few refl);
     })
 
 -- the run under a policy, or a script that is no list of numbers, behind what is listed
@@ -211,7 +211,7 @@ pub sound_reply : (reply : Result Answer Stop) → IfOk reply (λ answer. IsAnsw
     IsSound (ended reply).status (ended reply).session
 sound_reply (Ok answer) h = sound answer.status answer.session h
   where
-    sound : (status : ℕ) (session : Option State) → IsAnswerToText status session → IsSound status session
+    sound : (status : ℕ) (session : Option Session) → IsAnswerToText status session → IsSound status session
     sound status (Some s) h = h
     sound status None (inl one) = inl one
     sound status None (inr ten) = inr (inr (inr (inr (inr (inr ten)))))
@@ -224,7 +224,7 @@ pub other_status : (n : ℕ) → (n ≡ 2) ⊎ (n ≡ 6) ⊎ (n ≡ 7) ⊎ (n �
     → IfOk reply (λ answer. (answer.status ≡ n) → ⊥)
 other_status n these (Ok answer) h = other answer.status answer.session h
   where
-    other : (status : ℕ) (session : Option State) → IsAnswerToText status session → (status ≡ n) → ⊥
+    other : (status : ℕ) (session : Option Session) → IsAnswerToText status session → (status ≡ n) → ⊥
     other status (Some s) h is = omega (arith, these, h, is)
     other status None h is = omega (arith, these, h, is)
 other_status n these (Err stop) h = tt

@@ -3,7 +3,7 @@ use Rattle.std.specs.Prelude.{◌≡◌, ℕ, ◌⊎◌, List, Option, Some, Non
 use Rattle.std.specs.Io.KnownBytes.{Appends}
 use Rattle.pfc_io.specs.Files.{File}
 use Rattle.pfc_io.specs.Writes.{AppendsFront}
-use Rattle.pfc_drive.specs.States.{State}
+use Rattle.pfc_sessions.specs.declared.session.Session.{Session}
 use Rattle.pfc_outcome.specs.Loading.{Lack, Lacks}
 use Rattle.pfc_outcome.specs.Options.{options_of}
 use Rattle.pfc_outcome.specs.Outcomes.{Outcome, Ran, names_by}
@@ -13,7 +13,7 @@ use Rattle.pfc_top.specs.declared.replies.Stop.{Stop}
 use Rattle.pfc_top.specs.declared.replies.Stop.TheVariants.{WriteFailed, Memory}
 
 -- the session stands for the end of what ran; where nothing ran there is none
-abbrev pub IsSessionOf : Option Ran → Option State → Type 0
+abbrev pub IsSessionOf : Option Ran → Option Session → Type 0
 IsSessionOf None None = Unit {0}
 IsSessionOf None (Some session) = ⊥
 IsSessionOf (Some ran) None = ⊥
@@ -64,12 +64,12 @@ abbrev pub IsRunStatus : ℕ → Type 0
 IsRunStatus status = (status ≡ 0) ⊎ (status ≡ 3) ⊎ (status ≡ 4) ⊎ (status ≡ 5) ⊎ (status ≡ 10)
 
 -- an answer to a text: with a session the status is that of a run; without one the text is refused, or the script is no list of numbers
-abbrev pub IsAnswerToText : ℕ → Option State → Type 0
+abbrev pub IsAnswerToText : ℕ → Option Session → Type 0
 IsAnswerToText status (Some session) = IsRunStatus status
 IsAnswerToText status None = (status ≡ 1) ⊎ (status ≡ 10)
 
 -- every answer: with a session the status is that of a run; without one it is any but those of a run's ending
-abbrev pub IsSound : ℕ → Option State → Type 0
+abbrev pub IsSound : ℕ → Option Session → Type 0
 IsSound status (Some session) = IsRunStatus status
 IsSound status None = (status ≡ 1) ⊎ (status ≡ 2) ⊎ (status ≡ 6) ⊎ (status ≡ 7) ⊎ (status ≡ 8) ⊎ (status ≡ 9) ⊎ (status ≡ 10)
 

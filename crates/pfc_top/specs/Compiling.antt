@@ -1,5 +1,5 @@
 -- What the way from a text to its image comes to.
-use Rattle.std.specs.Prelude.{◌≡◌, ◌≤◌, ℕ, false, List, None}
+use Rattle.std.specs.Prelude.{◌≡◌, ◌≤◌, ℕ, List, None}
 use Rattle.pfc_base.specs.declared.places.Place.{Place}
 use Rattle.pfc_base.specs.declared.tokens.Token.{Token}
 use Rattle.pfc_code.specs.Images.{PlainImage}
@@ -9,22 +9,21 @@ use Rattle.pfc_tree.specs.trees.Parts.{ProgramTree}
 use Rattle.pfc_tree.specs.forget.Parts.{forget_program}
 use Rattle.pfc_grammar.specs.Outcomes.{IsTreeOf}
 use Rattle.pfc_types.specs.rules.Whole.{first_fault}
-use Rattle.pfc_meaning.specs.Unbuilt.{unbuilt}
+use Rattle.pfc_number_laws.specs.Written.{FitsTree}
 use Rattle.pfc_translation.specs.Images.{image_of}
-use Rattle.pfc_outcome.specs.Outcomes.{Outcome, IsLevel, IsOutcomeOfTokens, IsOutcomeOfTree, IsUnlisted, instruction_count, most_instructions, not_built_yet}
-use Rattle.pfc_outcome.specs.Outcomes.{refused}
+use Rattle.pfc_outcome.specs.Outcomes.{Outcome, IsLevel, IsOutcomeOfTokens, IsOutcomeOfTree, IsUnlisted, instruction_count, most_instructions, refused}
 use Rattle.pfc_outcome.specs.Requests.{Request}
 use Rattle.pfc_top.specs.Meanings.{source_meaning}
 use Rattle.pfc_top.specs.declared.compiling.Uncompiled.{Uncompiled}
-use Rattle.pfc_top.specs.declared.compiling.Uncompiled.TheVariants.{Refused, NotBuilt, Memory}
+use Rattle.pfc_top.specs.declared.compiling.Uncompiled.TheVariants.{Refused, Memory}
 
 -- ## An image
 
--- a program that is run: no rule is broken in it, it is built, and it is not too large
+-- a program that is run: no rule is broken in it, each number that it writes has 32 bits, and it is not too large
 pub record IsRunnable (tree : ProgramTree) : Type 0 where
   pub small : IsSmall (forget_program tree)
   pub whole : first_fault tree ≡ None
-  pub built : unbuilt tree ≡ false
+  pub fits : FitsTree tree
   pub few : instruction_count source_meaning tree ≤ most_instructions
 
 -- the image of a tree
@@ -51,7 +50,6 @@ pub record IsCompiled (text : List ℕ) (image : PlainImage) : Type 0 where
 -- the text of these outcomes has no image, unless memory is wanting: it is refused by one line, whatever else is asked for
 abbrev pub RefusedFor : (Request → Outcome → Type 0) → Uncompiled → Type 0
 RefusedFor is (Refused r) = (request : Request) → is request (refused r)
-RefusedFor is NotBuilt = (request : Request) → is request not_built_yet
 RefusedFor is Memory = Unit {0}
 
 abbrev pub IsUncompiled : List ℕ → Uncompiled → Type 0

@@ -3,26 +3,29 @@ use Rattle.std.specs.Prelude.{◌≡◌, ℕ, List}
 use Rattle.pfc_code.specs.Images.{PlainImage}
 use Rattle.pfc_sched.specs.declared.picking.Policy.{Policy}
 use Rattle.pfc_tree.specs.trees.Parts.{ProgramTree}
-use Rattle.pfc_meaning.specs.Configurations.{start}
-use Rattle.pfc_relation.specs.Programs.{program_of}
-use Rattle.pfc_drive.specs.Standing.{Stands}
-use Rattle.pfc_drive.specs.States.{State}
+use Rattle.pfc_run_invariants.specs.Inputs.{AreBytes}
+use Rattle.pfc_translation.specs.Images.{image_of}
+use Rattle.pfc_machines.specs.Machines.{start_machine}
+use Rattle.pfc_representation.specs.Machines.{Agrees}
+use Rattle.pfc_represented_start.specs.Starts.{start_facts}
+use Rattle.pfc_sessions.specs.declared.session.Session.{Session}
 use Rattle.pfc_outcome.specs.Outcomes.{Outcome, behind, code_written, listing_written, report_of, run_under}
 use Rattle.pfc_outcome.specs.Requests.{Request, Settings, policy_of}
 use Rattle.pfc_top.specs.Compiling.{IsImage}
 use Rattle.pfc_top.specs.Meanings.{run_of, source_meaning, told_of}
 
--- the session stands for the program before its first action
-abbrev pub IsAtStart : ProgramTree → Settings → State → Type 0
-IsAtStart tree settings session = Stands (program_of tree) session (start tree settings.input settings.seed)
+-- the session is that of the program's image before its first action
+abbrev pub IsAtStart : ProgramTree → Settings → Session → Type 0
+IsAtStart tree settings session = session.machine ≡ start_machine (image_of tree) settings.input settings.seed
 
--- the session stands for the end of the program's run
-abbrev pub IsAtEnd : ProgramTree → Settings → State → Type 0
-IsAtEnd tree settings session = Stands (program_of tree) session (run_of tree settings).config
+-- The session stands for the end of the program's run: its machine agrees with the last configuration of the source text.
+abbrev pub IsAtEnd : ProgramTree → Settings → Session → Type 0
+IsAtEnd tree settings session = Agrees (start_facts tree) session.machine (run_of tree settings).config
 
--- the image and the session are those of a program before its first action, and this policy and limit are those of the settings
-pub record IsBegun (tree : ProgramTree) (settings : Settings) (image : PlainImage) (session : State) (policy : Policy) (limit : ℕ) : Type 0 where
+-- the image and the session are those of a program before its first action over an input of bytes, and this policy and limit are those of the settings
+pub record IsBegun (tree : ProgramTree) (settings : Settings) (image : PlainImage) (session : Session) (policy : Policy) (limit : ℕ) : Type 0 where
   pub is : IsImage tree image
+  pub bytes : AreBytes settings.input
   pub start : IsAtStart tree settings session
   pub picks : policy ≡ settings.policy
   pub most : limit ≡ settings.limit

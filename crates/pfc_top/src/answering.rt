@@ -16,17 +16,19 @@ ghost use Rattle.pfc_top.specs.Listings.{list_text, IsNoPolicy};
 ghost use Rattle.pfc_top.specs.Meanings.{source_meaning};
 ghost use Rattle.pfc_top.specs.Running.{program_outcome};
 
+use crate::bytes::are_bytes;
 use crate::compiling::{Uncompiled, compile};
 use crate::replies::{Answer, Stop};
 use crate::running::run;
 use crate::writing::say;
 use pfc_base::Memory;
 use pfc_code::{Image, print_code};
-use pfc_drive::Session;
 use pfc_io::Sink;
 use pfc_outcome::{Loaded, Options, an_outcome_is_one};
 use pfc_report::{listing, refusal_line, report};
 use pfc_sched::{Policy, ScriptFault, read_script};
+use pfc_sessions::Session;
+use pfc_source_runs::checked_programs_run;
 use pfc_state::{Ending, ScriptWhy};
 use std::alloc::Global;
 
@@ -36,9 +38,6 @@ const REFUSED: u8 = 1;
 /// The status of a script that is no list of numbers.
 const SCRIPT_REFUSED: u8 = 10;
 
-/// The line for a program that is in order and is not built yet.
-const NOT_BUILT: &[u8] = b"-- refused 200 at line 1, column 1: not built yet\n";
-
 /// Answers a text of at most 262,144 bytes: runs its program, or writes the line of its refusal.
 pub(crate) fn answer<O: Sink>(
     alloc: Global,
@@ -46,8 +45,7 @@ pub(crate) fn answer<O: Sink>(
     loaded: &Loaded,
     sink: &mut O,
 ) -> Result<Answer, Stop>
-    requires short { length loaded.now.text ≤ 262144 }
-    requires few { options.now.limit ≤ 100000000 }
+    requires { length loaded.now.text ≤ 262144 }
     ensures replies { Replies (IsOutcomeOfText source_meaning loaded.now.text (asks options.now loaded.now)) result (O.written sink.old) (O.written sink.new) }
     ensures sound { IfOk result (λ answer. IsAnswerToText answer.status answer.session) }
     ensures cut { IsErrOf result Stop.WriteFailed → Rose (O.faults sink.old) (O.faults sink.new) }
@@ -60,7 +58,6 @@ pub(crate) fn answer<O: Sink>(
             let line = refusal_line(alloc, &refusal)?;
             refuse(alloc, text, options.list, &line, sink)
         }
-        Err(Uncompiled::NotBuilt) => refuse(alloc, text, options.list, NOT_BUILT, sink),
         Err(Uncompiled::Memory) => Err(Stop::Memory),
     }
 }
@@ -93,16 +90,18 @@ fn answer_image<O: Sink>(
     loaded: &Loaded,
     sink: &mut O,
 ) -> Result<Answer, Stop>
-    requires image { (tree : ProgramTree) × IsImage tree (plain_image image.now) }
-    requires few { options.now.limit ≤ 100000000 }
+    requires { (tree : ProgramTree) × IsImage tree (plain_image image.now) }
     ensures written { (tree : ProgramTree) → IsImage tree (plain_image image.now)
         → IsWritten (program_outcome text.now tree (asks options.now loaded.now)) result (O.written sink.old) (O.written sink.new) }
     ensures sound { IfOk result (λ answer. IsAnswerToText answer.status answer.session) }
     ensures cut { IsErrOf result Stop.WriteFailed → Rose (O.faults sink.old) (O.faults sink.new) }
 {
+    checked_programs_run();
     match policy(alloc, options, loaded) {
         Ok(policy) => {
-            let session = Session::start(alloc, image, loaded.input.bytes(), options.seed)?;
+            let input = loaded.input.bytes();
+            are_bytes(input);
+            let session = Session::start(alloc, image, input, options.seed)?;
             list(alloc, text, image, options, sink)?;
             run(alloc, image, session, policy, options.limit, sink)
         }

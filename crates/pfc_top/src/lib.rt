@@ -5,6 +5,7 @@
 #![tactic(auto)]
 
 mod answering;
+mod bytes;
 mod compiling;
 mod replies;
 mod running;

@@ -3,8 +3,8 @@ ghost use Rattle.std.specs.Prelude.{◌≡◌, None};
 ghost use Rattle.pfc_top.specs.Answers.{ended, stopped};
 
 use pfc_base::Memory;
-use pfc_drive::Session;
 use pfc_io::Cut;
+use pfc_sessions::Session;
 
 /// The status where the sink takes no more.
 const WRITE_FAILED: u8 = 7;

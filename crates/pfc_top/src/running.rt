@@ -2,10 +2,9 @@
 ghost use Rattle.std.specs.Prelude.{◌≡◌, ◌≤◌, IfOk, IfErr, IsErrOf};
 ghost use Rattle.std.specs.Io.KnownBytes.{Appends};
 ghost use Rattle.pfc_code.specs.Images.{plain_image};
-ghost use Rattle.pfc_drive.specs.Courses.{IsOfMain};
 ghost use Rattle.pfc_io.specs.Counts.{Rose};
 ghost use Rattle.pfc_io.specs.Writes.{AppendsFront};
-ghost use Rattle.pfc_report.specs.Reports.{HasReport};
+ghost use Rattle.pfc_report.specs.Reports.{HasReport, NamesProcess};
 ghost use Rattle.pfc_tree.specs.trees.Parts.{ProgramTree};
 ghost use Rattle.pfc_outcome.specs.Outcomes.{ran_with, status_of as status_by};
 ghost use Rattle.pfc_outcome.specs.Requests.{Settings};
@@ -17,10 +16,11 @@ ghost use Rattle.pfc_top.specs.Running.{IsAtEnd, IsBegun, report_by};
 use crate::replies::{Answer, Stop};
 use crate::writing::say;
 use pfc_code::Image;
-use pfc_drive::Session;
 use pfc_io::Sink;
 use pfc_report::report;
 use pfc_sched::{Picker, Policy};
+use pfc_sessions::Session;
+use pfc_source_runs::checked_programs_run;
 use pfc_state::Ending;
 use std::alloc::Global;
 
@@ -34,13 +34,13 @@ pub(crate) fn run<O: Sink>(
     limit: u64,
     sink: &mut O,
 ) -> Result<Answer, Stop>
-    requires begun { (tree : ProgramTree) × (settings : Settings) × IsBegun tree settings (plain_image image.now) session policy limit }
-    requires most { limit ≤ 100000000 }
+    requires { (tree : ProgramTree) × (settings : Settings) × IsBegun tree settings (plain_image image.now) session policy limit }
     ensures written { (tree : ProgramTree) (settings : Settings) → IsBegun tree settings (plain_image image.now) session policy limit
         → IsWritten (ran_with source_meaning tree settings) result (O.written sink.old) (O.written sink.new) }
     ensures sound { IfOk result (λ answer. IsAnswerToText answer.status answer.session) }
     ensures cut { IsErrOf result Stop.WriteFailed → Rose (O.faults sink.old) (O.faults sink.new) }
 {
+    checked_programs_run();
     let mut session = session;
     let mut picker = Picker::new(policy);
     match session.run(alloc, image, &mut picker, limit, sink) {
@@ -65,7 +65,7 @@ fn write_report<O: Sink>(
     sink: &mut O,
 ) -> Result<(), Stop>
     requires report { HasReport ending.now }
-    requires main { IsOfMain ending.now }
+    requires process { NamesProcess (plain_image image.now) ending.now }
     requires end { (tree : ProgramTree) × (settings : Settings) × IsImage tree (plain_image image.now) × IsAtEnd tree settings session.now }
     ensures whole { (tree : ProgramTree) (settings : Settings) → IsImage tree (plain_image image.now) → IsAtEnd tree settings session.now →
         ending.now ≡ (run_of tree settings).ending

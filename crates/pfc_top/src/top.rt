@@ -1,5 +1,5 @@
 //! The top call.
-ghost use Rattle.std.specs.Prelude.{◌≡◌, ◌≢◌, ◌⊎◌, ◌≤◌, List, None, Some, [], IfOk, IfErr, IsSome};
+ghost use Rattle.std.specs.Prelude.{◌≡◌, ◌≢◌, ◌⊎◌, List, None, Some, [], IfOk, IfErr, IsSome};
 ghost use Rattle.std.specs.Io.KnownBytes.{Appends};
 ghost use Rattle.pfc_io.specs.Counts.{Rose};
 ghost use Rattle.pfc_io.specs.Files.{File};
@@ -102,7 +102,6 @@ fn answer_options<F: Shelf, O: Sink>(
     shelf: &mut F,
     sink: &mut O,
 ) -> Answer
-    requires { options.now.limit ≤ 100000000 }
     ensures outcome { (files : List File) → F.told shelf.old ≡ Some files → result.status ≢ 6 → result.status ≢ 7 → result.status ≢ 8
         → GivesOne (IsOutcomeOf source_meaning (asked_of options.now) files) result (O.written sink.old) (O.written sink.new) }
     ensures sound { IsSound result.status result.session }

@@ -8,23 +8,41 @@ use std::alloc::Global;
 use std::test::Fail;
 
 /// The files of the shelf.
-static FILES: [(&str, &str); 5] = [
+static FILES: [(&str, &str); 9] = [
     ("sum", SUM),
     ("fault", "program d; begin writeln(1 div 0) end."),
     ("wrong", "program d; begin writeln(x) end."),
+    (
+        "stuck",
+        "program d; var s: semaphore; begin initial(s, 0); wait(s) end.",
+    ),
+    (
+        "meet",
+        "program d; var c: channel of integer; process p; begin c ! 7 end; process q; var n: integer; begin c ? n; write(n) end; begin cobegin p; q coend end.",
+    ),
+    (
+        "child",
+        "program d; process p; begin writeln(1 div 0) end; begin cobegin p coend end.",
+    ),
+    ("last", "0 0 1 9"),
     ("others", "0 0 9"),
     ("names", "0 x"),
 ];
 
 /// A command line, the number of the write that fails, the status, and whether there is a session.
-static ANSWERS: [(&str, u64, u8, bool); 11] = [
+static ANSWERS: [(&str, u64, u8, bool); 16] = [
     ("pfc sum", 9, 0, true),
     ("pfc fault", 9, 3, true),
     ("pfc sum --limit 1", 9, 5, true),
+    ("pfc stuck", 9, 4, true),
+    ("pfc meet", 9, 0, true),
+    ("pfc meet --limit 3", 9, 5, true),
+    ("pfc meet --script last", 9, 10, true),
+    ("pfc child", 9, 3, true),
     ("pfc sum --script others", 9, 10, true),
     ("pfc sum --script names", 9, 10, false),
     ("pfc wrong", 9, 1, false),
-    ("pfc --make 3", 9, 1, false),
+    ("pfc --make 3", 9, 0, true),
     ("pfc", 9, 2, false),
     ("pfc none", 9, 6, false),
     ("pfc sum", 1, 7, false),

@@ -4,7 +4,8 @@ ghost use Rattle.pfc_base.specs.declared.sign.TheConstants.{SEMICOLON};
 ghost use Rattle.pfc_tree.specs.views.Types.{var_view, type_item_view, group_view};
 ghost use Rattle.pfc_grammar.specs.Heads.{as_name, as_sign};
 ghost use Rattle.pfc_grammar.specs.placed.Reading.{many_onto, list_of};
-ghost use Rattle.pfc_grammar.specs.placed.Types.{type_at, const_item_behind, const_items, type_item_behind, type_items, var_item_behind, var_items, group_behind, group, formals};
+ghost use Rattle.pfc_grammar.specs.placed.Types.{type_at, const_item_behind, const_items, type_item_behind, type_items, var_item_behind, var_items};
+ghost use Rattle.pfc_grammar.specs.placed.Types.{group_behind, group, formals};
 ghost use Rattle.pfc_token_parser.specs.Giving.{Gives};
 
 use crate::constants::{constant, names};

@@ -1,6 +1,7 @@
 //! The walk over expressions: each phrase gets its type.
 ghost use Rattle.std.specs.Prelude.{◌≡◌};
-ghost use Rattle.pfc_tree.specs.views.Exprs.{expr_view, simple_view, term_view, factor_view, desig_view, summands_view, multipliers_view, selectors_view, exprs_view, actual_view, actuals_view};
+ghost use Rattle.pfc_tree.specs.views.Exprs.{expr_view, simple_view, term_view, factor_view, desig_view, summands_view, multipliers_view, selectors_view};
+ghost use Rattle.pfc_tree.specs.views.Exprs.{exprs_view, actual_view, actuals_view};
 ghost use Rattle.pfc_types.specs.Scopes as scopes;
 ghost use Rattle.pfc_types.specs.rules.Routines as routines;
 ghost use Rattle.pfc_types.specs.rules.Expressions as expressions;

@@ -1,5 +1,5 @@
 -- What the meaning of the whole language is, opened once for each use.
-use Rattle.std.proofs.Common.{◌≡◌, Bool, ℕ, false, List, length, refl, sym, ap, ◌∙◌}
+use Rattle.std.proofs.Common.{◌≡◌, Bool, ℕ, List, length, refl, sym, ap, ◌∙◌}
 use Rattle.pfc_code.specs.Images.{PlainImage}
 use Rattle.pfc_code.specs.declared.images.ProcessInfo.{ProcessInfo}
 use Rattle.pfc_report.specs.Reports.{report_text}
@@ -18,10 +18,6 @@ use Rattle.pfc_outcome.specs.Outcomes.{instruction_count}
 use Rattle.pfc_outcome.specs.Requests.{Settings}
 use Rattle.pfc_walk.specs.Meanings.{run_of, told_of, whole_meaning}
 use Rattle.pfc_walk.specs.Running.{IsEnded, labelled_image, processes_by, report_by}
-
-pub built : (t : ProgramTree) → whole_meaning.is_unbuilt t ≡ false
-unfolding whole_meaning
-built t = refl
 
 -- how many instructions a program has, by its image
 pub counts : (t : ProgramTree) → instruction_count whole_meaning t ≡ length (image_of t).code

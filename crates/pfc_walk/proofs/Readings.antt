@@ -22,7 +22,7 @@ use Rattle.pfc_outcome.specs.Outcomes.{large, most_instructions, no_fault, refus
 use Rattle.pfc_outcome.specs.Requests.{Request, policy_of}
 use Rattle.pfc_walk.specs.Meanings.{whole_meaning}
 use Rattle.pfc_walk.specs.Reading.{IsSound, AreRead, IsRead, RefusedFor, IsUnread, AreUnread, IsWithout, program_outcome}
-use Rattle.pfc_walk.proofs.Meant.{built, counts}
+use Rattle.pfc_walk.proofs.Meant.{counts}
 use Rattle.pfc_walk.specs.declared.reading.Unread.{Unread}
 use Rattle.pfc_walk.specs.declared.reading.Unread.TheVariants.{Refused, Memory}
 
@@ -73,7 +73,7 @@ fitting_program tree n whole counted few =
 
 pub large_refusal : (tree : ProgramTree) → first_fault tree ≡ None → 200000 < length (image_of tree).code → IsWithout tree (Refused too_large)
 large_refusal tree whole more = λ request.
-    large whole (built tree) (subst (λ (k : ℕ). most_instructions < k) (sym (counts tree)) more) refl
+    large whole (subst (λ (k : ℕ). most_instructions < k) (sym (counts tree)) more) refl
 
 -- the first broken rule refuses a tree
 pub static_refusal : (tree : ProgramTree) (r : Refusal) → first_fault tree ≡ Some r → IsWithout tree (Refused r)
@@ -115,7 +115,7 @@ program_outcome_is text tree is request none =
           record {
             cutting = tokens is.ts is.end;
             cut = is.cut;
-            is = no_fault tree is.read.written is.read.level (run is.read.sound.whole (built tree) is.read.sound.few refl);
+            is = no_fault tree is.read.written is.read.level (run is.read.sound.whole is.read.sound.few refl);
           };
       listed = ap (behind (listing_written request text)) (sym (without_code whole_meaning tree request ran none));
     }

@@ -1,5 +1,4 @@
 -- The meaning of programs of the whole language, by their source text.
-use Rattle.std.specs.Prelude.{false}
 use Rattle.pfc_tree.specs.trees.Parts.{ProgramTree}
 use Rattle.pfc_sched.specs.Picks.{first_picking}
 use Rattle.pfc_semantics.specs.Runs as runs
@@ -16,6 +15,5 @@ run_of t s = run t s.input s.seed (first_picking s.policy) s.limit
 abbrev pub told_of : runs.Run → Run
 told_of f = record { ending = f.ending; output = f.config.output; standings = standings f.config }
 
--- Nothing of the language is left to be built.
 unfoldable pub whole_meaning : Meaning
-whole_meaning = record { is_unbuilt = λ t. false; image = λ t. image_of t; run = λ t s. told_of (run_of t s) }
+whole_meaning = record { image = λ t. image_of t; run = λ t s. told_of (run_of t s) }

@@ -1,11 +1,11 @@
-use Rattle.std.proofs.Common.{◌≡◌, ℕ, List, ◌∙◌, subst}
+use Rattle.std.proofs.Common.{ℕ, List, ◌∙◌, subst}
 use Rattle.pfc_code.specs.Images.{plain_image}
 use Rattle.pfc_outcome.specs.Loaded.{asks}
-use Rattle.pfc_outcome.specs.Outcomes.{IsOutcomeOfText, IsUnlisted, behind, listing_written, not_built_yet, refused, without_run}
+use Rattle.pfc_outcome.specs.Outcomes.{IsOutcomeOfText, IsUnlisted, behind, listing_written, refused, without_run}
 use Rattle.pfc_top.specs.Answers.{IsWritten, Replies}
 use Rattle.pfc_top.specs.Meanings.{source_meaning}
 use Rattle.pfc_top.specs.Running.{program_outcome}
-use Rattle.pfc_top.proofs.Images.{not_built_for, refused_for}
+use Rattle.pfc_top.proofs.Images.{refused_for}
 use Rattle.pfc_top.proofs.Outcomes.{listed_outcome, memory_replies, program_outcome_is, replied}
 use Rattle.pfc_top.proofs.answering.answer.Goals as goal
 
@@ -41,16 +41,3 @@ returns-in_ok-line-in-Err-Refused-clause-replies g c =
     (subst (λ (line : List ℕ). IsWritten (behind (listing_written request text) (without_run 1 line)) c.refuse.result
     (g.O.Sink.written c.args.sink.now) (g.O.Sink.written c.refuse.new.sink))
     (c.deref.ensures.value ∙ c.in_ok-line-in-Err-Refused.ensures) c.refuse.ensures.written))
-
-pub returns-in-Err-NotBuilt-clause-replies : goal.returns-in-Err-NotBuilt-clause-replies
-returns-in-Err-NotBuilt-clause-replies g c =
-    let text = c.bytes-text.result.now in
-    let request = asks c.args.options.now c.args.loaded.now in
-    subst (λ (t : List ℕ). Replies (IsOutcomeOfText source_meaning t request) c.refuse-in-Err-NotBuilt.result (g.O.Sink.written c.args.sink.now)
-    (g.O.Sink.written c.refuse-in-Err-NotBuilt.new.sink)) c.bytes-text.ensures
-    (replied (IsOutcomeOfText source_meaning text request) (behind (listing_written request text) not_built_yet)
-    (listed_outcome text request not_built_yet
-    (not_built_for (IsUnlisted source_meaning text) c.in-Err-NotBuilt.field-0 c.in-Err-NotBuilt.field-0-is c.in-Err-NotBuilt.ensures.none request))
-    (c.an_outcome_is_one.ensures.text source_meaning text request) c.refuse-in-Err-NotBuilt.result (g.O.Sink.written c.args.sink.now)
-    (g.O.Sink.written c.refuse-in-Err-NotBuilt.new.sink)
-    c.refuse-in-Err-NotBuilt.ensures.written)

@@ -1,17 +1,16 @@
-use Rattle.std.proofs.Common.{ℕ, List, rules, refl, sym, subst, Ok, Err}
-use Rattle.pfc_code.specs.Images.{plain_image}
-use Rattle.pfc_drive.specs.Standing.{Stands}
+use Rattle.std.proofs.Common.{rules, ℕ, List, refl, sym, subst, Ok, Err}
+use Rattle.pfc_code.specs.Images.{PlainImage, plain_image}
 use Rattle.pfc_io.specs.Writes.{AppendsFront}
 use Rattle.pfc_io.proofs.Written.{AppendsFront-append, AppendsFront-none}
-use Rattle.pfc_meaning.specs.Configurations.{start}
-use Rattle.pfc_relation.specs.Programs.{program_of}
+use Rattle.pfc_machines.specs.Machines.{CanStart}
+use Rattle.pfc_run_invariants.specs.Inputs.{AreBytes}
 use Rattle.pfc_outcome.specs.Loaded.{asks}
 use Rattle.pfc_outcome.specs.Outcomes.{Outcome, behind, ran_with, stopped_at}
 use Rattle.pfc_outcome.specs.Requests.{settings_of}
 use Rattle.pfc_top.specs.Listings.{list_text}
 use Rattle.pfc_top.specs.Meanings.{source_meaning}
 use Rattle.pfc_top.specs.Running.{program_outcome}
-use Rattle.pfc_top.proofs.Images.{main_image}
+use Rattle.pfc_top.proofs.Courses.{starts}
 use Rattle.pfc_top.proofs.Outcomes.{program_as, stopped_written, written_as, written_behind}
 use Rattle.pfc_top.proofs.answering.answer_image.Goals as goal
 
@@ -31,19 +30,22 @@ returns-in_err-list-in-Ok-clause-written g c = λ tree is.
     (AppendsFront-append _ _ _ _ c.in_err-list-in-Ok.ensures.front))
 
 pub start-requires : goal.start-requires
-start-requires g c = let (tree, is) = c.requires.image in record { tree = (tree, main_image tree (plain_image c.args.image.now) is) }
+start-requires g c =
+    let (tree, is) = c.requires in
+    subst (λ (i : PlainImage). CanStart i) (sym is.same)
+    (c.checked_programs_run.ensures.start tree is.runnable.small.lawful is.runnable.whole is.runnable.few)
 
-pub run-requires-clause-begun : goal.run-requires-clause-begun
-run-requires-clause-begun g c =
-    let (tree, is) = c.requires.image in (
+pub run-requires : goal.run-requires
+run-requires g c =
+    let (tree, is) = c.requires in (
       tree,
       settings_of (asks c.args.options.now c.args.loaded.now) c.in-Ok.policy,
       record {
         is = is;
+        bytes = subst (λ (xs : List ℕ). AreBytes xs) c.bytes-input.ensures c.are_bytes.ensures;
         start =
-            subst (λ (input : List ℕ). Stands (program_of tree) c.in_ok-session-in-Ok.session (start tree input c.args.options.now.seed)) c.bytes.ensures
-            (c.in_ok-session-in-Ok.ensures.stands tree
-            (main_image tree (plain_image c.args.image.now) is) is.runnable.small is.runnable.whole is.runnable.built);
+            starts tree (plain_image c.args.image.now) is c.in_ok-session-in-Ok.session.machine c.bytes-input.result.now c.args.loaded.now.input
+            c.args.options.now.seed c.in_ok-session-in-Ok.ensures c.bytes-input.ensures;
         picks = refl;
         most = refl;
       },
@@ -62,9 +64,10 @@ returns-in_ok-list-in-Ok-clause-written g c = λ tree is.
     (g.O.Sink.written c.args.sink.now) (g.O.Sink.written c.list.new.sink) (g.O.Sink.written c.run.new.sink) c.in_ok-list-in-Ok.ensures.whole
     (c.run.ensures.written tree (settings_of (asks c.args.options.now c.args.loaded.now) c.in-Ok.policy) (record {
       is = is;
+      bytes = subst (λ (xs : List ℕ). AreBytes xs) c.bytes-input.ensures c.are_bytes.ensures;
       start =
-          subst (λ (input : List ℕ). Stands (program_of tree) c.in_ok-session-in-Ok.session (start tree input c.args.options.now.seed)) c.bytes.ensures
-          (c.in_ok-session-in-Ok.ensures.stands tree (main_image tree (plain_image c.args.image.now) is) is.runnable.small is.runnable.whole is.runnable.built);
+          starts tree (plain_image c.args.image.now) is c.in_ok-session-in-Ok.session.machine c.bytes-input.result.now c.args.loaded.now.input
+          c.args.options.now.seed c.in_ok-session-in-Ok.ensures c.bytes-input.ensures;
       picks = refl;
       most = refl;
     })))

@@ -1,9 +1,16 @@
-use Rattle.std.proofs.Common.{rules, ℕ, ap, ◌∙◌}
+use Rattle.std.proofs.Common.{rules, ℕ, List, ap, ◌∙◌, subst}
+use Rattle.pfc_tree.specs.Symbols.{Symbol}
 use Rattle.pfc_tree.specs.views.Parts.{tree_view}
+use Rattle.pfc_number_laws.specs.Tokens.{FitSymbols}
 use Rattle.pfc_outcome.specs.Outcomes.{syntax_refusal}
 use Rattle.pfc_top.specs.declared.compiling.Uncompiled.TheVariants.{Refused}
 use Rattle.pfc_top.proofs.Images.{tokens_image, tokens_refusal, syntax_refused}
 use Rattle.pfc_top.proofs.compiling.compile_tokens.Goals as goal
+
+pub compile_tree-requires-clause-fits : goal.compile_tree-requires-clause-fits
+compile_tree-requires-clause-fits c =
+    c.checked_programs_have_small_numbers.ensures.written (tree_view c.in-Ok.tree)
+    (subst (λ (kinds : List Symbol). FitSymbols kinds) c.in-Ok.ensures.tree.written c.requires.numbers)
 
 pub returns-in-Ok-clause-image : goal.returns-in-Ok-clause-image
 returns-in-Ok-clause-image c =

@@ -1,9 +1,0 @@
-pub mod Advances
-pub mod Beginnings
-pub mod Courses
-pub mod Deeds
-pub mod Programs
-pub mod Standing
-pub mod Standings
-pub mod States
-pub mod Steps

@@ -1,9 +1,0 @@
-pub mod Codes
-pub mod Names
-pub mod Plain
-pub mod Sites
-pub mod Expressions
-pub mod Calls
-pub mod Statements
-pub mod Objects
-pub mod Images

@@ -1,4 +1,0 @@
-pub mod Cells
-pub mod Phrases
-pub mod Statements
-pub mod Images

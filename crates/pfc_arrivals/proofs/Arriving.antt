@@ -18,8 +18,8 @@ use Rattle.pfc_select_actions.specs.Selects.{takes_up}
 use Rattle.pfc_standing_code.specs.Settings.{Trial, Attempt, Setting, of_own, of_turn, of_another, IsAt}
 use Rattle.pfc_standing_code.specs.Effects.{Arm, effect_of, CanPerform, onward, otherwise}
 use Rattle.pfc_standing_code.specs.Following.{Arrived, Follows, arrives, moves, DoesIn}
-use Rattle.pfc_following_structures.proofs.Left.{remainder_follows}
-use Rattle.pfc_following_awaits.proofs.Anywhere.{values_follow_anywhere}
+use Rattle.pfc_following_source.proofs.structures.Left.{remainder_follows}
+use Rattle.pfc_following_source.proofs.awaits.Anywhere.{values_follow_anywhere}
 use Rattle.pfc_representation.specs.Levels.{Facts, program_in, LivingLevel}
 use Rattle.pfc_representation.specs.Rooms.{own_address}
 use Rattle.pfc_representation.specs.Callers.{IsWithin}

@@ -35,9 +35,9 @@ use Rattle.pfc_run_invariants.proofs.Runs.{settled_fits, start_fits, step_fits}
 use Rattle.pfc_inside_programs.proofs.Scoped.{is_scoped}
 use Rattle.pfc_inside_programs.proofs.Programs.{has_text}
 use Rattle.pfc_callee_laws.proofs.Program.{declared_in}
-use Rattle.pfc_arrived_laws.proofs.Entering.{passes_locations}
-use Rattle.pfc_arrived_laws.proofs.Requeueing.{requeues_inside}
-use Rattle.pfc_arrived_laws.proofs.Resuming.{names_its_monitor}
+use Rattle.pfc_checked_runs.proofs.arrived.Entering.{passes_locations}
+use Rattle.pfc_checked_runs.proofs.arrived.Requeueing.{requeues_inside}
+use Rattle.pfc_checked_runs.proofs.arrived.Resuming.{names_its_monitor}
 use Rattle.pfc_holding_laws.proofs.Inside.{resumer_holds, ready_alive}
 use Rattle.pfc_number_runs.proofs.Reached.{checked_take}
 use Rattle.pfc_representation.specs.Acting.{TakesNumber}

@@ -14,8 +14,8 @@ use Rattle.pfc_representation.specs.Levels.{Facts, program_in, LivingLevel}
 use Rattle.pfc_representation.specs.Acting.{IsActing}
 use Rattle.pfc_kept_own_actions.proofs.Arrived.{has_setting}
 use Rattle.pfc_accept_programs.specs.Told.{TellsOfAccepts}
-use Rattle.pfc_accept_runs.proofs.Placed.{keeps_offers, next_stands, next_stand}
-use Rattle.pfc_accept_runs.proofs.Shown.{keeps_accepts}
+use Rattle.pfc_checked_runs.proofs.accepts.Placed.{keeps_offers, next_stands, next_stand}
+use Rattle.pfc_checked_runs.proofs.accepts.Shown.{keeps_accepts}
 use Rattle.pfc_kept_meetings.specs.Accepts.{KeepsAccepts}
 use Rattle.pfc_kept_actions.specs.Asked.{AskedOfCall, AskedOfMeeting, IsAsked}
 

@@ -53,10 +53,10 @@ use Rattle.pfc_standing_code.proofs.Parts.{words_once}
 use Rattle.pfc_kept_code.proofs.Seen.{branch_seen}
 use Rattle.pfc_following_expressions.proofs.Glue.{room_for}
 use Rattle.pfc_following_expressions.proofs.Held.{shaped_cells}
-use Rattle.pfc_following_selects.specs.Phrases.{Behind}
-use Rattle.pfc_following_selects.proofs.Counts.{words_count}
-use Rattle.pfc_following_selects.proofs.Jumps.{behind_performs}
-use Rattle.pfc_following_selects.proofs.Branches.{branch_performs, meeting_performs}
+use Rattle.pfc_following_source.specs.selects.Phrases.{Behind}
+use Rattle.pfc_following_source.proofs.selects.Counts.{words_count}
+use Rattle.pfc_following_source.proofs.selects.Jumps.{behind_performs}
+use Rattle.pfc_following_source.proofs.selects.Branches.{branch_performs, meeting_performs}
 use Rattle.pfc_following_source.specs.Behind.{GoesOnAt, Over, GoesOn, GivesNumber, GivesValue, BehindWayBack, BehindCall, BehindAccept, BehindMeeting}
 use Rattle.pfc_following_source.specs.Behind.{branch_of, BehindOpen, BehindAll, BehindElse, BehindScan, BehindPass, in_trial, LeavesBehind}
 

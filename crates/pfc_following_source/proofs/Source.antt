@@ -5,8 +5,8 @@ use Rattle.pfc_semantics.specs.Rewriting.{from_value, going, holding}
 use Rattle.pfc_standing_code.specs.Settings.{Setting}
 use Rattle.pfc_standing_code.specs.Effects.{Arm}
 use Rattle.pfc_standing_code.specs.Following.{Follows, arrives, moves}
-use Rattle.pfc_following_structures.proofs.Left.{remainder_follows}
-use Rattle.pfc_following_awaits.proofs.Anywhere.{values_follow_anywhere}
+use Rattle.pfc_following_source.proofs.structures.Left.{remainder_follows}
+use Rattle.pfc_following_source.proofs.awaits.Anywhere.{values_follow_anywhere}
 use Rattle.pfc_following_source.specs.Source.{none_more, one_more, LeadsToAction, CodeFollowsSource}
 use Rattle.pfc_following_source.proofs.Places.{stands_there}
 

@@ -6,4 +6,10 @@
 
 mod laws;
 
-pub use laws::{actions_lead_on, code_follows_source, meetings_lead_on};
+pub use laws::{
+    accepts_follow, actions_lead_on, alternatives_follow, branches_lead_on, case_statements_follow,
+    cobegins_follow, code_follows_source, ends_of_passes_follow, every_statement_follows,
+    for_statements_follow, if_statements_follow, lists_follow, locations_follow, loops_follow,
+    meetings_lead_on, remainders_follow, select_statements_follow, selects_follow,
+    single_statements_follow, values_follow,
+};

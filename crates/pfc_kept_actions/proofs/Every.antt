@@ -58,12 +58,12 @@ use Rattle.pfc_kept_meetings.proofs.Calling.{entry_call_kept}
 use Rattle.pfc_kept_meetings.proofs.Joining.{accept_is_kept}
 use Rattle.pfc_kept_meetings.proofs.Parts as meetings
 use Rattle.pfc_kept_meetings.proofs.Told.{has_processes, has_typed_entries}
-use Rattle.pfc_kept_selects.specs.Groups.{TakesMessage, TakesEntry}
-use Rattle.pfc_kept_selects.proofs.Deciding.{unmatched_are_kept}
-use Rattle.pfc_kept_selects.proofs.Divided.{divided}
-use Rattle.pfc_kept_selects.proofs.Messages.{messages_are_kept}
-use Rattle.pfc_kept_entries.specs.Selects.{StandWithin}
-use Rattle.pfc_kept_entries.proofs.Entered.{entries_are_kept}
+use Rattle.pfc_kept_meetings.specs.selects.Groups.{TakesMessage, TakesEntry}
+use Rattle.pfc_kept_meetings.proofs.selects.Deciding.{unmatched_are_kept}
+use Rattle.pfc_kept_meetings.proofs.selects.Divided.{divided}
+use Rattle.pfc_kept_meetings.proofs.selects.Messages.{messages_are_kept}
+use Rattle.pfc_kept_meetings.specs.entries.Selects.{StandWithin}
+use Rattle.pfc_kept_meetings.proofs.entries.Entered.{entries_are_kept}
 use Rattle.pfc_kept_actions.proofs.Creatable.{are_creatable}
 use Rattle.pfc_kept_actions.proofs.Numbered.{has_singles}
 use Rattle.pfc_kept_actions.specs.Asked.{AskedOfCall, AskedOfMeeting, IsAsked}

@@ -9,8 +9,8 @@ use Rattle.pfc_translation.specs.Images.{image_of}
 use Rattle.pfc_representation.specs.Levels.{Facts, program_in, LivingLevel, IsProgram}
 use Rattle.pfc_kept_meetings.specs.Accepts.{KeepsAccepts}
 use Rattle.pfc_kept_meetings.specs.Waiting.{KeepsOffers, StandsWithin}
-use Rattle.pfc_kept_selects.specs.Groups.{TakesEntry}
-use Rattle.pfc_kept_entries.specs.Selects.{StandWithin}
+use Rattle.pfc_kept_meetings.specs.selects.Groups.{TakesEntry}
+use Rattle.pfc_kept_meetings.specs.entries.Selects.{StandWithin}
 
 -- Of processes that wait to accept or to be accepted it is told what they show.
 abbrev pub AskedOfCall : Facts → Config → Call → Type 0

@@ -1,3 +1,5 @@
+pub mod entries
+pub mod selects
 pub mod Tried
 pub mod Lenders
 pub mod Settled

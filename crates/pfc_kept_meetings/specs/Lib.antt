@@ -1,3 +1,5 @@
+pub mod entries
+pub mod selects
 pub mod Groups
 pub mod Owners
 pub mod Accepts

@@ -1,5 +1,0 @@
-use Rattle.pfc_arrived_laws.proofs.Requeueing.{requeues_inside}
-use Rattle.pfc_arrived_laws.proofs.laws.requeues_stand_inside.Goals as goal
-
-pub returns : goal.returns
-returns c = λ facts m d p level acting arrived. requeues_inside facts m d p level acting arrived

@@ -1,5 +1,0 @@
-use Rattle.pfc_following_awaits.proofs.Anywhere.{locations_follow_anywhere}
-use Rattle.pfc_following_awaits.proofs.laws.locations_follow.Goals as goal
-
-pub returns : goal.returns
-returns c = λ g b x. locations_follow_anywhere g b x

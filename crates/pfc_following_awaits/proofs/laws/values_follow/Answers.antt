@@ -1,5 +1,0 @@
-use Rattle.pfc_following_awaits.proofs.Anywhere.{values_follow_anywhere}
-use Rattle.pfc_following_awaits.proofs.laws.values_follow.Goals as goal
-
-pub returns : goal.returns
-returns c = λ g b x. values_follow_anywhere g b x

@@ -1,5 +1,0 @@
-use Rattle.pfc_following_structures.proofs.Anywhere.{accepting_follows}
-use Rattle.pfc_following_structures.proofs.laws.accepts_follow.Goals as goal
-
-pub returns : goal.returns
-returns c = λ g b env. accepting_follows g b env

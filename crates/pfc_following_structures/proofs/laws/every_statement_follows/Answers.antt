@@ -1,8 +1,0 @@
-use Rattle.pfc_following_structures.proofs.Anywhere.{every_statement_anywhere, every_list_anywhere}
-use Rattle.pfc_following_structures.proofs.laws.every_statement_follows.Goals as goal
-
-pub returns-clause-statement : goal.returns-clause-statement
-returns-clause-statement c = λ g b env. every_statement_anywhere g b env
-
-pub returns-clause-list : goal.returns-clause-list
-returns-clause-list c = λ g b env. every_list_anywhere g b env

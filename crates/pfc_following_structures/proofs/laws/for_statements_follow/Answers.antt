@@ -1,5 +1,0 @@
-use Rattle.pfc_following_structures.proofs.Anywhere.{for_statement_follows}
-use Rattle.pfc_following_structures.proofs.laws.for_statements_follow.Goals as goal
-
-pub returns : goal.returns
-returns c = λ g b env. for_statement_follows g b env

@@ -1,5 +1,0 @@
-use Rattle.pfc_kept_entries.proofs.Entered.{entries_are_kept}
-use Rattle.pfc_kept_entries.proofs.laws.entries_of_selects_are_kept.Goals as goal
-
-pub returns : goal.returns
-returns c = entries_are_kept

@@ -1,5 +1,0 @@
-use Rattle.pfc_kept_selects.proofs.Deciding.{unmatched_are_kept}
-use Rattle.pfc_kept_selects.proofs.laws.unmatched_selects_are_kept.Goals as goal
-
-pub returns : goal.returns
-returns c = unmatched_are_kept

@@ -5,6 +5,7 @@ use mir.Val.{bool_byte}
 use Rattle.std.proofs.lemmas.List.{length-append, append-nil, append_assoc, get_or_append_left, get_or-append_right, get_or_default, length-take-le, take_at}
 use Rattle.std.proofs.lemmas.List.{take_more, take-append-le, set-append_left, set-append_right}
 use Rattle.std.proofs.lemmas.Nat.{div_below, mod_below, pow_pos, pow_below}
+use Rattle.std.proofs.lemmas.Nat.{zero_from_ones}
 use Rattle.std.proofs.Math.Nat.{div-add-mod}
 use Rattle.std.proofs.Math.Seq.{take-append-add}
 use Rattle.pfc_lists.specs.Bits.{bits, flags, numbers_from, numbers}
@@ -274,3 +275,16 @@ flags-past ws n le =
     let all : length (flags ws) ≡ 64 * length ws = flags-length ws in
     let is : 64 * (n / 64) + n % 64 ≡ n = number-is n in
     omega (arith, all, is, le)
+
+-- a word has no numbers exactly where it is 0
+positive : (n : ℕ) → (n ≡ 0 → ⊥) → 0 < n
+positive zero h = absurd (h refl)
+positive (suc n) h = omega arith
+
+pub some-held : (n w : ℕ) → w < 2 ^ 64 → (w ≡ 0 → ⊥) → 0 < length (numbers_from n (bits 64 w))
+some-held n w lt h = positive (length (numbers_from n (bits 64 w))) (λ e. h (zero_from_ones w (sym (ones-bits n 64 w lt) ∙ e)))
+
+pub no-number : (n : ℕ) → length (numbers_from n (bits 64 0)) ≡ 0
+no-number n =
+    ap length (numbers-none n (bits 64 0) (λ k. ap (λ v. get_or v k false) (bits-zero 64 ∙ sym (append-nil (replicate 64 false)))
+    ∙ false-more 64 [] (λ j. refl) k))

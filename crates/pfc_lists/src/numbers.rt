@@ -2,7 +2,7 @@
 ghost use Rattle.std.specs.Prelude.{◌≡◌, ◌<◌, ◌≤◌, ◌+◌, ◌*◌, ◌/◌, ℕ, false, length, get_or, set, take, IfOk};
 ghost use Rattle.pfc_lists.specs.Bits.{flags, numbers};
 
-use crate::words::{has_bit, low_bits, number_of_bit, ones, with_bit};
+use crate::words::{has_bit, is_empty, low_bits, number_of_bit, number_of_lowest, ones, with_bit};
 use pfc_base::Memory;
 use std::alloc::Global;
 use std::marker::Model;
@@ -71,8 +71,34 @@ impl Numbers {
         *word = with_bit(*word, number % 64, held);
     }
 
-    /// The number at a place, counted from 0, among those of the set in order.
+    /// The number at a place, counted from 0, among those of the set in order. The first, which is the only one where one process is ready, is found
+    /// without a count.
     pub fn at(&self, place: u32) -> u32
+        requires { place < length (numbers self.now) }
+        ensures { result ≡ get_or (numbers self.now) place 0 }
+    {
+        if place == 0 {
+            return self.first();
+        }
+        self.counted_at(place)
+    }
+
+    /// The lowest number.
+    fn first(&self) -> u32
+        requires { 0 < length (numbers self.now) }
+        ensures { result ≡ get_or (numbers self.now) 0 0 }
+    {
+        for (k, word) in self.words.iter().enumerate() {
+            if !is_empty(*word) {
+                return number_of_lowest(*word, 64 * k as u32);
+            }
+        }
+        unreachable!()
+    }
+
+    /// The number at a place, by the counts of the words before it.
+    #[inline(never)]
+    fn counted_at(&self, place: u32) -> u32
         requires { place < length (numbers self.now) }
         ensures { result ≡ get_or (numbers self.now) place 0 }
     {

@@ -1,5 +1,5 @@
 //! The 64 lowest numbers of a set, as the bits of one word.
-ghost use Rattle.std.specs.Prelude.{◌≡◌, ◌<◌, ◌≤◌, ◌+◌, ◌%◌, ◌^◌, ℕ, false, length, get_or, set};
+ghost use Rattle.std.specs.Prelude.{◌≡◌, ◌<◌, ◌≤◌, ◌+◌, ◌%◌, ◌^◌, ℕ, true, false, length, get_or, set};
 ghost use Rattle.pfc_lists.specs.Bits.{bits, numbers_from};
 
 /// What is left of a search for a bit: the bits among which it is, how many set ones are before it there, and the
@@ -51,6 +51,14 @@ pub(crate) fn ones(word: u64) -> u32
     word.count_ones()
 }
 
+/// Whether no bit is set, and so none of its numbers is held wherever the lowest bit stands.
+pub(crate) fn is_empty(word: u64) -> bool
+    ensures none { result ≡ true → (n : ℕ) → length (numbers_from n (bits 64 word)) ≡ 0 }
+    ensures some { result ≡ false → (n : ℕ) → 0 < length (numbers_from n (bits 64 word)) }
+{
+    word == 0
+}
+
 /// The number of a set bit, of which so many are lower, where the lowest bit has this number. The lowest of all, which is the only
 /// one where one process is ready, is found in one look.
 pub(crate) fn number_of_bit(word: u64, before: u32, lowest: u32) -> u32
@@ -65,7 +73,7 @@ pub(crate) fn number_of_bit(word: u64, before: u32, lowest: u32) -> u32
 }
 
 /// The number of the lowest bit that is set.
-fn number_of_lowest(word: u64, lowest: u32) -> u32
+pub(crate) fn number_of_lowest(word: u64, lowest: u32) -> u32
     requires found { 0 < length (numbers_from lowest (bits 64 word)) }
     requires small { lowest < 2 ^ 30 }
     ensures { result ≡ get_or (numbers_from lowest (bits 64 word)) 0 0 }

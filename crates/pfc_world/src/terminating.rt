@@ -8,6 +8,7 @@ use crate::World;
 impl World {
     /// Every child that waits in a select with an open `terminate` finishes, where nothing else can happen any more; and
     /// main is ready where it waits at `coend`.
+    #[inline(never)]
     pub fn terminate(&mut self)
         requires { may_all_end self.old.rows ≡ true }
         ensures { self.new ≡ terminated self.old }

@@ -185,6 +185,7 @@ impl World {
     }
 
     /// The wait of a process is over.
+    #[inline(never)]
     pub fn wake(&mut self, p: u32)
         requires { IsWaiting (at self.old.rows p) }
         ensures world { self.new ≡ placed self.old p Is_ready }
@@ -391,6 +392,7 @@ impl World {
     }
 
     /// Whether the children that wait in a select with an open `terminate` are all that are unfinished.
+    #[inline(never)]
     fn children_may_end(&self) -> bool
         ensures { result ≡ children_may_end self.now.rows }
     {
@@ -468,6 +470,7 @@ impl World {
         }
     }
 
+    #[inline(never)]
     fn move_to(&mut self, moment: u64)
         requires { self.old.acting ≡ None }
         ensures { self.new ≡ moved_to (Some moment) self.old }

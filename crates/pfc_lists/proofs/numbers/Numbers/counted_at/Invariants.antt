@@ -1,6 +1,6 @@
 use Rattle.std.proofs.Common.{◌≡◌, ◌<◌, ◌*◌, length, get_or, drop}
 use Rattle.pfc_lists.specs.Bits.{flags, numbers, numbers_from}
-use Rattle.pfc_lists.proofs.numbers.Numbers.at.Given as goal
+use Rattle.pfc_lists.proofs.numbers.Numbers.counted_at.Given as goal
 
 abbrev pub invariant-loop-k : goal.invariant-loop-k
 invariant-loop-k l = record {

@@ -1,7 +1,7 @@
 use Rattle.std.proofs.Common.{◌<◌, ◌≤◌, ◌*◌, get_or, arith, ap, ◌∙◌, subst}
 use Rattle.pfc_lists.specs.Bits.{flags, numbers}
 use Rattle.pfc_lists.proofs.Flags.{here-same, behind-within, behind-same, none-behind}
-use Rattle.pfc_lists.proofs.numbers.Numbers.at.Goals as goal
+use Rattle.pfc_lists.proofs.numbers.Numbers.counted_at.Goals as goal
 
 pub number_of_bit-requires-clause-found : goal.number_of_bit-requires-clause-found
 number_of_bit-requires-clause-found c =

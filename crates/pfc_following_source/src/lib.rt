@@ -1,7 +1,9 @@
-//! The code of a process follows its source text: where it stands for what the process has still to do, quiet instructions lead to the
-//! action that comes next, and behind that action it stands for what is left.
+//! The code of a process follows its source text: where it stands for what the process has still to do, quiet instructions lead to the action that comes next,
+//! and behind that action it stands for what is left.
 //!
-//! It has no code of its own.
+//! It promises that of statements, those that hold others among them, and of what is left behind one; of selects, whose alternatives are gone through up to the
+//! decision, and whose branch that is taken performs what is left; of what is awaited, once the value or the address is on top; and of the whole, where the
+//! quiet instructions are no more than addresses lie between. It has no code of its own.
 #![tactic(auto)]
 
 mod laws;

@@ -40,16 +40,16 @@ fn try_outward(machine: &mut Machine, image: &Image, r: Running, i: Instr) -> St
 }
 
 /// One that is neither a call nor a return.
-fn try_quiet(machine: &mut Machine, image: &Image, r: Running) -> Stepped
+fn try_quiet(machine: &mut Machine, image: &Image, r: Running, i: Instr) -> Stepped
     requires short { length image.now.code.items < 2 ^ 32 }
-    requires next { (i : Instr) × (next_instr (plain_image image.now) r.number machine.old ≡ Some i) × CanTry (plain_image image.now) i r.number machine.old }
-    requires other { (k l : ℕ) → next_instr (plain_image image.now) r.number machine.old ≡ Some (Instr.CALL k l) → ⊥ }
+    requires next { next_instr (plain_image image.now) r.number machine.old ≡ Some i }
+    requires can { CanTry (plain_image image.now) i r.number machine.old }
+    requires other { (k l : ℕ) → i ≡ Instr.CALL k l → ⊥ }
     ensures process { (stepper result).number ≡ r.number }
-    ensures tried { (i : Instr) → next_instr (plain_image image.now) r.number machine.old ≡ Some i
-        → IsTried (effect image.now.blocks.items i r.number machine.old.stacks)
+    ensures tried { IsTried (effect image.now.blocks.items i r.number machine.old.stacks)
         (quiet_effect image.now.scans.items i r.number machine.old) i machine.old result machine.new }
 {
-    match machine.stacks.run_instr(image, r) {
+    match machine.stacks.perform_instr(&image.blocks, r, i) {
         Instructed::Quiet(r) => Stepped::Passed(r),
         Instructed::Acted(r) => Stepped::Acted(r),
         Instructed::Fault { r, fault } => Stepped::Faulted { r, fault },
@@ -80,6 +80,6 @@ pub(crate) fn step(machine: &mut Machine, image: &Image, r: Running) -> Stepped
         Instr::CALL(_, _) => Stepped::Stands { r, i },
         Instr::RET => Stepped::Stands { r, i },
         Instr::RETF => Stepped::Stands { r, i },
-        _ => try_quiet(machine, image, r),
+        _ => try_quiet(machine, image, r, i),
     }
 }

@@ -45,3 +45,13 @@ pushed_more ws below j v lt e =
     ap (λ (w : ℤ). w ∷ (reverse (take j ws) ++ below)) e
     ∙ sym (ap (λ (xs : List ℤ). reverse xs ++ below) (take_more ws j (pos 0) lt)
     ∙ ap (λ (xs : List ℤ). xs ++ below) (reverse-append (take j ws) (get_or ws j (pos 0) ∷ [])))
+
+-- one cell
+pub one_loaded : (stacks : Stacks) (r : Ref) (below : List ℤ) → AreLive stacks r 1 →
+    get_or (cells_of stacks r.process) r.cell (pos 0) ∷ below ≡ reverse (cells_at stacks r 1) ++ below
+one_loaded stacks r below live =
+    let cells : List ℤ = cells_of stacks r.process in
+    let rest : length (drop r.cell cells) ≡ length cells - r.cell = length-drop r.cell cells in
+    let place : r.cell ≡ r.cell + 0 = omega arith in
+    pushed_more (drop r.cell cells) below 0 (get_or cells r.cell (pos 0)) (omega (arith, rest, live))
+    (ap (λ (n : ℕ). get_or cells n (pos 0)) place ∙ sym (get_or-drop r.cell cells 0 (pos 0)))

@@ -99,3 +99,15 @@ word_at_depth ops k z j h lt =
     ∙ ap (λ (n : ℕ). get_or (take z (drop k ops)) (n - 1 - j) (pos 0)) size
     ∙ get_or-take z (drop k ops) (z - 1 - j) (pos 0) (omega arith)
     ∙ get_or-drop k ops (z - 1 - j) (pos 0))
+
+-- one word
+pub one_written : (stacks : Stacks) (r : Ref) (v : ℤ) → AreLive stacks r 1 → with_cell stacks r.process r.cell v ≡ written stacks r (v ∷ [])
+one_written stacks r v live =
+    let place : r.cell ≡ r.cell + 0 = omega arith in
+    ap (λ (s : Stacks). with_cell s r.process r.cell v) (written_none stacks r)
+    ∙ ap (λ (n : ℕ). with_cell (written stacks r []) r.process n v) place
+    ∙ written_more stacks r (v ∷ []) 0 v live (omega arith) refl
+
+pub one_taken : (ops : List ℤ) → 1 ≤ length ops → reverse (take 1 ops) ≡ operand ops 0 ∷ []
+one_taken [] h = absurd (omega (arith, h))
+one_taken (x ∷ xs) h = refl

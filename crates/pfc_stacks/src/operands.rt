@@ -73,6 +73,14 @@ impl Operands {
         if k < n { self.items[n - 1 - k] } else { 0 }
     }
 
+    /// The operand at a depth, the top at 0, which is there.
+    pub(crate) fn held(&self, k: usize) -> i64
+        requires { k < length self.now.words }
+        ensures { result ≡ operand self.now.words k }
+    {
+        self.items[self.items.len() - 1 - k]
+    }
+
     /// The last so many, the deepest first.
     pub(crate) fn last(&self, n: usize) -> &[i64]
         requires { n ≤ length self.now.words }

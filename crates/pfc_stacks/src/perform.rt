@@ -23,22 +23,20 @@ impl ProcessStack {
         ensures effect { of_two i self.old.at self.old.operands ≡ own_effect_by result self.new.at self.new.operands }
         ensures changes { Changes result self.old self.new }
     {
-        let a = self.operand(1);
-        let b = self.operand(0);
         match i {
-            Instr::ADD => self.pass_outcome(2, sum(a, b)),
-            Instr::SUB => self.pass_outcome(2, difference(a, b)),
-            Instr::MUL => self.pass_outcome(2, product(a, b)),
-            Instr::DIV => self.pass_outcome(2, quotient(a, b)),
-            Instr::MOD => self.pass_outcome(2, remainder(a, b)),
-            Instr::AND => self.pass_outcome(2, Ok(both(a, b))),
-            Instr::OR => self.pass_outcome(2, Ok(either(a, b))),
-            Instr::EQ => self.pass_outcome(2, Ok(truth(a == b))),
-            Instr::NE => self.pass_outcome(2, Ok(truth(a != b))),
-            Instr::LT => self.pass_outcome(2, Ok(truth(a < b))),
-            Instr::LE => self.pass_outcome(2, Ok(truth(a <= b))),
-            Instr::GT => self.pass_outcome(2, Ok(truth(a > b))),
-            Instr::GE => self.pass_outcome(2, Ok(truth(a >= b))),
+            Instr::ADD => self.pass_outcome(2, sum(self.held(1), self.held(0))),
+            Instr::SUB => self.pass_outcome(2, difference(self.held(1), self.held(0))),
+            Instr::MUL => self.pass_outcome(2, product(self.held(1), self.held(0))),
+            Instr::DIV => self.pass_outcome(2, quotient(self.held(1), self.held(0))),
+            Instr::MOD => self.pass_outcome(2, remainder(self.held(1), self.held(0))),
+            Instr::AND => self.pass_outcome(2, Ok(both(self.held(1), self.held(0)))),
+            Instr::OR => self.pass_outcome(2, Ok(either(self.held(1), self.held(0)))),
+            Instr::EQ => self.pass_outcome(2, Ok(truth(self.held(1) == self.held(0)))),
+            Instr::NE => self.pass_outcome(2, Ok(truth(self.held(1) != self.held(0)))),
+            Instr::LT => self.pass_outcome(2, Ok(truth(self.held(1) < self.held(0)))),
+            Instr::LE => self.pass_outcome(2, Ok(truth(self.held(1) <= self.held(0)))),
+            Instr::GT => self.pass_outcome(2, Ok(truth(self.held(1) > self.held(0)))),
+            Instr::GE => self.pass_outcome(2, Ok(truth(self.held(1) >= self.held(0)))),
             _ => Performed::Nothing,
         }
     }
@@ -50,16 +48,15 @@ impl ProcessStack {
         ensures effect { of_one i self.old.at self.old.operands ≡ own_effect_by result self.new.at self.new.operands }
         ensures changes { Changes result self.old self.new }
     {
-        let a = self.operand(0);
         match i {
-            Instr::NEG => self.pass_outcome(1, negative(a)),
-            Instr::ABS => self.pass_outcome(1, magnitude(a)),
-            Instr::SQR => self.pass_outcome(1, square(a)),
-            Instr::ODD => self.pass_outcome(1, Ok(odd(a))),
-            Instr::CHR => self.pass_outcome(1, char_at(a)),
-            Instr::SUCC(k) => self.pass_outcome(1, next_value(Simple::of(k), a)),
-            Instr::PRED(k) => self.pass_outcome(1, value_before(Simple::of(k), a)),
-            Instr::NOT => self.pass_outcome(1, Ok(inverse(a))),
+            Instr::NEG => self.pass_outcome(1, negative(self.held(0))),
+            Instr::ABS => self.pass_outcome(1, magnitude(self.held(0))),
+            Instr::SQR => self.pass_outcome(1, square(self.held(0))),
+            Instr::ODD => self.pass_outcome(1, Ok(odd(self.held(0)))),
+            Instr::CHR => self.pass_outcome(1, char_at(self.held(0))),
+            Instr::SUCC(k) => self.pass_outcome(1, next_value(Simple::of(k), self.held(0))),
+            Instr::PRED(k) => self.pass_outcome(1, value_before(Simple::of(k), self.held(0))),
+            Instr::NOT => self.pass_outcome(1, Ok(inverse(self.held(0)))),
             _ => self.of_two(i),
         }
     }
@@ -77,7 +74,7 @@ impl ProcessStack {
                 Performed::Passed
             }
             Instr::JF(a) => {
-                let to = if is_true(self.operand(0)) {
+                let to = if is_true(self.held(0)) {
                     self.at() + 1
                 } else {
                     a
@@ -89,7 +86,7 @@ impl ProcessStack {
             Instr::FORB(d, a) => self.begin_for(d, a),
             Instr::FORT(d, a) => self.turn_for(d, a),
             Instr::CEQ(n, a) => {
-                if self.operand(0) == i64::from(n) {
+                if self.held(0) == i64::from(n) {
                     self.leave(1, a);
                 } else {
                     self.pass();
@@ -118,12 +115,12 @@ impl ProcessStack {
                 Performed::Passed
             }
             Instr::IDX(low, high, z) => {
-                let i = self.operand(0);
-                let array = self.operand(1);
+                let i = self.held(0);
+                let array = self.held(1);
                 self.pass_outcome(2, element(low, high, z, i, array))
             }
             Instr::FLD(k) => {
-                let a = self.operand(0) + i64::from(k);
+                let a = self.held(0) + i64::from(k);
                 self.pass_with(1, a);
                 Performed::Passed
             }
@@ -142,12 +139,13 @@ impl ProcessStack {
 
     /// A `for` begins: it ends at once where the first value is past the last.
     fn begin_for(&mut self, d: u32, a: u32) -> Performed
-        requires { self.old.at + 1 < 2 ^ 32 }
+        requires held { 2 ≤ length self.old.operands }
+        requires next { self.old.at + 1 < 2 ^ 32 }
         ensures effect { jumping (Instr.FORB d a) self.old.at self.old.operands ≡ own_effect_by result self.new.at self.new.operands }
         ensures changes { Changes result self.old self.new }
     {
-        let from = self.operand(1);
-        let last = self.operand(0);
+        let from = self.held(1);
+        let last = self.held(0);
         let is_past = if d == 0 { last < from } else { from < last };
         if is_past {
             self.leave(3, a);
@@ -159,12 +157,13 @@ impl ProcessStack {
 
     /// A `for` turns back with its next value, or ends quietly where the value that it keeps is not before the last.
     fn turn_for(&mut self, d: u32, a: u32) -> Performed
-        requires { self.old.at + 1 < 2 ^ 32 }
+        requires held { 2 ≤ length self.old.operands }
+        requires next { self.old.at + 1 < 2 ^ 32 }
         ensures effect { jumping (Instr.FORT d a) self.old.at self.old.operands ≡ own_effect_by result self.new.at self.new.operands }
         ensures changes { Changes result self.old self.new }
     {
-        let kept = self.operand(1);
-        let last = self.operand(0);
+        let kept = self.held(1);
+        let last = self.held(0);
         if d == 0 && kept < last {
             self.set_operand(1, kept + 1);
             self.turn(a)

@@ -33,7 +33,7 @@ impl Stacks {
         let instr = image.code[at as usize];
         match instr {
             Instr::CALL(k, l) => self.run_call(&image.blocks, r, k, l),
-            _ => self.run_other(&image.blocks, r, instr),
+            _ => self.perform_instr(&image.blocks, r, instr),
         }
     }
 
@@ -55,7 +55,9 @@ impl Stacks {
         }
     }
 
-    fn run_other(&mut self, blocks: &[Block], r: Running, i: Instr) -> Instructed
+    /// Performs an instruction of a process that is no call: its effect says what it does. It is the one at its address, and can be performed. It
+    /// takes no memory.
+    pub fn perform_instr(&mut self, blocks: &[Block], r: Running, i: Instr) -> Instructed
         requires process { r.number < length self.old }
         requires condition { CanPerform blocks.now i r.number self.old }
         requires other { (k l : ℕ) → i ≡ Instr.CALL k l → ⊥ }
@@ -138,7 +140,7 @@ impl Stacks {
         ensures done { result ≡ Performed.Passed }
         ensures passed { self.new ≡ passed self.old p (cell_at self.old (ref_of (operand (operands_of self.old p) 0)) ∷ drop 1 (operands_of self.old p)) }
     {
-        let r = Ref::of(self.operand(p, 0));
+        let r = Ref::of(self.held(p, 0));
         let w = self.cell(r.process, r.cell as usize);
         self.pass_pushing(p, 1, w);
         Performed::Passed
@@ -167,8 +169,40 @@ impl Stacks {
         w
     }
 
-    /// The z cells at an address.
+    /// The z cells at an address; one, as most have, takes the address's place.
     fn load(&mut self, p: u32, z: u32)
+        requires process { p < length self.old }
+        requires held { 1 ≤ length (operands_of self.old p) }
+        requires room { z - 1 ≤ (stack_of self.old p).room - length (operands_of self.old p) }
+        requires live { AreLive self.old (ref_of (operand (operands_of self.old p) 0)) z }
+        requires next { (stack_of self.old p).at + 1 < 2 ^ 32 }
+        ensures { let ops = operands_of self.old p in
+            self.new ≡ passed self.old p (reverse (cells_at self.old (ref_of (operand ops 0)) z) ++ drop 1 ops) }
+    {
+        if z == 1 {
+            self.load_one(p);
+        } else {
+            self.load_all(p, z);
+        }
+    }
+
+    /// The cell at an address.
+    fn load_one(&mut self, p: u32)
+        requires process { p < length self.old }
+        requires held { 1 ≤ length (operands_of self.old p) }
+        requires live { AreLive self.old (ref_of (operand (operands_of self.old p) 0)) 1 }
+        requires next { (stack_of self.old p).at + 1 < 2 ^ 32 }
+        ensures { let ops = operands_of self.old p in
+            self.new ≡ passed self.old p (reverse (cells_at self.old (ref_of (operand ops 0)) 1) ++ drop 1 ops) }
+    {
+        let from = Ref::of(self.held(p, 0));
+        let v = self.cell(from.process, from.cell as usize);
+        self.pass_pushing(p, 1, v);
+    }
+
+    /// Any number of cells at an address.
+    #[inline(never)]
+    fn load_all(&mut self, p: u32, z: u32)
         requires process { p < length self.old }
         requires held { 1 ≤ length (operands_of self.old p) }
         requires room { z - 1 ≤ (stack_of self.old p).room - length (operands_of self.old p) }
@@ -194,6 +228,38 @@ impl Stacks {
         ensures { let ops = operands_of self.old p in
             self.new ≡ passed (written self.old (ref_of (operand ops z)) (reverse (take z ops))) p (drop (z + 1) ops) }
     {
+        if z == 1 {
+            self.store_one(p);
+        } else {
+            self.store_all(p, z);
+        }
+    }
+
+    /// The operand on top is written to the address below it.
+    fn store_one(&mut self, p: u32)
+        requires process { p < length self.old }
+        requires held { 2 ≤ length (operands_of self.old p) }
+        requires live { AreLive self.old (ref_of (operand (operands_of self.old p) 1)) 1 }
+        requires next { (stack_of self.old p).at + 1 < 2 ^ 32 }
+        ensures { let ops = operands_of self.old p in
+            self.new ≡ passed (written self.old (ref_of (operand ops 1)) (reverse (take 1 ops))) p (drop 2 ops) }
+    {
+        let to = Ref::of(self.held(p, 1));
+        let v = self.held(p, 0);
+        self.set_cell(to.process, to.cell as usize, v);
+        self.pass(p, 2);
+    }
+
+    /// Any number of operands.
+    #[inline(never)]
+    fn store_all(&mut self, p: u32, z: u32)
+        requires process { p < length self.old }
+        requires held { z + 1 ≤ length (operands_of self.old p) }
+        requires live { AreLive self.old (ref_of (operand (operands_of self.old p) z)) z }
+        requires next { (stack_of self.old p).at + 1 < 2 ^ 32 }
+        ensures { let ops = operands_of self.old p in
+            self.new ≡ passed (written self.old (ref_of (operand ops z)) (reverse (take z ops))) p (drop (z + 1) ops) }
+    {
         let to = Ref::of(self.operand(p, z as usize));
         self.copy_out(p, 0, z, to);
         self.pass(p, z as usize + 1);
@@ -208,8 +274,9 @@ impl Stacks {
         ensures { let ops = operands_of self.old p in
             self.new ≡ passed (written self.old (ref_of (operand ops 2)) (operand ops 1 ∷ [])) p ops }
     {
-        let to = Ref::of(self.operand(p, 2));
-        self.copy_out(p, 1, 1, to);
+        let to = Ref::of(self.held(p, 2));
+        let v = self.held(p, 1);
+        self.set_cell(to.process, to.cell as usize, v);
         self.pass(p, 0);
     }
 }

@@ -199,6 +199,14 @@ impl ProcessStack {
         self.operands.at(k)
     }
 
+    /// The operand at a depth, the top at 0, which is there.
+    pub(crate) fn held(&self, k: usize) -> i64
+        requires { k < length self.now.operands }
+        ensures { result ≡ operand self.now.operands k }
+    {
+        self.operands.held(k)
+    }
+
     /// The last so many operands, the deepest first.
     pub(crate) fn last(&self, n: usize) -> &[i64]
         requires { n ≤ length self.now.operands }

@@ -226,6 +226,15 @@ impl Stacks {
         }
     }
 
+    /// The operand of a process at a depth, the top at 0, which is there.
+    pub(crate) fn held(&self, p: u32, k: usize) -> i64
+        requires process { p < length self.now }
+        requires held { k < length (operands_of self.now p) }
+        ensures { result ≡ operand (operands_of self.now p) k }
+    {
+        self.stacks[p as usize].held(k)
+    }
+
     /// The cell of a process at a place, from 0; 0 where there is none.
     pub(crate) fn cell(&self, q: u32, k: usize) -> i64
         ensures { result ≡ get_or (cells_of self.now q) k (pos 0) }
@@ -237,7 +246,7 @@ impl Stacks {
     }
 
     /// Writes the cell of a process at a place, from 0, where there is one.
-    fn set_cell(&mut self, q: u32, k: usize, v: i64)
+    pub(crate) fn set_cell(&mut self, q: u32, k: usize, v: i64)
         ensures { self.new ≡ set self.old q (record (stack_of self.old q) { cells = set (cells_of self.old q) k v }) }
     {
         if (q as usize) < self.stacks.len() {

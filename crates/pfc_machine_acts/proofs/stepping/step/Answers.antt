@@ -3,7 +3,7 @@ use Rattle.pfc_code.specs.declared.instructions.Instr.{Instr}
 use Rattle.pfc_code.specs.Images.{PlainImage, plain_image}
 use Rattle.pfc_machines.specs.declared.machine.Machine.{Machine}
 use Rattle.pfc_machine_acts.specs.declared.stepping.Stepped.TheVariants.{Stands}
-use Rattle.pfc_machine_acts.specs.Quietly.{IsStepped}
+use Rattle.pfc_machine_acts.specs.Quietly.{CanStep, IsStepped}
 use Rattle.pfc_machine_acts.proofs.Tried.{IsOther, same_instr, can_try, stepped_so}
 use Rattle.pfc_machine_acts.proofs.stepping.step.Goals as goal
 
@@ -40,17 +40,10 @@ try_quiet-requires c =
     let same : i ≡ j = same_instr i j (sym is ∙ c.next_instr-i.ensures) in
     record {
       short = c.requires.short;
-      next = (
-        i,
-        is,
-        can_try image i c.args.r.number m (subst (λ (x : Instr). IsOther x) (sym same) (record {
-          call = c.in_default.not-CALL;
-          ret =
-              c.in_default.not-RET;
-          retf = c.in_default.not-RETF;
-        })) can,
-      );
-      other = λ k l e. c.in_default.not-CALL k l (same_instr j _ (sym c.next_instr-i.ensures ∙ e));
+      next = c.next_instr-i.ensures;
+      can = can_try image j c.args.r.number m (record { call = c.in_default.not-CALL; ret = c.in_default.not-RET; retf = c.in_default.not-RETF })
+          (subst (λ (x : Instr). CanStep image x c.args.r.number m) same can);
+      other = c.in_default.not-CALL;
     }
 
 pub returns-in_default : goal.returns-in_default
@@ -62,11 +55,7 @@ returns-in_default c =
       process = c.try_quiet.ensures.process;
       stepped = λ i is.
           let same : j ≡ i = same_instr j i (sym c.next_instr-i.ensures ∙ is) in
-          stepped_so image i c.args.r.number m c.try_quiet.new.machine (subst (λ (x : Instr). IsOther x) same (record {
-            call = c.in_default.not-CALL;
-            ret =
-                c.in_default.not-RET;
-            retf = c.in_default.not-RETF;
-          })) c.try_quiet.result
-          (c.try_quiet.ensures.tried i is);
+          subst (λ (x : Instr). IsStepped image x c.args.r.number m c.try_quiet.result c.try_quiet.new.machine) same
+          (stepped_so image j c.args.r.number m c.try_quiet.new.machine
+          (record { call = c.in_default.not-CALL; ret = c.in_default.not-RET; retf = c.in_default.not-RETF }) c.try_quiet.result c.try_quiet.ensures.tried);
     }

@@ -8,7 +8,7 @@ use Rattle.pfc_stacks.specs.Refs.{ref_of}
 use Rattle.pfc_stacks.specs.Effects.{passed}
 use Rattle.pfc_stacks.specs.Stacks.{Stacks, stack_of, cells_of, cells_at, operand}
 use Rattle.pfc_stacks.proofs.Loads.{stack_passed, cells_passed, passed_more, cell_among, length-cells_at, pushed_more}
-use Rattle.pfc_stacks.proofs.stacks.Stacks.load.Goals as goal
+use Rattle.pfc_stacks.proofs.stacks.Stacks.load_all.Goals as goal
 
 pub push-requires : goal.push-requires
 push-requires c =

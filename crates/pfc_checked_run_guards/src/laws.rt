@@ -35,8 +35,8 @@ pub fn checked_runs_try_their_own_guards()
         → HoldsAtResumes (program_of t) (settled_config c) p → KeepsToRules (program_of t) (settled_config c) p }
 {}
 
-/// Where what is named in view comes in an order of the parts of the program, and whoever acts has an activation, each run of a checked program returns but once
-/// from each resource and each monitor, as it enters it, and so it keeps to all rules but for who holds what it resumes in.
+/// Where what is named in view comes in an order of the parts of the program, and whoever acts has an activation, each run of a checked program returns but
+/// once from each resource and each monitor, as it enters it, and so it keeps to all rules but for who holds what it resumes in.
 pub fn checked_runs_return_once()
     ensures suits { (t : ProgramTree) (tops : Option Tops) → IsLawful (forget_program t) → broken t ≡ [] → ProgramInOrder (program_of t) tops
         → SuitsInOrder (program_of t) tops }

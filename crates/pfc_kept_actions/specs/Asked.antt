@@ -1,5 +1,5 @@
--- What is still asked of a program and of a run, where an action comes next, beside the rules that runs keep to. All of it is told of checked programs; none of it
--- is asked of the machine alone.
+-- What is still asked of a program and of a run, where an action comes next, beside the rules that runs keep to. All of it is told of checked programs; none
+-- of it is asked of the machine alone.
 use Rattle.std.specs.Prelude.{ℕ, ◌≡◌, ◌<◌, ◌^◌}
 use Rattle.pfc_tree.specs.trees.Parts.{ProgramTree}
 use Rattle.pfc_semantics.specs.Configurations.{Config}

@@ -334,7 +334,8 @@ module _ (facts : Facts) (m : Machine) (c : Config) (p choice : ℕ) (level : Li
 
 pub creations_kept : AreKept CreatesProcess
 creations_kept facts m c p choice level (calls x (to_process v r) given) may acting arrived chosen =
-    let (b, checked, (formals, over, held, (alone, (t, n, i, below, process, among, formals_are, takes, over_is, object, there, behind)), lends)) = arrived.arrived in
+    let (b, checked, (formals, over, held, (alone, (t, n, i, below, process, among, formals_are, takes, over_is, object, there, behind)), lends)) =
+    arrived.arrived in
     create_kept facts m c p choice level acting x v r given b checked alone.0 may formals t n i below
     (subst (λ (l : List ℤ). AreHeld level.setting.view (site_of level.setting b x) formals given (operands_of m.stacks p) l) over_is held)
     process among formals_are object there arrived.within arrived.room arrived.arms alone.1 behind

@@ -8,8 +8,8 @@ use Rattle.pfc_semantics.specs.Remainders.{Action, finishes}
 use Rattle.pfc_translation.specs.Images.{image_of}
 use Rattle.pfc_representation.specs.Levels.{LivingLevel, IsProgram}
 
--- The end of a procedure, where the image counts its monitors with 32 bits. So it is in each image that there is; of a program it is not told by any rule, since
--- a monitor without procedures and statements has no code.
+-- The end of a procedure, where the image counts its monitors with 32 bits. So it is in each image that there is; of a program it is not told by any rule,
+-- since a monitor without procedures and statements has no code.
 abbrev pub EndsInMonitor : LivingLevel → Action → Type 0
 EndsInMonitor level (finishes line) =
     (level.setting.last ≡ RET)

@@ -1,6 +1,6 @@
 -- Whose a condition is, where the variable that holds it is named: it stands in a monitor's scope, and the condition is one of that monitor.
-use Rattle.std.proofs.Common.{◌≡◌, ◌≢◌, ℕ, zero, suc, ◌+◌, ◌<◌, ◌==◌, ◌||◌, ◌⊎◌, inl, inr, pos, Bool, true, false, if◌then◌else◌, is_some, List, [], ◌∷◌, length, take}
-use Rattle.std.proofs.Common.{get_or, position, Option, Some, None, refl, sym, ap, ◌∙◌, subst, arith}
+use Rattle.std.proofs.Common.{◌≡◌, ◌≢◌, ℕ, zero, suc, ◌+◌, ◌<◌, ◌==◌, ◌||◌, ◌⊎◌, inl, inr, pos, Bool, true, false, if◌then◌else◌, is_some, List, [], ◌∷◌, length}
+use Rattle.std.proofs.Common.{take, get_or, position, Option, Some, None, refl, sym, ap, ◌∙◌, subst, arith}
 use Rattle.std.specs.List.{All, slice_get}
 use Rattle.std.proofs.lemmas.Bool.Decides.{nat_tests}
 use Rattle.std.proofs.lemmas.List.Elements.{All-head, All-tail}
@@ -114,7 +114,8 @@ module _ (t : ProgramTree) (lawful : IsLawful (forget_program t)) (clean : broke
       let (among, same, least) = position-Some (λ (m : ModuleHead). m.scope == i) bs.modules n no_module found in
       let scope : (module_at bs n).scope ≡ i = grind (arith, nat_tests, same) in
       let inside =
-      at_number (λ (head : ModuleHead). (0 < head.scope) × (head.scope < length bs.scopes) × IsFine (module_owner head.resource) forms 0 (finished t) head.scope)
+      at_number
+      (λ (head : ModuleHead). (0 < head.scope) × (head.scope < length bs.scopes) × IsFine (module_owner head.resource) forms 0 (finished t) head.scope)
       bs.modules n no_module (modules_inside t lawful) among in
       let owned : IsOfOwner (module_owner (module_at bs n).resource) forms (Variable u r) =
       at_place (λ (y : Text × Meaning). IsOfOwner (module_owner (module_at bs n).resource) forms y.1) (scope_at bs.scopes (module_at bs n).scope) k

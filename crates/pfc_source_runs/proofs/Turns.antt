@@ -220,7 +220,8 @@ module _ (facts : Facts) (numbered : AreNumbered facts) (limit : ℕ) (first : P
           (sr.run_from g limit (suc left) t.picking t.config)
           (sr.run_from g limit (suc left) t.picking t.config) s.printed
           (ap (unless_ended m _) is ∙ ap (unless_worn_out m (goes_by (picked s.picking m.world.rows))) counts) refl
-          (uncounted refl n (suc left) sum passed (agrees, counts_no_more counts) (so.printed ∙ ap (λ (xs : List ℕ). first.config.output ++ xs) (sym (append-nil s.printed))))
+          (uncounted refl n (suc left) sum passed (agrees, counts_no_more counts)
+          (so.printed ∙ ap (λ (xs : List ℕ). first.config.output ++ xs) (sym (append-nil s.printed))))
       turns sum passed None false is counts =
           along facts limit first (run_from image limit (suc left) s.picking s.machine) (goes_by (picked s.picking m.world.rows))
           (sr.run_from g limit (suc left) t.picking t.config) (source_by (picked s.picking m.world.rows)) s.printed

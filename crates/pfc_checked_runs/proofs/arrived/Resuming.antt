@@ -1,5 +1,6 @@
 -- Who resumes names a condition of the monitor whose variable holds it.
-use Rattle.std.proofs.Common.{◌≡◌, ℕ, ◌+◌, ◌%◌, ◌^◌, ◌<◌, ℤ, pos, Bool, true, false, if◌then◌else◌, length, List, get_or, Option, Some, None, refl, sym, ap, ap₂, ◌∙◌, subst, arith}
+use Rattle.std.proofs.Common.{◌≡◌, ℕ, ◌+◌, ◌%◌, ◌^◌, ◌<◌, ℤ, pos, Bool, true, false, if◌then◌else◌, length, List, get_or}
+use Rattle.std.proofs.Common.{Option, Some, None, refl, sym, ap, ap₂, ◌∙◌, subst, arith}
 use Rattle.std.specs.List.{slice_get}
 use Rattle.std.proofs.lemmas.Option.{slice_get_within, get_or_from_slice_get}
 use Rattle.pfc_tree.specs.trees.Parts.{ProgramTree}
@@ -111,7 +112,8 @@ module _ (facts : Facts) (m : Machine) (c : Config) (p : ℕ) (level : LivingLev
       let plainly : SeesThrough facts acting.homes acting.entries c.store c.table p (acting.entries p) w display level.setting level.setting.block
       level.setting.view all.others level.setting.accepts level.setting.meetings =
       subst (λ (y : Trial). SeesThrough facts acting.homes acting.entries c.store c.table p (acting.entries p) w display level.setting
-      (own_block y level.setting.block) (own_view y level.setting.view) all.others (own_accepts y level.setting.accepts) level.setting.meetings) own all.sees in
+      (own_block y level.setting.block) (own_view y level.setting.view) all.others (own_accepts y level.setting.accepts) level.setting.meetings) own
+      all.sees in
       first_seen facts acting.homes acting.entries c.store c.table p (acting.entries p) w display level.setting level.setting.block level.setting.view all.others
       level.setting.accepts level.setting.meetings plainly
 

@@ -1,3 +1,4 @@
+mod Ranges
 pub mod Compound
 pub mod Cases
 pub mod Counting

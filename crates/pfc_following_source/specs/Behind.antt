@@ -68,8 +68,8 @@ BehindCall g b at ops arms x (to_requeue scope) = Unit {0}
 BehindCall g b at ops arms x (to_process v k) = GoesOn g b at ops [] x k
 BehindCall g b at ops arms x (to_entry v entry k) = GoesOn g b at ops [] x k
 
--- A meeting with any caller, in which its accept is open: whatever it makes seen, where the names in view are known then, also those of the accept, and what is left
--- behind the accept is performed as before.
+-- A meeting with any caller, in which its accept is open: whatever it makes seen, where the names in view are known then, also those of the accept, and what is
+-- left behind the accept is performed as before.
 abbrev pub BehindAccept : Setting → Block → ℕ → List ℤ → Context → Accepting → Open → Remainder → Type 0
 BehindAccept g b to ops x a o k =
     (view : View) (caller : ℕ) → (let later = record g { view = view } in

@@ -2,10 +2,14 @@
 ghost use Rattle.pfc_semantics.specs.Programs.{Block};
 ghost use Rattle.pfc_semantics.specs.Remainders.{Context};
 ghost use Rattle.pfc_standing_code.specs.Settings.{Setting};
-ghost use Rattle.pfc_following_source.specs.selects.Phrases.{AlternativesFollow, OpeningFollows, SelectFollows, SelectElseFollows, BranchPerforms, MeetingPerforms};
+ghost use Rattle.pfc_following_source.specs.selects.Phrases.{AlternativesFollow, OpeningFollows, SelectFollows, SelectElseFollows, BranchPerforms};
+ghost use Rattle.pfc_following_source.specs.selects.Phrases.{MeetingPerforms};
 ghost use Rattle.pfc_types.specs.rules.Expressions.{Env};
 ghost use Rattle.pfc_following_source.specs.structures.Left.{UntilFollows, PassFollows, PassEndFollows, ReplicaFollows, RemainderFollows};
-ghost use Rattle.pfc_following_source.specs.structures.Structured.{NothingFollows, BlockFollows, ListFollows, IfFollows, IfElseFollows, CaseFollows, ArmListFollows, WhileFollows, RepeatFollows, ForeverFollows, ForFollows, CobeginFollows, AcceptFollows, AssignFollows, SendsFollow, ReceivesFollow, CallsFollow, RequeuesFollow, SelectStatementsFollow, EveryStatementFollows, EveryListFollows};
+ghost use Rattle.pfc_following_source.specs.structures.Structured.{NothingFollows, BlockFollows, ListFollows, IfFollows, IfElseFollows, CaseFollows};
+ghost use Rattle.pfc_following_source.specs.structures.Structured.{ArmListFollows, WhileFollows, RepeatFollows, ForeverFollows, ForFollows, CobeginFollows};
+ghost use Rattle.pfc_following_source.specs.structures.Structured.{AcceptFollows, AssignFollows, SendsFollow, ReceivesFollow, CallsFollow, RequeuesFollow};
+ghost use Rattle.pfc_following_source.specs.structures.Structured.{SelectStatementsFollow, EveryStatementFollows, EveryListFollows};
 ghost use Rattle.pfc_following_source.specs.awaits.Awaited.{ValuesFollow, LocationsFollow};
 ghost use Rattle.pfc_following_source.specs.Source.{CodeFollowsSource};
 ghost use Rattle.pfc_following_source.specs.Behind.{ActionsLeadOn, MeetingsLeadOn};

@@ -34,7 +34,7 @@ pub fn messages_of_selects_are_kept()
         → HasArrived facts m c p level (decides x sel k) → IsKept facts m c p choice (decides x sel k) }
 {}
 
-/// These are all decisions but those that take an alternative which accepts an entry.
+/// A decision takes nothing that is matched, or an alternative that sends or receives, or one that accepts an entry.
 pub fn decisions_are_divided()
     ensures { (g : Program) (c : Config) (p choice : ℕ) (x : Context) (sel : Selecting) (k : Remainder)
         → IsChoice choice (choices g c p (decides x sel k))

@@ -114,8 +114,8 @@ module _ (facts : Facts) (m : Machine) (c : Config) (p : ℕ) (level : LivingLev
       subst (λ (y : Trial). SeesThrough facts acting.homes acting.entries c.store c.table p (acting.entries p) w display level.setting
       (own_block y level.setting.block) (own_view y level.setting.view) all.others (own_accepts y level.setting.accepts) level.setting.meetings) own
       all.sees in
-      first_seen facts acting.homes acting.entries c.store c.table p (acting.entries p) w display level.setting level.setting.block level.setting.view all.others
-      level.setting.accepts level.setting.meetings plainly
+      first_seen facts acting.homes acting.entries c.store c.table p (acting.entries p) w display level.setting level.setting.block level.setting.view
+      all.others level.setting.accepts level.setting.meetings plainly
 
   sees : Sees g acting.homes acting.entries c.store seen.1.keeps display b level.setting.accepts (word_of (last_activation m.stacks p)) seen.1.chain
       level.setting.view

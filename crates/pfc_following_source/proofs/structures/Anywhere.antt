@@ -6,8 +6,10 @@ use Rattle.pfc_semantics.specs.Alternatives.{context}
 use Rattle.pfc_standing_code.specs.Settings.{Setting}
 use Rattle.pfc_following_expressions.proofs.Anywhere.{anywhere}
 use Rattle.pfc_following_source.specs.structures.Structured.{NothingFollows, BlockFollows, ListFollows, IfFollows, IfElseFollows, CaseFollows, ArmListFollows}
-use Rattle.pfc_following_source.specs.structures.Structured.{WhileFollows, RepeatFollows, ForeverFollows, ForFollows, CobeginFollows, AcceptFollows, AssignFollows}
-use Rattle.pfc_following_source.specs.structures.Structured.{SendsFollow, ReceivesFollow, CallsFollow, RequeuesFollow, SelectStatementsFollow, EveryStatementFollows}
+use Rattle.pfc_following_source.specs.structures.Structured.{WhileFollows, RepeatFollows, ForeverFollows, ForFollows, CobeginFollows, AcceptFollows}
+use Rattle.pfc_following_source.specs.structures.Structured.{AssignFollows}
+use Rattle.pfc_following_source.specs.structures.Structured.{SendsFollow, ReceivesFollow, CallsFollow, RequeuesFollow, SelectStatementsFollow}
+use Rattle.pfc_following_source.specs.structures.Structured.{EveryStatementFollows}
 use Rattle.pfc_following_source.specs.structures.Structured.{EveryListFollows}
 use Rattle.pfc_following_source.specs.structures.Left.{UntilFollows, PassFollows, PassEndFollows, ReplicaFollows}
 use Rattle.pfc_following_source.proofs.structures.Compound.{empty_follows, null_follows, block_follows, none_follow, more_follow, if_follows, if_else_follows}

@@ -1,4 +1,5 @@
-use Rattle.pfc_following_source.proofs.structures.Anywhere.{assignment_statement_follows, send_statement_follows, receive_statement_follows, call_statement_follows}
+use Rattle.pfc_following_source.proofs.structures.Anywhere.{assignment_statement_follows, send_statement_follows, receive_statement_follows}
+use Rattle.pfc_following_source.proofs.structures.Anywhere.{call_statement_follows}
 use Rattle.pfc_following_source.proofs.structures.Anywhere.{requeue_statement_follows}
 use Rattle.pfc_following_source.proofs.laws.single_statements_follow.Goals as goal
 

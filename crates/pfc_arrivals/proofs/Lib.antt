@@ -14,3 +14,5 @@ pub mod Evaluating
 pub mod Guards
 pub mod Untried
 pub mod Agreed
+pub mod Wanting
+pub mod Again

@@ -1,16 +1,14 @@
 -- Who is picked may act, where all actions are kept.
-use Rattle.std.proofs.Common.{◌≡◌, ℕ, zero, suc, ◌%◌, ◌<◌, max, ℤ, List, Option, sym, ap, ◌∙◌, subst, arith}
+use Rattle.std.proofs.Common.{ℕ, zero, suc, ◌%◌, ◌<◌, max, length, sym, ap, ◌∙◌, subst, arith}
 use Rattle.std.proofs.Math.Nat.{mod-lt}
 use Rattle.pfc_sched.specs.Picks.{Picking, by_words, by_turn, by_list}
 use Rattle.pfc_sched.specs.Words.{word}
 use Rattle.pfc_semantics.specs.Remainders.{Action}
-use Rattle.pfc_tree.specs.trees.Parts.{ProgramTree}
 use Rattle.pfc_semantics.specs.Configurations.{Config}
-use Rattle.pfc_semantics.specs.Programs.{Program, program_of}
+use Rattle.pfc_semantics.specs.Programs.{Program}
 use Rattle.pfc_semantics.specs.Selects.{choices}
 use Rattle.pfc_semantics.specs.Steps.{effect, line_of, next_of}
 use Rattle.pfc_code.specs.Images.{PlainImage}
-use Rattle.pfc_code.specs.declared.images.Object.{Object}
 use Rattle.pfc_translation.specs.Images.{image_of}
 use Rattle.pfc_translation.specs.Objects.{objects_of}
 use Rattle.pfc_object_laws.specs.Objects.{number_at}
@@ -42,9 +40,10 @@ numbered_at facts level numbered has = λ t same.
     has.number ∙ numbered
     ∙ ap (λ (g : Program). number_at (objects_of g)) (sym has.image.program ∙ same)
 
+-- who comes to its action may do it
 module _ (facts : Facts) (m : Machine) (c : Config) (p : ℕ) (picking : Picking) (kept : IsNextKept facts c p)
-    (numbered : AreNumbered facts) (rules : KeepsToRules (program_in facts) c p) (is : Represents facts m c)
-    (about : IsAboutToAct facts m c p) where
+    (numbered : AreNumbered facts) (rules : KeepsToRules (program_in facts) c p) (short : length (image_of facts.tree).code < 4294967296)
+    (there : p < length m.descriptors) (come : ComesToAction facts m c p) where
   abbrev n : Action
   n = next_of (program_in facts) c p
 
@@ -54,32 +53,33 @@ module _ (facts : Facts) (m : Machine) (c : Config) (p : ℕ) (picking : Picking
   abbrev choice : ℕ
   choice = choice_among picking (choices (program_in facts) c p n)
 
-  module _ (come : ComesToAction facts m c p) where
-    by_kept : IsKept facts come.before c p choice n → ActsAsItsSource facts m c p picking
-    by_kept k = record {
-      may = record {
-        short = is.alike.program.short;
-        descriptor = subst (λ size. p < size) (sym is.alike.words.descriptors) about.process;
-        count = come.count;
-        before = come.before;
-        instr = k.instr;
-        next = record { run = come.run; few = come.few; is = k.is; can = k.can_step; no_move = k.no_move };
-        can = subst (λ many. CanDo image k.instr (choice_among picking many) p come.before) (sym k.choices) k.can_do;
-      };
-      line = k.line;
-      choices_same = k.choices;
-      same =
-          subst (λ many. ComeToSame facts come.before c p (line_of n)
-          (comes_to (quietly image k.instr p come.before) (acts_by image k.instr (choice_among picking many) p come.before))
-          (effect (program_in facts) c p (choice_among picking many) n)) (sym k.choices) k.same;
-    }
+  pub here : IsKept facts come.before c p choice n
+  here =
+      kept come.before choice come.level
+      (numbered_at facts come.level numbered (has_setting facts come.before c p come.level come.acting)) rules come.acting come.arrived
+      (choice_is picking (choices (program_in facts) c p n))
 
-    alike : ActsAsItsSource facts m c p picking
-    alike =
-        by_kept
-        (kept come.before choice come.level
-        (numbered_at facts come.level numbered (has_setting facts come.before c p come.level come.acting)) rules come.acting come.arrived
-        (choice_is picking (choices (program_in facts) c p n)))
+  abbrev pub acts_from : ActsAsItsSource facts m c p picking
+  acts_from = record {
+    may = record {
+      short = short;
+      descriptor = there;
+      count = come.count;
+      before = come.before;
+      instr = here.instr;
+      next = record { run = come.run; few = come.few; is = here.is; can = here.can_step; no_move = here.no_move };
+      can = subst (λ many. CanDo image here.instr (choice_among picking many) p come.before) (sym here.choices) here.can_do;
+    };
+    line = here.line;
+    choices_same = here.choices;
+    same =
+        subst (λ many. ComeToSame facts come.before c p (line_of n)
+        (comes_to (quietly image here.instr p come.before) (acts_by image here.instr (choice_among picking many) p come.before))
+        (effect (program_in facts) c p (choice_among picking many) n)) (sym here.choices) here.same;
+  }
 
-  pub acts_alike : ActsAsItsSource facts m c p picking
-  acts_alike = alike (comes_to_action facts m c p is about)
+pub acts_alike : (facts : Facts) (m : Machine) (c : Config) (p : ℕ) (picking : Picking) → IsNextKept facts c p → AreNumbered facts
+    → KeepsToRules (program_in facts) c p → Represents facts m c → IsAboutToAct facts m c p → ActsAsItsSource facts m c p picking
+acts_alike facts m c p picking kept numbered rules is about =
+    acts_from facts m c p picking kept numbered rules is.alike.program.short (subst (λ size. p < size) (sym is.alike.words.descriptors) about.process)
+    (comes_to_action facts m c p is about)

@@ -12,12 +12,13 @@ use Rattle.pfc_state.specs.declared.endings.Ending.{Ending}
 use Rattle.pfc_state.specs.declared.endings.Ending.TheVariants.{Finished, Fault, Deadlock, Limit, Script, SinkFailed, Memory}
 use Rattle.pfc_machines.specs.declared.machine.Machine.{Machine}
 use Rattle.pfc_machines.specs.Actions.{at_rest}
+use Rattle.pfc_machine_acts.specs.Quietly.{next_instr}
 use Rattle.pfc_machine_acts.specs.Settling.{machine_settled}
 use Rattle.pfc_sessions.specs.Courses.{Completes, IsCut, on_the_way, at_the_end, IsWanting, refused, worn_out, IsCourse, Continues, Ends, IsHalted, untried}
 use Rattle.pfc_sessions.specs.Courses.{uncounted, IsTurn, Gathers, IsSent, IsHandedOver, whole, dropped, failed}
 use Rattle.pfc_sessions.specs.Runs.{Run, run_from, step_of, IsPicked, MayRun}
 use Rattle.pfc_sessions.specs.Stages.{Stage, behind_action, by_process, next_stage, stage_after, GoesOn, IsOnTheWay, Passes}
-use Rattle.pfc_sessions.specs.Steps.{Step, before_action}
+use Rattle.pfc_sessions.specs.Steps.{may_want, Step, before_action}
 use Rattle.pfc_sessions.proofs.Turning.{run_goes_on}
 
 -- ## One turn more
@@ -191,6 +192,9 @@ module _ (image : PlainImage) (limit : ℕ) (f : Run) (first : Stage) where
                 subst (λ (x : Picking). IsPicked x (machine_settled s.machine) h.process) (sym p.picks)
                 (subst (λ (x : Machine). IsPicked picking (machine_settled x) h.process) (sym p.machine) h.picked);
             machine = h.machine ∙ ap (λ (x : Machine). at_rest (before_action image h.process (machine_settled x))) (sym p.machine);
+            wants =
+                subst
+                (λ (x : Machine). may_want (next_instr image h.process (before_action image h.process (machine_settled x))) ≡ true) (sym p.machine) h.wants;
           };
           front =
               subst (λ (x : List ℕ). AppendsFront start after x) (ap (λ (x : List ℕ). p.sent ++ x) kept ∙ sym p.printed)

@@ -10,13 +10,16 @@ use Rattle.pfc_state.specs.Stands.{Stand, Is_idle, Is_created, Is_ready, Waits, 
 use Rattle.pfc_state.specs.declared.endings.Ending.TheVariants.{Fault}
 use Rattle.pfc_world.specs.Tables.{at}
 use Rattle.pfc_machines.specs.declared.machine.Machine.{Machine}
+use Rattle.pfc_machines.specs.Actions.{at_rest}
 use Rattle.pfc_machine_acts.specs.Acting.{MayAct}
+use Rattle.pfc_machine_acts.specs.Quietly.{next_instr}
 use Rattle.pfc_machine_acts.specs.Settling.{machine_settled}
 use Rattle.pfc_machine_acts.specs.declared.acts.ActionEnd.TheVariants.{Faulted}
 use Rattle.pfc_sessions.specs.Courses.{IsPick, Ends}
 use Rattle.pfc_sessions.specs.Runs.{Run, ending_at, ended_with, behind_bytes, by_pick, unless_ended, unless_fault, unless_worn_out, is_worn_out, behind_step}
 use Rattle.pfc_sessions.specs.Runs.{run_from, step_of, IsPicked, MayRun}
-use Rattle.pfc_sessions.specs.Steps.{FaultAt, begins, Step, step, IsStep}
+use Rattle.pfc_sessions.specs.Stages.{first_stage, IsUntried}
+use Rattle.pfc_sessions.specs.Steps.{FaultAt, begins, before_action, may_want, Step, step, IsStep}
 
 -- ## The first turn
 
@@ -97,6 +100,16 @@ module _ (picking behind : Picking) (m s : Machine) (p : ℕ) (pick : IsPick pic
     same_step =
         ap (λ (x : Picking). step image p x s) pick.behind
         ∙ ap (λ (x : Machine). step image p (after_pick picking x.world.rows) x) pick.machine
+
+    -- memory was refused
+    pub refused : (new : Machine) → new ≡ at_rest (before_action image p s) → may_want (next_instr image p (before_action image p s)) ≡ true
+        → IsUntried image (first_stage picking m) new
+    refused new is wants = record {
+      process = p;
+      picked = there;
+      machine = is ∙ ap (λ (x : Machine). at_rest (before_action image p x)) pick.machine;
+      wants = subst (λ (x : Machine). may_want (next_instr image p (before_action image p x)) ≡ true) pick.machine wants;
+    }
 
     module _ (new : Machine) (picking' : Picking) (out out' : List ℕ) where
       pub faulted :

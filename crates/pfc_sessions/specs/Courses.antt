@@ -32,7 +32,7 @@ pub data IsCut (image : PlainImage) (limit : ℕ) (f : Run) (first : Stage) (new
   on_the_way : IsBrokenOff image limit f first (λ s. new ≡ s.machine) before after → IsCut image limit f first new before after
   at_the_end : new ≡ f.machine → AppendsFront before after f.printed → IsCut image limit f first new before after
 
--- Memory was wanting: before an action of the run; or the machine counts no more.
+-- Memory was wanting: before an action of the run that may want it; or the machine counts no more.
 pub data IsWanting (image : PlainImage) (limit : ℕ) (f : Run) (first : Stage) (new : Machine) (before after : Option (List ℕ)) : Type 0 where
   refused : IsBrokenOff image limit f first (λ s. IsUntried image s new) before after → IsWanting image limit f first new before after
   worn_out : f.ending ≡ Memory → new ≡ f.machine → AppendsFront before after f.printed → IsWanting image limit f first new before after

@@ -1,5 +1,5 @@
 -- Where a run stands after some actions.
-use Rattle.std.specs.Prelude.{ℕ, zero, suc, ◌+◌, ◌≡◌, ◌<◌, None, List, [], ◌++◌}
+use Rattle.std.specs.Prelude.{ℕ, zero, suc, ◌+◌, ◌≡◌, ◌<◌, true, None, List, [], ◌++◌}
 use Rattle.pfc_code.specs.Images.{PlainImage}
 use Rattle.pfc_sched.specs.Picks.{Picking, picked}
 use Rattle.pfc_sched.specs.declared.picking.Pick.{Pick}
@@ -7,7 +7,8 @@ use Rattle.pfc_sched.specs.declared.picking.Pick.TheVariants.{Process}
 use Rattle.pfc_machines.specs.declared.machine.Machine.{Machine}
 use Rattle.pfc_machines.specs.Actions.{at_rest}
 use Rattle.pfc_machine_acts.specs.Settling.{machine_settled}
-use Rattle.pfc_sessions.specs.Steps.{before_action}
+use Rattle.pfc_machine_acts.specs.Quietly.{next_instr}
+use Rattle.pfc_sessions.specs.Steps.{before_action, may_want}
 use Rattle.pfc_sessions.specs.Runs.{Run, run_from, step_of, IsPicked}
 
 -- who picks, the machine, and what was printed so far
@@ -59,8 +60,9 @@ pub record IsOnTheWay (image : PlainImage) (limit count left : ℕ) (f : Run) (f
       GoesOn (stage_after image count first).printed
       (run_from image limit left (stage_after image count first).picking (stage_after image count first).machine) f
 
--- The machine stands before the action of who is picked at a stage, which want of memory refused: it can be tried again.
+-- The machine stands before the action of who is picked at a stage, whose instruction may want memory.
 pub record IsUntried (image : PlainImage) (s : Stage) (new : Machine) : Type 0 where
   pub process : ℕ
   pub picked : IsPicked s.picking (machine_settled s.machine) process
   pub machine : new ≡ at_rest (before_action image process (machine_settled s.machine))
+  pub wants : may_want (next_instr image process (before_action image process (machine_settled s.machine))) ≡ true

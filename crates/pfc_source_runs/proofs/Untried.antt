@@ -1,5 +1,6 @@
 -- A process that memory was refused to stands before its next action.
-use Rattle.std.proofs.Common.{◌≡◌, ℕ, zero, suc, ◌<◌, max, length, ap, ◌∙◌, arith}
+use Rattle.std.proofs.Common.{◌≡◌, ℕ, zero, suc, ◌<◌, max, length, true, Option, Some, None, refl, sym, ap, ◌∙◌, subst, arith}
+use Rattle.pfc_code.specs.declared.instructions.Instr.{Instr}
 use Rattle.pfc_code.specs.Images.{PlainImage}
 use Rattle.pfc_semantics.specs.Configurations.{Config}
 use Rattle.pfc_semantics.specs.Remainders.{Action}
@@ -10,18 +11,23 @@ use Rattle.pfc_translation.specs.Images.{image_of}
 use Rattle.pfc_select_actions.specs.Selects.{takes_up}
 use Rattle.pfc_machines.specs.declared.machine.Machine.{Machine}
 use Rattle.pfc_machines.specs.Actions.{at_rest}
+use Rattle.pfc_machine_acts.specs.Performing.{may_want_memory}
+use Rattle.pfc_machine_acts.specs.Quietly.{next_instr}
 use Rattle.pfc_machine_acts.specs.Settling.{machine_settled}
 use Rattle.pfc_representation.specs.Levels.{Facts, program_in}
 use Rattle.pfc_representation.specs.Machines.{Represents}
 use Rattle.pfc_representation.specs.Actions.{IsKept}
 use Rattle.pfc_run_rules.specs.Rules.{KeepsToRules}
-use Rattle.pfc_arrivals.specs.Arrivals.{IsAboutToAct, ComesToAction}
+use Rattle.pfc_arrivals.specs.Arrivals.{IsAboutToAct, ComesToAction, ActsAsItsSource}
+use Rattle.pfc_arrivals.specs.Wants.{MayWantMemory}
 use Rattle.pfc_arrivals.proofs.Arriving.{comes_to_action}
+use Rattle.pfc_arrivals.proofs.Wanting.{may_want_there}
+use Rattle.pfc_arrivals.proofs.Again.{acts_again}
 use Rattle.pfc_sessions.specs.Stages as stages
 use Rattle.pfc_sessions.specs.Stages.{Stage}
-use Rattle.pfc_sessions.specs.Steps.{begins, before_action}
+use Rattle.pfc_sessions.specs.Steps.{begins, before_action, may_want}
 use Rattle.pfc_simulation.specs.Reached.{RunKeepsToRules, IsRunKept}
-use Rattle.pfc_simulation.proofs.Simulating.{represents, about, next_kept, rules}
+use Rattle.pfc_simulation.proofs.Simulating.{represents, about, goes, next_kept, rules}
 use Rattle.pfc_simulation.proofs.Steps.{quiet_leads}
 use Rattle.pfc_source_runs.specs.Points.{Point}
 use Rattle.pfc_source_runs.specs.Standing.{IsUntried}
@@ -53,6 +59,17 @@ module _ (facts : Facts) (numbered : AreNumbered facts) (m : Machine) (c : Confi
   stands_before = stands_by (kept come.before 0 come.level (numbered_at facts come.level numbered (has_setting facts come.before c p come.level come.acting))
       rules come.acting come.arrived (first_choice (choices (program_in facts) c p next)))
 
+  -- ## Why memory may be wanting
+
+  wanting : (o : Option Instr) → may_want o ≡ true → (i : Instr) × (o ≡ Some i) × (may_want_memory i ≡ true)
+  wanting None e = absurd cc
+  wanting (Some i) e = (i, refl, e)
+
+  wants_there : may_want (next_instr image p (before_action image p m)) ≡ true → MayWantMemory next
+  wants_there wants =
+      let (i, is, so) = wanting (next_instr image p come.before) (subst (λ (x : Machine). may_want (next_instr image p x) ≡ true) stands_before wants) in
+      may_want_there facts come.before c p come.level i come.acting come.arrived is so
+
 -- ## At a stage
 
 module _ (facts : Facts) (c : Config) (kept : IsRunKept facts c) (numbered : AreNumbered facts)
@@ -70,18 +87,29 @@ module _ (facts : Facts) (c : Config) (kept : IsRunKept facts c) (numbered : Are
   ready : IsAboutToAct facts m d is.process
   ready = about facts c kept numbered numbers s.picking s.machine t.config is.process so.relates is.picked
 
+  all_kept : IsNextKept facts d is.process
+  all_kept = next_kept facts c kept numbered numbers s.picking s.machine t.config is.process so.relates is.picked
+
+  to_rules : KeepsToRules (program_in facts) d is.process
+  to_rules = rules facts c kept numbered numbers s.picking s.machine t.config is.process so.relates is.picked
+
   untried_by : ComesToAction facts m d is.process → IsUntried facts new t
-  untried_by come = record {
-    process = is.process;
-    picks = picks_so facts c kept numbered numbers s t so is.process is.picked;
-    level = come.level;
-    before = come.before;
-    acting = come.acting;
-    arrived = come.arrived;
-    machine = is.machine ∙ ap at_rest (stands_before facts numbered m d is.process
-        (next_kept facts c kept numbered numbers s.picking s.machine t.config is.process so.relates is.picked)
-        (rules facts c kept numbered numbers s.picking s.machine t.config is.process so.relates is.picked) come);
-  }
+  untried_by come =
+      let stands : new ≡ at_rest come.before = is.machine ∙ ap at_rest (stands_before facts numbered m d is.process all_kept to_rules come) in
+      record {
+        process = is.process;
+        goes = goes facts c kept numbered numbers s.picking s.machine t.config is.process so.relates is.picked;
+        picks = picks_so facts c kept numbered numbers s t so is.process is.picked;
+        level = come.level;
+        before = come.before;
+        acting = come.acting;
+        arrived = come.arrived;
+        machine = stands;
+        wants = wants_there facts numbered m d is.process all_kept to_rules come is.wants;
+        may_act_again = λ picking.
+            subst (λ (x : Machine). (acts : ActsAsItsSource facts x d is.process picking) × (acts.may.before ≡ come.before)) (sym stands)
+            (acts_again facts come.before d is.process come.level come.acting come.arrived picking all_kept numbered to_rules);
+      }
 
   pub is_untried : IsUntried facts new t
   is_untried = untried_by (comes_to_action facts m d is.process represented ready)

@@ -1,13 +1,13 @@
 -- Where the machine of a session stands behind its run, whole or broken off, in the source text's run.
-use Rattle.std.specs.Prelude.{ℕ, ◌≡◌, ◌<◌, ◌≤◌, ◌^◌, ◌⊎◌, List, ◌++◌, Option}
+use Rattle.std.specs.Prelude.{ℕ, ◌≡◌, ◌<◌, ◌≤◌, ◌^◌, ◌⊎◌, List, ◌++◌, Option, None}
 use Rattle.pfc_io.specs.Writes.{AppendsFront}
-use Rattle.pfc_sched.specs.Picks.{picked}
+use Rattle.pfc_sched.specs.Picks.{Picking, picked}
 use Rattle.pfc_sched.specs.declared.picking.Pick.TheVariants.{Process}
 use Rattle.pfc_state.specs.declared.endings.Ending.{Ending}
 use Rattle.pfc_state.specs.declared.endings.Ending.TheVariants.{Finished, Fault, Deadlock, Limit, Script, SinkFailed, Memory}
 use Rattle.pfc_semantics.specs.Configurations.{Config}
 use Rattle.pfc_semantics.specs.Programs.{Program}
-use Rattle.pfc_semantics.specs.Runs.{Run}
+use Rattle.pfc_semantics.specs.Runs.{Run, ending_at}
 use Rattle.pfc_semantics.specs.Steps.{next_of}
 use Rattle.pfc_semantics.specs.Time.{settled_config}
 use Rattle.pfc_machines.specs.declared.machine.Machine.{Machine}
@@ -16,19 +16,25 @@ use Rattle.pfc_representation.specs.Levels.{Facts, LivingLevel, program_in}
 use Rattle.pfc_representation.specs.Rooms.{process_count}
 use Rattle.pfc_representation.specs.Machines.{Agrees}
 use Rattle.pfc_representation.specs.Acting.{IsActing, HasArrived}
+use Rattle.pfc_arrivals.specs.Arrivals.{ActsAsItsSource}
+use Rattle.pfc_arrivals.specs.Wants.{MayWantMemory}
 use Rattle.pfc_source_runs.specs.Points.{Point, point_after, IsOnTheWay}
 
 -- ## A machine and a point
 
--- The machine stands for the settled configuration: who is picked there has gone through quiet instructions to its next action, and has not acted.
+-- The machine stands for the settled configuration: who is picked there has gone through quiet instructions to its next action, which may want memory, and
+-- has not acted. It may act again from there, and does then what its action does in the source text.
 pub record IsUntried (facts : Facts) (m : Machine) (s : Point) : Type 0 where
   pub process : ℕ
+  pub goes : ending_at (settled_config s.config) ≡ None
   pub picks : picked s.picking (settled_config s.config).table.rows ≡ Process process
   pub level : LivingLevel
   pub before : Machine
   pub acting : IsActing facts before (settled_config s.config) process level
   pub arrived : HasArrived facts before (settled_config s.config) process level (next_of (program_in facts) (settled_config s.config) process)
   pub machine : m ≡ at_rest before
+  pub wants : MayWantMemory (next_of (program_in facts) (settled_config s.config) process)
+  pub may_act_again : (picking : Picking) → (acts : ActsAsItsSource facts m (settled_config s.config) process picking) × (acts.may.before ≡ before)
 
 -- the machine stands for the configuration, for the settled one, or for that just before the next action
 pub data StandsFor (facts : Facts) (m : Machine) (s : Point) : Type 0 where
@@ -70,7 +76,7 @@ pub data IsCut (facts : Facts) (limit : ℕ) (h : Run) (first : Point) (m : Mach
   uncounted : IsBrokenOff (program_in facts) limit h first (λ s. IsWornOut facts m s) before after
       → IsCut facts limit h first m before after
 
--- Memory was wanting: before an action; or where the machine counts no more.
+-- Memory was wanting: before an action that may want it; or where the machine counts no more.
 pub data IsWanting (facts : Facts) (limit : ℕ) (h : Run) (first : Point) (m : Machine) (before after : Option (List ℕ)) : Type 0 where
   refused : IsBrokenOff (program_in facts) limit h first (λ s. IsUntried facts m s) before after → IsWanting facts limit h first m before after
   worn_out : IsBrokenOff (program_in facts) limit h first (λ s. IsWornOut facts m s) before after

@@ -71,8 +71,8 @@ impl Numbers {
         *word = with_bit(*word, number % 64, held);
     }
 
-    /// The number at a place, counted from 0, among those of the set in order. The first, which is the only one where one process is ready, is found
-    /// without a count.
+    /// The number at a place, counted from 0, among those of the set in order. The first, which is the only one of a set of one, is found without
+    /// a count.
     pub fn at(&self, place: u32) -> u32
         requires { place < length (numbers self.now) }
         ensures { result ≡ get_or (numbers self.now) place 0 }

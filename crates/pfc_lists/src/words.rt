@@ -59,8 +59,8 @@ pub(crate) fn is_empty(word: u64) -> bool
     word == 0
 }
 
-/// The number of a set bit, of which so many are lower, where the lowest bit has this number. The lowest of all, which is the only
-/// one where one process is ready, is found in one look.
+/// The number of a set bit of the word, of which so many are lower, where bit 0 has the number `lowest`. The lowest of all, which is the only one of
+/// a set of one, is found in one look.
 pub(crate) fn number_of_bit(word: u64, before: u32, lowest: u32) -> u32
     requires found { before < length (numbers_from lowest (bits 64 word)) }
     requires small { lowest < 2 ^ 30 }

@@ -30,8 +30,10 @@ pub fn first_is_the_least()
     ensures wait { (why : Why) → GivesTickets (ticket_at why) }
     ensures alternative { (arm : Arm) → GivesTickets (ticket_offering arm) }
     ensures resource { (g : ℕ) (after : Option ℕ) → GivesTickets (ticket_barred g after) }
-    ensures first { (key : Stand → Option ℕ) (rows : List Stand) (p : ℕ) → GivesTickets key → AreApart rows → IsFirst key rows p → first key rows ≡ Some p }
-    ensures last { (key : Stand → Option ℕ) (rows : List Stand) (p : ℕ) → GivesTickets key → AreApart rows → IsLast key rows p → last key rows ≡ Some p }
+    ensures first { (key : Stand → Option ℕ) (rows : List Stand) (p : ℕ) → GivesTickets key → AreApart rows → IsFirst key rows p
+        → first key rows ≡ Some p }
+    ensures last { (key : Stand → Option ℕ) (rows : List Stand) (p : ℕ) → GivesTickets key → AreApart rows → IsLast key rows p
+        → last key rows ≡ Some p }
     ensures alone { (key : Stand → Option ℕ) (rows : List Stand) (p q : ℕ) → GivesTickets key → AreApart rows →
         IsFirst key rows p → IsFirst key rows q → p ≡ q }
     ensures nobody { (key : Stand → Option ℕ) (rows : List Stand) → IsNobody key rows → first key rows ≡ None }

@@ -1,7 +1,9 @@
 //! The rows of the table: what each process stands at, who acts, the number of actions done, and the clock.
-ghost use Rattle.std.specs.Prelude.{◌≡◌, ℕ, ◌+◌, ◌*◌, ◌^◌, ◌<◌, ◌≤◌, true, false, None, Some, Option, [], length, map, is_some, IfOk, IfSome, MatchOption};
+ghost use Rattle.std.specs.Prelude.{◌≡◌, ℕ, ◌+◌, ◌*◌, ◌^◌, ◌<◌, ◌≤◌, true, false, None, Some, Option};
+ghost use Rattle.std.specs.Prelude.{[], length, map, is_some, IfOk, IfSome, MatchOption};
 ghost use Rattle.pfc_state.specs.declared.waits.Why.{Why};
-ghost use Rattle.pfc_state.specs.Stands.{Is_ready, Waits, Is_done, IsWaiting, is_ready, is_unfinished, is_at_coend, state_of, ticket_of, arms_of, may_end, ticket_at, ticket_offering};
+ghost use Rattle.pfc_state.specs.Stands.{Is_ready, Waits, Is_done, IsWaiting, is_ready, is_unfinished, is_at_coend, state_of};
+ghost use Rattle.pfc_state.specs.Stands.{ticket_of, arms_of, may_end, ticket_at, ticket_offering};
 ghost use Rattle.pfc_state.specs.Waits.{is_select, place_of_arm};
 ghost use Rattle.pfc_world.specs.Coend.{IsAtCoend};
 ghost use Rattle.pfc_world.specs.Firsts.{offer_at};

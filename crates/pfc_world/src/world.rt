@@ -1,7 +1,9 @@
 //! The table of processes.
-ghost use Rattle.std.specs.Prelude.{◌≡◌, ℕ, ◌+◌, ◌-◌, ◌*◌, ◌^◌, ◌<◌, ◌≤◌, true, false, None, Some, Option, [], length, get_or, slice_index, map, IfOk, IfSome, MatchOption};
+ghost use Rattle.std.specs.Prelude.{◌≡◌, ℕ, ◌+◌, ◌-◌, ◌*◌, ◌^◌, ◌<◌, ◌≤◌, true, false, None, Some, Option, []};
+ghost use Rattle.std.specs.Prelude.{length, get_or, slice_index, map, IfOk, IfSome, MatchOption};
 ghost use Rattle.pfc_state.specs.declared.waits.Why.{Why};
-ghost use Rattle.pfc_state.specs.Stands.{Is_ready, Waits, Is_done, IsWaiting, is_due, state_of, ticket_of, arms_of, may_end, ticket_at, ticket_on, ticket_offering, ticket_barred};
+ghost use Rattle.pfc_state.specs.Stands.{Is_ready, Waits, Is_done, IsWaiting, is_due, state_of, ticket_of, arms_of};
+ghost use Rattle.pfc_state.specs.Stands.{may_end, ticket_at, ticket_on, ticket_offering, ticket_barred};
 ghost use Rattle.pfc_state.specs.Waits.{is_select, place_of_arm};
 ghost use Rattle.pfc_world.specs.Coend.{IsAtCoend};
 ghost use Rattle.pfc_world.specs.Firsts.{first, last, offer_at, first_offer, first_ranked, IsFirst, IsFirstRanked, IsLast, IsNobody};
@@ -185,7 +187,6 @@ impl World {
     }
 
     /// The wait of a process is over.
-    #[inline(never)]
     pub fn wake(&mut self, p: u32)
         requires { IsWaiting (at self.old.rows p) }
         ensures world { self.new ≡ placed self.old p Is_ready }
@@ -245,6 +246,7 @@ impl World {
     }
 
     /// Who is due is ready; where nobody is ready then, the clock goes to the earliest due moment.
+    #[inline(always)]
     pub fn settle(&mut self) -> Settled
         requires { self.old.acting ≡ None }
         ensures world { self.new ≡ settled self.old }
@@ -309,7 +311,8 @@ impl World {
     /// place there.
     pub fn first_offer(&self, arm: Arm) -> Option<Offer>
         ensures offer { result ≡ first_offer arm self.now.rows }
-        ensures found { MatchOption result (IsNobody (ticket_offering arm) self.now.rows) (λ offer. IsFirst (ticket_offering arm) self.now.rows offer.process) }
+        ensures found { MatchOption result (IsNobody (ticket_offering arm) self.now.rows)
+            (λ offer. IsFirst (ticket_offering arm) self.now.rows offer.process) }
         ensures waits { IfSome result (λ offer. IsWaiting (at self.now.rows offer.process)) }
         ensures within { IfSome result (λ offer. offer.process < length self.now.rows) }
     {

@@ -4,7 +4,7 @@ ghost use Rattle.pfc_code.specs.Operands as table;
 ghost use Rattle.pfc_stacks.specs.Answers.{own_effect_by, Changes};
 ghost use Rattle.pfc_stacks.specs.Conditions.{adds, Reckons};
 ghost use Rattle.pfc_stacks.specs.Refs.{IsAddress};
-ghost use Rattle.pfc_stacks.specs.Effects.{own_effect, jumping, of_one, of_two, is_within, element_word, element_at};
+ghost use Rattle.pfc_stacks.specs.Effects.{own_effect, is_within, element_word, element_at};
 
 use crate::instructed::Performed;
 use crate::stack::ProcessStack;
@@ -16,90 +16,8 @@ use pfc_values::{
 };
 
 impl ProcessStack {
-    /// Operators of two operands, the right one on top.
-    fn of_two(&mut self, i: Instr) -> Performed
-        requires held { table.told (table.operands_of i).reads ≤ length self.old.operands }
-        requires next { self.old.at + 1 < 2 ^ 32 }
-        ensures effect { of_two i self.old.at self.old.operands ≡ own_effect_by result self.new.at self.new.operands }
-        ensures changes { Changes result self.old self.new }
-    {
-        match i {
-            Instr::ADD => self.pass_outcome(2, sum(self.held(1), self.held(0))),
-            Instr::SUB => self.pass_outcome(2, difference(self.held(1), self.held(0))),
-            Instr::MUL => self.pass_outcome(2, product(self.held(1), self.held(0))),
-            Instr::DIV => self.pass_outcome(2, quotient(self.held(1), self.held(0))),
-            Instr::MOD => self.pass_outcome(2, remainder(self.held(1), self.held(0))),
-            Instr::AND => self.pass_outcome(2, Ok(both(self.held(1), self.held(0)))),
-            Instr::OR => self.pass_outcome(2, Ok(either(self.held(1), self.held(0)))),
-            Instr::EQ => self.pass_outcome(2, Ok(truth(self.held(1) == self.held(0)))),
-            Instr::NE => self.pass_outcome(2, Ok(truth(self.held(1) != self.held(0)))),
-            Instr::LT => self.pass_outcome(2, Ok(truth(self.held(1) < self.held(0)))),
-            Instr::LE => self.pass_outcome(2, Ok(truth(self.held(1) <= self.held(0)))),
-            Instr::GT => self.pass_outcome(2, Ok(truth(self.held(1) > self.held(0)))),
-            Instr::GE => self.pass_outcome(2, Ok(truth(self.held(1) >= self.held(0)))),
-            _ => Performed::Nothing,
-        }
-    }
-
-    /// Operators and functions of one operand.
-    fn of_one(&mut self, i: Instr) -> Performed
-        requires held { table.told (table.operands_of i).reads ≤ length self.old.operands }
-        requires next { self.old.at + 1 < 2 ^ 32 }
-        ensures effect { of_one i self.old.at self.old.operands ≡ own_effect_by result self.new.at self.new.operands }
-        ensures changes { Changes result self.old self.new }
-    {
-        match i {
-            Instr::NEG => self.pass_outcome(1, negative(self.held(0))),
-            Instr::ABS => self.pass_outcome(1, magnitude(self.held(0))),
-            Instr::SQR => self.pass_outcome(1, square(self.held(0))),
-            Instr::ODD => self.pass_outcome(1, Ok(odd(self.held(0)))),
-            Instr::CHR => self.pass_outcome(1, char_at(self.held(0))),
-            Instr::SUCC(k) => self.pass_outcome(1, next_value(Simple::of(k), self.held(0))),
-            Instr::PRED(k) => self.pass_outcome(1, value_before(Simple::of(k), self.held(0))),
-            Instr::NOT => self.pass_outcome(1, Ok(inverse(self.held(0)))),
-            _ => self.of_two(i),
-        }
-    }
-
-    /// Jumps and loops.
-    fn jumping(&mut self, i: Instr) -> Performed
-        requires held { table.told (table.operands_of i).reads ≤ length self.old.operands }
-        requires next { self.old.at + 1 < 2 ^ 32 }
-        ensures effect { jumping i self.old.at self.old.operands ≡ own_effect_by result self.new.at self.new.operands }
-        ensures changes { Changes result self.old self.new }
-    {
-        match i {
-            Instr::JMP(a) => {
-                self.go(a);
-                Performed::Passed
-            }
-            Instr::JF(a) => {
-                let to = if is_true(self.held(0)) {
-                    self.at() + 1
-                } else {
-                    a
-                };
-                self.leave(1, to);
-                Performed::Passed
-            }
-            Instr::TURN(a) => self.turn(a),
-            Instr::FORB(d, a) => self.begin_for(d, a),
-            Instr::FORT(d, a) => self.turn_for(d, a),
-            Instr::CEQ(n, a) => {
-                if self.held(0) == i64::from(n) {
-                    self.leave(1, a);
-                } else {
-                    self.pass();
-                }
-                Performed::Passed
-            }
-            Instr::CERR => Performed::Faulted(RunFault::Case),
-            _ => self.of_one(i),
-        }
-    }
-
     /// The instructions that need no more than the address and the operands of their process: numbers, the address of an
-    /// element or of a field, and all of the above. Any other is left undone.
+    /// element or of a field, jumps and loops, operators and functions. Any other is left undone.
     pub(crate) fn perform_own(&mut self, i: Instr) -> Performed
         requires held { table.told (table.operands_of i).reads ≤ length self.old.operands }
         requires room { adds i ≤ self.old.room - length self.old.operands }
@@ -109,28 +27,122 @@ impl ProcessStack {
         ensures changes { Changes result self.old self.new }
     {
         match i {
-            Instr::LIT(n) => {
-                self.push(i64::from(n));
-                self.pass();
-                Performed::Passed
-            }
-            Instr::IDX(low, high, z) => {
-                let i = self.held(0);
-                let array = self.held(1);
-                self.pass_outcome(2, element(low, high, z, i, array))
-            }
-            Instr::FLD(k) => {
-                let a = self.held(0) + i64::from(k);
-                self.pass_with(1, a);
-                Performed::Passed
-            }
-            _ => self.jumping(i),
+            Instr::LIT(n) => self.literal(n),
+            Instr::IDX(low, high, z) => self.index(low, high, z),
+            Instr::FLD(k) => self.field(k),
+            Instr::JMP(a) => self.jump(a),
+            Instr::JF(a) => self.jump_if_false(a),
+            Instr::TURN(a) => self.turn(a),
+            Instr::FORB(d, a) => self.begin_for(d, a),
+            Instr::FORT(d, a) => self.turn_for(d, a),
+            Instr::CEQ(n, a) => self.compare_label(n, a),
+            Instr::CERR => Performed::Faulted(RunFault::Case),
+            Instr::NEG => self.pass_outcome(1, negative(self.held(0))),
+            Instr::ABS => self.pass_outcome(1, magnitude(self.held(0))),
+            Instr::SQR => self.pass_outcome(1, square(self.held(0))),
+            Instr::ODD => self.pass_value(1, odd(self.held(0))),
+            Instr::CHR => self.pass_outcome(1, char_at(self.held(0))),
+            Instr::SUCC(k) => self.pass_outcome(1, next_value(Simple::of(k), self.held(0))),
+            Instr::PRED(k) => self.pass_outcome(1, value_before(Simple::of(k), self.held(0))),
+            Instr::NOT => self.pass_value(1, inverse(self.held(0))),
+            Instr::ADD => self.pass_outcome(2, sum(self.held(1), self.held(0))),
+            Instr::SUB => self.pass_outcome(2, difference(self.held(1), self.held(0))),
+            Instr::MUL => self.pass_outcome(2, product(self.held(1), self.held(0))),
+            Instr::DIV => self.pass_outcome(2, quotient(self.held(1), self.held(0))),
+            Instr::MOD => self.pass_outcome(2, remainder(self.held(1), self.held(0))),
+            Instr::AND => self.pass_value(2, both(self.held(1), self.held(0))),
+            Instr::OR => self.pass_value(2, either(self.held(1), self.held(0))),
+            Instr::EQ => self.pass_value(2, truth(self.held(1) == self.held(0))),
+            Instr::NE => self.pass_value(2, truth(self.held(1) != self.held(0))),
+            Instr::LT => self.pass_value(2, truth(self.held(1) < self.held(0))),
+            Instr::LE => self.pass_value(2, truth(self.held(1) <= self.held(0))),
+            Instr::GT => self.pass_value(2, truth(self.held(1) > self.held(0))),
+            Instr::GE => self.pass_value(2, truth(self.held(1) >= self.held(0))),
+            _ => Performed::Nothing,
         }
+    }
+
+    /// A number.
+    fn literal(&mut self, n: i32) -> Performed
+        requires room { 1 ≤ self.old.room - length self.old.operands }
+        requires next { self.old.at + 1 < 2 ^ 32 }
+        ensures effect { own_effect (Instr.LIT n) self.old.at self.old.operands ≡ own_effect_by result self.new.at self.new.operands }
+        ensures changes { Changes result self.old self.new }
+    {
+        self.push(i64::from(n));
+        self.pass();
+        Performed::Passed
+    }
+
+    /// The address of an element, over that of the array, whose index is on top.
+    fn index(&mut self, low: i32, high: i32, z: u32) -> Performed
+        requires held { 2 ≤ length self.old.operands }
+        requires reckons { Reckons (Instr.IDX low high z) self.old.operands }
+        requires next { self.old.at + 1 < 2 ^ 32 }
+        ensures effect { own_effect (Instr.IDX low high z) self.old.at self.old.operands ≡ own_effect_by result self.new.at self.new.operands }
+        ensures changes { Changes result self.old self.new }
+    {
+        let i = self.held(0);
+        let array = self.held(1);
+        self.pass_outcome(2, element(low, high, z, i, array))
+    }
+
+    /// The address of a field, over that of the record.
+    fn field(&mut self, k: u32) -> Performed
+        requires held { 1 ≤ length self.old.operands }
+        requires reckons { Reckons (Instr.FLD k) self.old.operands }
+        requires next { self.old.at + 1 < 2 ^ 32 }
+        ensures effect { own_effect (Instr.FLD k) self.old.at self.old.operands ≡ own_effect_by result self.new.at self.new.operands }
+        ensures changes { Changes result self.old self.new }
+    {
+        let a = self.held(0) + i64::from(k);
+        self.pass_with(1, a);
+        Performed::Passed
+    }
+
+    /// On at an address.
+    fn jump(&mut self, a: u32) -> Performed
+        ensures effect { own_effect (Instr.JMP a) self.old.at self.old.operands ≡ own_effect_by result self.new.at self.new.operands }
+        ensures changes { Changes result self.old self.new }
+    {
+        self.go(a);
+        Performed::Passed
+    }
+
+    /// On at an address where the value on top is false.
+    fn jump_if_false(&mut self, a: u32) -> Performed
+        requires held { 1 ≤ length self.old.operands }
+        requires next { self.old.at + 1 < 2 ^ 32 }
+        ensures effect { own_effect (Instr.JF a) self.old.at self.old.operands ≡ own_effect_by result self.new.at self.new.operands }
+        ensures changes { Changes result self.old self.new }
+    {
+        let to = if is_true(self.held(0)) {
+            self.at() + 1
+        } else {
+            a
+        };
+        self.leave(1, to);
+        Performed::Passed
+    }
+
+    /// On at an address where the value of a `case`, on top, is that of a label.
+    fn compare_label(&mut self, n: i32, a: u32) -> Performed
+        requires held { 1 ≤ length self.old.operands }
+        requires next { self.old.at + 1 < 2 ^ 32 }
+        ensures effect { own_effect (Instr.CEQ n a) self.old.at self.old.operands ≡ own_effect_by result self.new.at self.new.operands }
+        ensures changes { Changes result self.old self.new }
+    {
+        if self.held(0) == i64::from(n) {
+            self.leave(1, a);
+        } else {
+            self.pass();
+        }
+        Performed::Passed
     }
 
     /// Back to an address, as an action.
     fn turn(&mut self, a: u32) -> Performed
-        ensures effect { jumping (Instr.TURN a) self.old.at self.old.operands ≡ own_effect_by result self.new.at self.new.operands }
+        ensures effect { own_effect (Instr.TURN a) self.old.at self.old.operands ≡ own_effect_by result self.new.at self.new.operands }
         ensures changes { Changes result self.old self.new }
     {
         self.go(a);
@@ -141,7 +153,7 @@ impl ProcessStack {
     fn begin_for(&mut self, d: u32, a: u32) -> Performed
         requires held { 2 ≤ length self.old.operands }
         requires next { self.old.at + 1 < 2 ^ 32 }
-        ensures effect { jumping (Instr.FORB d a) self.old.at self.old.operands ≡ own_effect_by result self.new.at self.new.operands }
+        ensures effect { own_effect (Instr.FORB d a) self.old.at self.old.operands ≡ own_effect_by result self.new.at self.new.operands }
         ensures changes { Changes result self.old self.new }
     {
         let from = self.held(1);
@@ -159,7 +171,7 @@ impl ProcessStack {
     fn turn_for(&mut self, d: u32, a: u32) -> Performed
         requires held { 2 ≤ length self.old.operands }
         requires next { self.old.at + 1 < 2 ^ 32 }
-        ensures effect { jumping (Instr.FORT d a) self.old.at self.old.operands ≡ own_effect_by result self.new.at self.new.operands }
+        ensures effect { own_effect (Instr.FORT d a) self.old.at self.old.operands ≡ own_effect_by result self.new.at self.new.operands }
         ensures changes { Changes result self.old self.new }
     {
         let kept = self.held(1);

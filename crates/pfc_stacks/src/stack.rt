@@ -1,7 +1,7 @@
 //! The stack of one process.
 ghost use Rattle.std.specs.Prelude.{◌≡◌, ◌≤◌, ◌<◌, ◌+◌, ◌^◌, ℤ, pos, [], ◌∷◌, length, ◌++◌, take, drop, set, get_or, reverse, IfOk, IfSome, Ok};
 ghost use Rattle.pfc_stacks.specs.Answers.{own_effect_by, Changes};
-ghost use Rattle.pfc_stacks.specs.Effects.{with_outcome};
+ghost use Rattle.pfc_stacks.specs.Effects.{quiet, with_outcome};
 ghost use Rattle.pfc_stacks.specs.Stacks.{operand, idle_stack, own_count, own_word, own_number};
 ghost use Rattle.pfc_stacks.specs.Starts.{numbered};
 ghost use Rattle.pfc_stacks.specs.Activations.{entered, first_own, own_words, block_cells};
@@ -270,6 +270,18 @@ impl ProcessStack {
     {
         self.operands.replace(n, v);
         self.at += 1;
+    }
+
+    /// Pops so many operands, pushes the value of an evaluation that has no fault, and goes on at the next instruction.
+    pub(crate) fn pass_value(&mut self, n: usize, v: i64) -> Performed
+        requires some { 0 < n }
+        requires held { n ≤ length self.old.operands }
+        requires next { self.old.at + 1 < 2 ^ 32 }
+        ensures effect { quiet (self.old.at + 1) (v ∷ drop n self.old.operands) ≡ own_effect_by result self.new.at self.new.operands }
+        ensures changes { Changes result self.old self.new }
+    {
+        self.pass_with(n, v);
+        Performed::Passed
     }
 
     /// The same with what came of an evaluation; a fault changes nothing.

@@ -1,16 +1,15 @@
 -- All along the runs of a checked program each action is kept, and keeps to the rules.
-use Rattle.std.proofs.Common.{◌≡◌, ◌≢◌, ◌<◌, ◌^◌, ℕ, true, List, [], length, Some, refl, ap, subst}
+use Rattle.std.proofs.Common.{◌≡◌, ◌≢◌, ◌<◌, ◌^◌, ℕ, true, List, [], Some, refl, ap}
 use Rattle.pfc_tree.specs.trees.Parts.{ProgramTree}
 use Rattle.pfc_tree.specs.forget.Parts.{forget_program}
 use Rattle.pfc_tree.specs.lawful.Parts.{IsLawful}
 use Rattle.pfc_types.specs.rules.Whole.{broken}
 use Rattle.pfc_sched.specs.Picks.{Picking}
-use Rattle.pfc_state.specs.Stands.{Stand, is_ready, is_unfinished}
+use Rattle.pfc_state.specs.Stands.{is_ready, is_unfinished}
 use Rattle.pfc_world.specs.Tables.{at}
 use Rattle.pfc_semantics.specs.Configurations.{Config, activity_of, start}
 use Rattle.pfc_semantics.specs.Events.{step as step_of_source}
 use Rattle.pfc_semantics.specs.Programs.{Program, program_of}
-use Rattle.pfc_semantics.specs.Remainders.{Action}
 use Rattle.pfc_semantics.specs.Runs.{choice_among}
 use Rattle.pfc_semantics.specs.Steps.{next_of}
 use Rattle.pfc_semantics.specs.Time.{settled_config}
@@ -22,7 +21,7 @@ use Rattle.pfc_run_rules.specs.Rules.{KeepsToRules}
 use Rattle.pfc_run_invariants.specs.Inputs.{AreBytes}
 use Rattle.pfc_number_laws.specs.Written.{FitsTree}
 use Rattle.pfc_guard_laws.specs.Keeping.{HoldsAtResumes}
-use Rattle.pfc_guard_laws.specs.Runs.{RunsLiving, living_first, acts_living}
+use Rattle.pfc_guard_laws.specs.Runs.{living_first, acts_living}
 use Rattle.pfc_guard_laws.proofs.Keeping.{run_keeps}
 use Rattle.pfc_guard_laws.proofs.Living.{outside_so, runs_once}
 use Rattle.pfc_run_guards.proofs.Headings.{checked_program, checked_in_order}
@@ -41,7 +40,7 @@ use Rattle.pfc_checked_runs.proofs.arrived.Resuming.{names_its_monitor}
 use Rattle.pfc_holding_laws.proofs.Inside.{resumer_holds, ready_alive}
 use Rattle.pfc_number_runs.proofs.Reached.{checked_take}
 use Rattle.pfc_representation.specs.Acting.{TakesNumber}
-use Rattle.pfc_representation.specs.Levels.{Facts, program_in}
+use Rattle.pfc_representation.specs.Levels.{Facts}
 use Rattle.pfc_representation.specs.Machines.{Represents, Agrees}
 use Rattle.pfc_represented_start.specs.Starts.{start_facts}
 use Rattle.pfc_arrivals.specs.Arrivals.{IsAboutToAct, ComesToAction, IsNextKept}

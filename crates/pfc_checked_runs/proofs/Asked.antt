@@ -1,9 +1,9 @@
 -- What is asked of an action, all along the runs of a checked program.
-use Rattle.std.proofs.Common.{◌≡◌, ℕ, ◌<◌, ◌^◌, List, refl, sym, ◌∙◌, subst}
+use Rattle.std.proofs.Common.{◌≡◌, ℕ, ◌<◌, ◌^◌, refl, sym, ◌∙◌, subst}
 use Rattle.pfc_tree.specs.trees.Parts.{ProgramTree}
 use Rattle.pfc_semantics.specs.Configurations.{Config}
 use Rattle.pfc_semantics.specs.Programs.{Program, program_of}
-use Rattle.pfc_semantics.specs.Remainders.{Context, Accepting, Argument, Call, Offer, Open, Remainder, Selecting, Action, to_procedure, to_function, to_module}
+use Rattle.pfc_semantics.specs.Remainders.{Context, Call, Offer, Open, Remainder, Action, to_procedure, to_function, to_module}
 use Rattle.pfc_semantics.specs.Remainders.{to_requeue, to_process, to_entry, to_send, to_receive, to_accept, to_wait, to_end, reads, writes, turns, calls}
 use Rattle.pfc_semantics.specs.Remainders.{finishes, prints, inputs, skips, asks_eof, asks_eoln, asks_clock, asks_empty, draws, joins, initials, waits}
 use Rattle.pfc_semantics.specs.Remainders.{signals, delays, resumes, sleeps, meets, decides, parts, scans, bars, passes, faults}

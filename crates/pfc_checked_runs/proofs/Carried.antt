@@ -1,5 +1,5 @@
 -- What holds at the start of a run, and behind each action on a machine that agrees with the configuration before it, holds wherever the run comes.
-use Rattle.std.proofs.Common.{ℕ, sym, ap, ◌∙◌}
+use Rattle.std.proofs.Common.{ℕ}
 use Rattle.pfc_sched.specs.Picks.{Picking}
 use Rattle.pfc_semantics.specs.Configurations.{Config}
 use Rattle.pfc_semantics.specs.Programs.{Program}
@@ -15,7 +15,7 @@ use Rattle.pfc_representation.specs.Machines.{Represents, Agrees, goes_on}
 use Rattle.pfc_arrivals.specs.Arrivals.{AreNumbered, IsNextKept}
 use Rattle.pfc_sessions.specs.Runs.{step_of}
 use Rattle.pfc_simulation.specs.Reached.{GoesOn, IsReached, at_first, one_further, RunKeepsToRules, IsRunKept}
-use Rattle.pfc_simulation.proofs.Stepping.{StepsAgree, steps_agree}
+use Rattle.pfc_simulation.proofs.Stepping.{steps_agree}
 
 -- Of an action of process p: what it takes has 32 bits, the run keeps to the rules there, the action is kept, and behind it this holds again.
 pub record GoesOnHolding (facts : Facts) (holds : Config → Type 0) (c : Config) (picking : Picking) (p : ℕ) : Type 0 where

@@ -1,5 +1,5 @@
 -- The blocks of the processes of a checked program can be created.
-use Rattle.std.proofs.Common.{◌≡◌, ℕ, ◌==◌, ◌<◌, List, length, slice_get, Option, Some, refl, sym, ap, ◌∙◌, subst, unwrap_or, position}
+use Rattle.std.proofs.Common.{◌≡◌, ℕ, ◌==◌, length, slice_get, Some, refl, sym, ap, ◌∙◌, subst, unwrap_or, position}
 use Rattle.pfc_code.specs.declared.images.Block.{Block as CodeBlock}
 use Rattle.pfc_tree.specs.trees.Parts.{ProgramTree}
 use Rattle.pfc_types.specs.Blocks.{process_at}

@@ -1,5 +1,5 @@
 -- Each kind of action is kept.
-use Rattle.std.proofs.Common.{◌≡◌, ℕ, ◌<◌, ◌^◌, ◌⊎◌, inl, inr, ℤ, List, [], ◌∷◌, ◌++◌, length, slice_get, Option, Some, All, refl, sym, ap, ◌∙◌, subst}
+use Rattle.std.proofs.Common.{◌≡◌, ℕ, ◌⊎◌, inl, inr, ℤ, List, [], ◌∷◌, slice_get, Some, refl, sym, ap, ◌∙◌, subst}
 use Rattle.pfc_code.specs.declared.instructions.Instr.{Instr}
 use Rattle.pfc_code.specs.declared.instructions.Instr.TheVariants.{RET, RETF, END}
 use Rattle.pfc_world.specs.Tables.{Table}
@@ -22,7 +22,7 @@ use Rattle.pfc_machines.specs.Communications.{Communicating}
 use Rattle.pfc_machines.specs.Descriptors.{descriptor_of}
 use Rattle.pfc_object_laws.specs.Objects.{number_at}
 use Rattle.pfc_run_rules.specs.Rules.{IsByRules, IsOfItsBlock, KeepsToRules}
-use Rattle.pfc_representation.specs.Levels.{Facts, program_in, IsProgram, LivingLevel}
+use Rattle.pfc_representation.specs.Levels.{Facts, program_in, LivingLevel}
 use Rattle.pfc_representation.specs.Callers.{ending_of, AreCallers}
 use Rattle.pfc_representation.specs.Trials.{mark_of}
 use Rattle.pfc_representation.specs.Acting.{IsActing, HasArrived}

@@ -1,7 +1,7 @@
 -- Single processes have their numbers as long as a program runs.
 use Rattle.std.proofs.Common.{◌≡◌, ℕ, ◌+◌, ◌*◌, ◌^◌, ◌<◌, ◌≤◌, ℤ, pos, [], length, slice_get, Option, Some, None, refl, sym, ap, ◌∙◌, subst, arith}
 use Rattle.pfc_types.specs.declared.scope.Meaning.TheVariants.{Process}
-use Rattle.pfc_semantics.specs.Values.{Value, Location, ordinal}
+use Rattle.pfc_semantics.specs.Values.{Location, ordinal}
 use Rattle.pfc_semantics.specs.Programs.{Block, Program, block_at}
 use Rattle.pfc_semantics.specs.Processes.{declaration_of}
 use Rattle.pfc_semantics.specs.Store.{variable}

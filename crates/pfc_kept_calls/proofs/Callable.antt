@@ -4,7 +4,6 @@ use Rattle.std.proofs.Common.{◌∷◌, length, take, get_or, slice_get, Option
 use Rattle.std.specs.Prelude.{position, unwrap_or}
 use Rattle.std.specs.List.{position_or_len}
 use Rattle.std.proofs.lemmas.Bool.Decides.{nat_tests}
-use Rattle.pfc_code.specs.declared.images.Block.{Block as CodeBlock}
 use Rattle.pfc_code.specs.declared.instructions.Instr.{Instr}
 use Rattle.pfc_code.specs.declared.instructions.Instr.TheVariants.{RET, RETF, END}
 use Rattle.pfc_tree.specs.trees.Parts.{ProgramTree}
@@ -14,26 +13,24 @@ use Rattle.pfc_types.specs.declared.heads.SubHead.{SubHead}
 use Rattle.pfc_types.specs.declared.heads.SubSort.{SubSort}
 use Rattle.pfc_types.specs.declared.heads.SubSort.TheVariants.{Procedure, Guarded, Function}
 use Rattle.pfc_types.specs.rules.Routines.{is_function_sort}
-use Rattle.pfc_types.specs.rules.Whole.{finished}
-use Rattle.pfc_semantics.specs.Layouts.{Layout, sub_with}
-use Rattle.pfc_semantics.specs.Configurations.{Config, activity_of}
+use Rattle.pfc_semantics.specs.Layouts.{sub_with}
+use Rattle.pfc_semantics.specs.Configurations.{Config}
 use Rattle.pfc_semantics.specs.Programs.{Block, Guard, Program, block_at, block_number, layout_cells, program_of}
 use Rattle.pfc_semantics.specs.Remainders.{Context, Remainder, AwaitsValue, Argument, Action, calls, to_procedure, to_function, finishes}
 use Rattle.pfc_translation.specs.Sites.{is_mains, links_from}
-use Rattle.pfc_translation.specs.Operands.{formals_of, params_of}
-use Rattle.pfc_translation.specs.Images.{end_of, image_of}
+use Rattle.pfc_translation.specs.Operands.{formals_of}
+use Rattle.pfc_translation.specs.Images.{end_of}
 use Rattle.pfc_image_laws.specs.Levels.{sees}
 use Rattle.pfc_image_cells.proofs.Trees.{mains_no_sub}
-use Rattle.pfc_cells.specs.Homes.{cells_before}
 use Rattle.pfc_machines.specs.declared.machine.Machine.{Machine}
-use Rattle.pfc_standing_code.specs.Settings.{Trial, of_own, Setting, site_of, IsBeside, IsMains, same_block, both_mains}
+use Rattle.pfc_standing_code.specs.Settings.{Trial, of_own, site_of, IsBeside, IsMains, same_block, both_mains}
 use Rattle.pfc_standing_code.specs.Typed.{ByName, InExpressions, IsOfSub}
 use Rattle.pfc_standing_code.specs.Performs.{own_block}
 use Rattle.pfc_call_laws.specs.Around.{IsNested}
 use Rattle.pfc_call_laws.proofs.Places.{or_cases}
 use Rattle.pfc_typed_programs.specs.Bodies.{IsBody, of_block, of_module, of_main}
 use Rattle.pfc_nesting_laws.proofs.Programs.{by_scope}
-use Rattle.pfc_callee_laws.specs.Callees.{is_guarded_sort, IsActivated, IsSubBlock, IsCalledFrom, IsMainsBody}
+use Rattle.pfc_callee_laws.specs.Callees.{is_guarded_sort}
 use Rattle.pfc_callee_laws.proofs.Images.{params_there}
 use Rattle.pfc_callee_laws.proofs.Mains.{main_scope, of_mains}
 use Rattle.pfc_callee_laws.proofs.Program.{its_layout}

@@ -18,7 +18,7 @@ use Rattle.pfc_semantics.specs.Programs.{Block, Program}
 use Rattle.pfc_semantics.specs.Remainders.{Context, Offer, Open, Remainder, to_send, to_receive, to_accept, to_wait, to_end}
 use Rattle.pfc_semantics.specs.Configurations.{Config, number_for}
 use Rattle.pfc_semantics.specs.Channels as text
-use Rattle.pfc_semantics.specs.Channels.{first_open, Side}
+use Rattle.pfc_semantics.specs.Channels.{first_open}
 use Rattle.pfc_stacks.specs.Refs.{number_of}
 use Rattle.pfc_machines.specs.declared.alternatives.Alternative.{Alternative}
 use Rattle.pfc_machines.specs.declared.alternatives.KeptAlternative.{KeptAlternative}

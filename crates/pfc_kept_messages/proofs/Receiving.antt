@@ -21,7 +21,7 @@ use Rattle.pfc_semantics.specs.Programs.{Block, Program}
 use Rattle.pfc_semantics.specs.Remainders.{Context, Offer, Open, Remainder, to_send, to_receive, to_accept, to_wait, to_end, meets}
 use Rattle.pfc_semantics.specs.Rewriting.{Doing, going}
 use Rattle.pfc_semantics.specs.Channels as text
-use Rattle.pfc_semantics.specs.Channels.{behind_open, behind_replica, Side, side_of}
+use Rattle.pfc_semantics.specs.Channels.{behind_open, Side}
 use Rattle.pfc_semantics.specs.Selects.{partner_at, plainly, communicates_by, meets_or_waits, meets_at}
 use Rattle.pfc_semantics.specs.Configurations.{Activity, Config, Effect, nobody, offering, activity_of, at_work, goes_on, showing, with_table, location_for}
 use Rattle.pfc_semantics.specs.Configurations.{number_for}
@@ -72,7 +72,7 @@ use Rattle.pfc_kept_messages.proofs.Stacks.{written_same, changed_alike, put_ali
 use Rattle.pfc_kept_messages.proofs.Sending.{plain_behind, plain_branch}
 use Rattle.pfc_kept_messages.proofs.Partner.{is_open_stand, IsShowing, behind_kept}
 use Rattle.pfc_kept_messages.proofs.Meeting as meeting
-use Rattle.pfc_kept_messages.proofs.Meeting.{apart, is_process, row_is, met_stays, q_there, base, meets_behind}
+use Rattle.pfc_kept_messages.proofs.Meeting.{is_process, row_is, met_stays, q_there, base, meets_behind}
 use Rattle.pfc_kept_messages.proofs.Finding.{waits, process, shows, makes, offers_all, is_offering, FoundThere, found_there, in_machine, in_text}
 use Rattle.pfc_kept_messages.proofs.Made.{room_for_one, within_made}
 use Rattle.pfc_kept_messages.proofs.Passing.{Sends, sends, IsTarget, to_variable, to_nobody, Receives, receives, Delivers, delivers}

@@ -23,7 +23,7 @@ use Rattle.pfc_semantics.specs.Remainders.{Context, Replica, Offer, Open, Remain
 use Rattle.pfc_semantics.specs.Rewriting.{Doing, going}
 use Rattle.pfc_semantics.specs.Statements.{behind}
 use Rattle.pfc_semantics.specs.Channels as text
-use Rattle.pfc_semantics.specs.Channels.{behind_open, behind_replica, Side, side_of}
+use Rattle.pfc_semantics.specs.Channels.{behind_open, behind_replica, Side}
 use Rattle.pfc_semantics.specs.Selects.{partner_at, plainly, communicates_by, meets_or_waits, meets_at}
 use Rattle.pfc_semantics.specs.Configurations.{Activity, Config, Effect, nobody, offering, activity_of, at_work, goes_on, showing, with_table, location_for}
 use Rattle.pfc_semantics.specs.Configurations.{number_for}

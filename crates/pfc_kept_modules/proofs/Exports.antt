@@ -1,5 +1,5 @@
 -- A sub that is no function and stands in a module is a procedure that can be called from outside.
-use Rattle.std.proofs.Common.{◌≡◌, ℕ, ◌<◌, ◌==◌, false, List, length, slice_get, Some, refl, sym, ap, ◌∙◌, subst}
+use Rattle.std.proofs.Common.{◌≡◌, ℕ, ◌<◌, ◌==◌, false, List, length, Some, refl, sym, ap, ◌∙◌, subst}
 use Rattle.std.specs.Prelude.{position, unwrap_or}
 use Rattle.pfc_code.specs.declared.instructions.Instr.TheVariants.{RET}
 use Rattle.pfc_tree.specs.trees.Parts.{ProgramTree}

@@ -1,11 +1,9 @@
 -- Wherever the code of a checked program requeues, what is told of requeues is so.
-use Rattle.std.proofs.Common.{◌≡◌, ℕ, ℤ, zero, suc, ◌<◌, true, false, List, [], ◌∷◌, length, slice_get, Option, Some, refl, sym, ap, ◌∙◌, subst}
-use Rattle.pfc_code.specs.declared.instructions.Instr.TheVariants.{RET}
+use Rattle.std.proofs.Common.{◌≡◌, ℕ, ℤ, zero, suc, true, false, List, [], ◌∷◌, slice_get, Some, sym, ap, ◌∙◌, subst}
 use Rattle.pfc_tree.specs.trees.Parts.{ProgramTree}
 use Rattle.pfc_types.specs.Blocks.{sub_at}
 use Rattle.pfc_types.specs.declared.heads.Formal.{Formal}
 use Rattle.pfc_types.specs.declared.heads.SubHead.{SubHead}
-use Rattle.pfc_types.specs.declared.heads.SubSort.TheVariants.{Guarded}
 use Rattle.pfc_types.specs.rules.Routines.{is_function_sort}
 use Rattle.pfc_world.specs.Tables.{Table}
 use Rattle.pfc_semantics.specs.Layouts.{sub_with}
@@ -13,7 +11,6 @@ use Rattle.pfc_semantics.specs.Store.{Store}
 use Rattle.pfc_semantics.specs.Configurations.{Activation, Config, activity_of}
 use Rattle.pfc_semantics.specs.Programs.{Block, Program, block_at, program_of, layout_cells}
 use Rattle.pfc_semantics.specs.Remainders.{Context, Argument, Action, calls, to_requeue}
-use Rattle.pfc_translation.specs.Sites.{is_mains}
 use Rattle.pfc_translation.specs.Images.{end_of}
 use Rattle.pfc_stacks.specs.Refs.{word_of}
 use Rattle.pfc_stacks.specs.Stacks.{stack_of, last_activation}

@@ -1,6 +1,6 @@
 -- A requeue, which the code has arrived at.
-use Rattle.std.proofs.Common.{◌≡◌, ℕ, suc, ◌+◌, ◌^◌, ◌<◌, ◌≤◌, ℤ, Bool, true, false, if◌then◌else◌, List, [], ◌∷◌, length, slice_get, get_or, All, Option, Some}
-use Rattle.std.proofs.Common.{Ok, Err, refl, sym, ap, ◌∙◌, subst, arith, ◌⊎◌, inl, inr, length-append}
+use Rattle.std.proofs.Common.{◌≡◌, ℕ, suc, ◌+◌, ◌≤◌, ℤ, Bool, true, false, if◌then◌else◌, List, [], ◌∷◌, length, slice_get, get_or, All, Option, Some}
+use Rattle.std.proofs.Common.{Ok, Err, refl, sym, ap, ◌∙◌, subst, arith, ◌⊎◌, inl, inr}
 use Rattle.std.specs.Prelude.{nat_le}
 use Rattle.std.proofs.lemmas.List.{append-nil}
 use Rattle.std.proofs.lemmas.Option.{slice_get_within, get_or_from_slice_get}
@@ -27,7 +27,6 @@ use Rattle.pfc_stacks.specs.Activations.{has_place, size_of, params_of}
 use Rattle.pfc_cells.specs.Homes.{Home, layout_at}
 use Rattle.pfc_cells.specs.Memory.{Entry, CellsAre, ProcessIs}
 use Rattle.pfc_machines.specs.declared.machine.Machine.{Machine}
-use Rattle.pfc_machines.specs.Descriptors.{descriptor_of}
 use Rattle.pfc_call_actions.specs.Calls.{unless_full as machine_unless_full}
 use Rattle.pfc_call_actions.specs.Requeues.{in_place, requeues as machine_requeues}
 use Rattle.pfc_call_actions.specs.Returns.{scans_from}

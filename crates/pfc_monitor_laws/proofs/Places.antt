@@ -1,7 +1,7 @@
 -- Whose a condition is, where the variable that holds it is named: it stands in a monitor's scope, and the condition is one of that monitor.
-use Rattle.std.proofs.Common.{◌≡◌, ◌≢◌, ℕ, zero, suc, ◌+◌, ◌<◌, ◌==◌, ◌||◌, ◌⊎◌, inl, inr, pos, Bool, true, false, if◌then◌else◌, is_some, List, [], ◌∷◌}
+use Rattle.std.proofs.Common.{◌≡◌, ℕ, zero, suc, ◌+◌, ◌<◌, ◌==◌, ◌||◌, ◌⊎◌, inl, inr, pos, Bool, true, false, if◌then◌else◌, is_some, List, [], ◌∷◌}
 use Rattle.std.proofs.Common.{length}
-use Rattle.std.proofs.Common.{take, get_or, position, Option, Some, None, refl, sym, ap, ◌∙◌, subst, arith}
+use Rattle.std.proofs.Common.{take, get_or, Option, Some, None, refl, sym, ap, ◌∙◌, subst, arith}
 use Rattle.std.specs.List.{All, slice_get}
 use Rattle.std.proofs.lemmas.Bool.Decides.{nat_tests}
 use Rattle.std.proofs.lemmas.List.Elements.{All-head, All-tail}
@@ -13,18 +13,18 @@ use Rattle.pfc_tree.specs.forget.Parts.{forget_program}
 use Rattle.pfc_tree.specs.lawful.Parts.{IsLawful}
 use Rattle.pfc_types.specs.Types.{Forms, condition, held_of}
 use Rattle.pfc_types.specs.Scopes.{Names, scope_at}
-use Rattle.pfc_types.specs.Blocks.{Blocks, no_sub, no_module, sub_at, module_at}
+use Rattle.pfc_types.specs.Blocks.{Blocks, no_module, sub_at, module_at}
 use Rattle.pfc_types.specs.declared.types.TypeId.{TypeId}
 use Rattle.pfc_types.specs.declared.heads.SubHead.{SubHead}
 use Rattle.pfc_types.specs.declared.heads.ModuleHead.{ModuleHead}
 use Rattle.pfc_types.specs.declared.scope.Meaning.{Meaning}
 use Rattle.pfc_types.specs.declared.scope.Meaning.TheVariants.{Variable}
-use Rattle.pfc_types.specs.rules.Declarations.{Owner, in_program, module_owner, may_wait}
+use Rattle.pfc_types.specs.rules.Declarations.{in_program, module_owner, may_wait}
 use Rattle.pfc_types.specs.rules.Whole.{finished, broken}
 use Rattle.pfc_semantics.specs.Values.{Value, ordinal, part}
 use Rattle.pfc_semantics.specs.Layouts.{Layout, is_laid, laid_names, main_layout, sub_with, behind_result, before_module, before_scope, variable_place}
 use Rattle.pfc_semantics.specs.Objects.{no_objects, module_number}
-use Rattle.pfc_semantics.specs.Programs.{Program, block_at, program_of}
+use Rattle.pfc_semantics.specs.Programs.{Program, program_of}
 use Rattle.pfc_translation.specs.Sites.{module_of, is_mains}
 use Rattle.pfc_cells.specs.Shapes.{IsPath, here, into_element, into_field}
 use Rattle.pfc_cells.specs.Homes.{laid_type}
@@ -32,14 +32,13 @@ use Rattle.pfc_standing_code.specs.Shapes.{is_object_type}
 use Rattle.pfc_standing_code.specs.Typed.{IsOfScope, of_name, of_result}
 use Rattle.pfc_type_laws.specs.Tables.{IsBuiltUp}
 use Rattle.pfc_type_laws.proofs.WalkBlocks.{types_built}
-use Rattle.pfc_object_laws.specs.Mains.{AreOfMain}
 use Rattle.pfc_object_laws.proofs.Mains.{layout_is}
 use Rattle.pfc_main_names.specs.Owners.{IsOfOwner}
 use Rattle.pfc_main_names.proofs.Walk.{names_fine}
 use Rattle.pfc_main_names.proofs.Mains.{there as at_number, modules_inside, are_of_main}
 use Rattle.pfc_main_names.proofs.Owned.{IsFine}
 use Rattle.pfc_callee_laws.proofs.Blocks.{sub_block}
-use Rattle.pfc_callee_laws.proofs.Modules.{module_found, mains_of}
+use Rattle.pfc_callee_laws.proofs.Modules.{mains_of}
 use Rattle.pfc_callee_laws.proofs.Program.{unheld}
 use Rattle.pfc_callee_laws.proofs.Requeues.{sub_number}
 use Rattle.pfc_callee_laws.proofs.Values.{simple_part_plain}

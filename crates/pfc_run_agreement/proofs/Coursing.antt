@@ -9,7 +9,7 @@ use Rattle.pfc_state.specs.declared.endings.Ending.TheVariants.{Finished, Fault,
 use Rattle.pfc_semantics.specs.Configurations.{Config}
 use Rattle.pfc_semantics.specs.Runs as sr
 use Rattle.pfc_sessions.specs.Courses as session
-use Rattle.pfc_sessions.specs.Courses.{IsCut, on_the_way, at_the_end, IsWanting, refused, worn_out, IsCourse}
+use Rattle.pfc_sessions.specs.Courses.{on_the_way, at_the_end, refused, worn_out, IsCourse}
 use Rattle.pfc_sessions.specs.Runs.{Run, run_from}
 use Rattle.pfc_sessions.specs.Stages.{Stage, stage_after}
 use Rattle.pfc_run_agreement.specs.Agreement.{LookAlike, AreRunsAlike}

@@ -1,15 +1,13 @@
 -- An action of a process that is picked, on a machine that agrees with the configuration.
-use Rattle.std.proofs.Common.{◌≡◌, ℕ, ◌^◌, ◌<◌, nat_le, Bool, true, false, ◌||◌, List, ◌++◌, length, Option, Some, None, Ok, Err, refl, sym, ap, ◌∙◌, subst}
-use Rattle.std.proofs.Common.{arith, append-nil}
+use Rattle.std.proofs.Common.{◌≡◌, ℕ, ◌<◌, List, ◌++◌, Option, Some, None, Ok, Err, refl, sym, ap, ◌∙◌, subst}
+use Rattle.std.proofs.Common.{append-nil}
 use Rattle.pfc_base.specs.declared.faults.RunFault.{RunFault}
 use Rattle.pfc_code.specs.Images.{PlainImage}
-use Rattle.pfc_sched.specs.Picks.{Picking, picked, after_pick}
-use Rattle.pfc_sched.specs.declared.picking.Pick.TheVariants.{Process}
+use Rattle.pfc_sched.specs.Picks.{Picking, after_pick}
 use Rattle.pfc_sched.proofs.PickLaws.{picks_ready}
-use Rattle.pfc_state.specs.Stands.{Stand, Is_ready}
-use Rattle.pfc_state.specs.declared.endings.Ending.{Ending}
+use Rattle.pfc_state.specs.Stands.{Stand}
 use Rattle.pfc_world.specs.Tables.{Table, at}
-use Rattle.pfc_semantics.specs.Configurations.{Config, Effect, after, start}
+use Rattle.pfc_semantics.specs.Configurations.{Config, Effect, after}
 use Rattle.pfc_semantics.specs.Configurations as source
 use Rattle.pfc_semantics.specs.Events.{step as source_step}
 use Rattle.pfc_semantics.specs.Programs.{Program}
@@ -25,7 +23,7 @@ use Rattle.pfc_machine_acts.specs.Performing.{acts_by, choices_for}
 use Rattle.pfc_machine_acts.specs.Quietly.{quietly}
 use Rattle.pfc_machine_acts.specs.Settling.{machine_settled}
 use Rattle.pfc_representation.specs.Levels.{Facts, program_in}
-use Rattle.pfc_representation.specs.Machines.{Represents, Reports, Agrees, goes_on}
+use Rattle.pfc_representation.specs.Machines.{Represents, Reports, Agrees}
 use Rattle.pfc_representation.specs.Actions.{ComeToSame}
 use Rattle.pfc_settling_laws.proofs.Reported.{agreeing_reports, still_represented}
 use Rattle.pfc_settling_laws.proofs.Settled.{agrees_settled}
@@ -33,15 +31,10 @@ use Rattle.pfc_arrivals.specs.Arrivals.{IsAboutToAct, ActsAsItsSource, AreNumber
 use Rattle.pfc_run_rules.specs.Rules.{KeepsToRules}
 use Rattle.pfc_representation.specs.Acting.{TakesNumber}
 use Rattle.pfc_arrivals.proofs.Picked.{acts_alike}
-use Rattle.pfc_sessions.specs.Courses.{IsCourse}
-use Rattle.pfc_sessions.specs.Runs.{IsPicked, step_of, run_from}
-use Rattle.pfc_sessions.specs.Stages.{first_stage}
+use Rattle.pfc_sessions.specs.Runs.{step_of}
 use Rattle.pfc_sessions.specs.Steps.{FaultAt, Step, counted}
-use Rattle.pfc_run_agreement.specs.Agreement.{fault_of, picking_behind, choices_of, behind_action, AreStepsAlike, AgreesHere, ActsAlike, Agree, AreRunsAlike}
-use Rattle.pfc_run_agreement.specs.Courses.{IsSourceCourse}
-use Rattle.pfc_run_agreement.proofs.Agreeing.{same_ending, settled_output, settled_fault, same_runs}
-use Rattle.pfc_run_agreement.proofs.Coursing.{same_course}
-use Rattle.pfc_run_agreement.proofs.Keeping.{kept_agrees}
+use Rattle.pfc_run_agreement.specs.Agreement.{fault_of, picking_behind, choices_of, behind_action, AreStepsAlike}
+use Rattle.pfc_run_agreement.proofs.Agreeing.{settled_output}
 use Rattle.pfc_simulation.specs.Reached.{GoesOn}
 use Rattle.pfc_simulation.proofs.Communications.{Keeps}
 use Rattle.pfc_simulation.proofs.Effects.{effect_keeps}

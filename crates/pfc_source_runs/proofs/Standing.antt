@@ -9,7 +9,6 @@ use Rattle.pfc_state.specs.declared.endings.Ending.TheVariants.{Finished, Fault,
 use Rattle.pfc_semantics.specs.Configurations.{Config}
 use Rattle.pfc_semantics.specs.Programs.{Program}
 use Rattle.pfc_semantics.specs.Runs as sr
-use Rattle.pfc_semantics.specs.Time.{settled_config}
 use Rattle.pfc_translation.specs.Images.{image_of}
 use Rattle.pfc_machines.specs.declared.machine.Machine.{Machine}
 use Rattle.pfc_representation.specs.Levels.{Facts, program_in}

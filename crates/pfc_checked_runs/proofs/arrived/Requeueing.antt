@@ -3,7 +3,7 @@ use Rattle.std.proofs.Common.{◌≡◌, ◌≢◌, ℕ, ℤ, List, [], ◌∷�
 use Rattle.pfc_world.specs.Tables.{Table}
 use Rattle.pfc_semantics.specs.Store.{Store}
 use Rattle.pfc_semantics.specs.Programs.{Guard}
-use Rattle.pfc_semantics.specs.Remainders.{Context, Argument, Action, to_requeue, calls}
+use Rattle.pfc_semantics.specs.Remainders.{Action, to_requeue, calls}
 use Rattle.pfc_semantics.specs.Configurations.{plain, of_resource, Mark, Activation, Config, activity_of}
 use Rattle.pfc_semantics.specs.Steps.{next_of}
 use Rattle.pfc_stacks.specs.Refs.{word_of}

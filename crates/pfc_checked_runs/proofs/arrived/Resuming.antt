@@ -1,6 +1,6 @@
 -- Who resumes names a condition of the monitor whose variable holds it.
 use Rattle.std.proofs.Common.{◌≡◌, ℕ, ◌+◌, ◌%◌, ◌^◌, ◌<◌, ℤ, pos, Bool, true, false, if◌then◌else◌, length, List, get_or}
-use Rattle.std.proofs.Common.{Option, Some, None, refl, sym, ap, ap₂, ◌∙◌, subst, arith}
+use Rattle.std.proofs.Common.{Option, Some, refl, sym, ap, ap₂, ◌∙◌, subst, arith}
 use Rattle.std.specs.List.{slice_get}
 use Rattle.std.proofs.lemmas.Option.{slice_get_within, get_or_from_slice_get}
 use Rattle.pfc_tree.specs.trees.Parts.{ProgramTree}
@@ -8,11 +8,11 @@ use Rattle.pfc_types.specs.Types.{condition}
 use Rattle.pfc_types.specs.declared.types.TypeId.{TypeId}
 use Rattle.pfc_types.specs.declared.scope.Meaning.{Meaning}
 use Rattle.pfc_types.specs.declared.scope.Meaning.TheVariants.{Faulty}
-use Rattle.pfc_semantics.specs.Values.{Location, ordinal, ordinal_of, part, path_of}
-use Rattle.pfc_semantics.specs.Displays.{Spot, Frame, Display, main_frame, frame_of, own_location}
+use Rattle.pfc_semantics.specs.Values.{ordinal, ordinal_of, part, path_of}
+use Rattle.pfc_semantics.specs.Displays.{Spot, Frame, Display, main_frame, frame_of}
 use Rattle.pfc_semantics.specs.Layouts.{Layout}
 use Rattle.pfc_semantics.specs.Objects.{module_number}
-use Rattle.pfc_semantics.specs.Programs.{Block, Program, block_at}
+use Rattle.pfc_semantics.specs.Programs.{Block, Program}
 use Rattle.pfc_semantics.specs.Remainders.{Context, Remainder, Action, resumes}
 use Rattle.pfc_semantics.specs.Configurations.{Config, activity_of, number_for}
 use Rattle.pfc_semantics.specs.Monitors.{monitor_of}
@@ -24,11 +24,11 @@ use Rattle.pfc_stacks.specs.Stacks.{last_activation}
 use Rattle.pfc_cells.specs.Shapes.{IsPath}
 use Rattle.pfc_cells.specs.Homes.{Home, layout_at, cells_before, laid_type}
 use Rattle.pfc_machines.specs.declared.machine.Machine.{Machine}
-use Rattle.pfc_standing_code.specs.Settings.{Setting, View, Trial, of_own, site_of, IsBeside}
+use Rattle.pfc_standing_code.specs.Settings.{View, Trial, of_own, site_of, IsBeside}
 use Rattle.pfc_standing_code.specs.Performs.{own_block, own_view, own_accepts}
 use Rattle.pfc_standing_code.specs.Typed.{unlined, whole_of, IsDeclaredAt}
-use Rattle.pfc_standing_code.specs.Words.{first_word, IsWord, IsObject, AreKnown, IsChecked}
-use Rattle.pfc_views.specs.Views.{Sees, IsNamed, first_number, block_site}
+use Rattle.pfc_standing_code.specs.Words.{IsWord, IsObject, AreKnown, IsChecked}
+use Rattle.pfc_views.specs.Views.{Sees, IsNamed, first_number}
 use Rattle.pfc_object_laws.specs.Objects.{number_at}
 use Rattle.pfc_object_laws.proofs.Mains.{own_variables, found}
 use Rattle.pfc_main_names.proofs.Mains.{are_of_main}
@@ -45,7 +45,6 @@ use Rattle.pfc_representation.specs.Acting.{IsActing, HasArrived}
 use Rattle.pfc_kept_own_actions.proofs.Arrived.{has_setting, first_seen}
 use Rattle.pfc_kept_object_actions.proofs.Numbers.{IsNumber, condition_number}
 use Rattle.pfc_arrivals.specs.Arrivals.{AreNumbered}
-use Rattle.pfc_inside_laws.specs.Inside.{IsMonitor}
 use Rattle.pfc_holding_laws.specs.Inside.{NamesItsMonitor}
 
 number_back : (n : ℕ) → n < 2 ^ 32 → number_of (pos n) ≡ n

@@ -13,7 +13,7 @@ use Rattle.pfc_translation.specs.Images.{image_of}
 use Rattle.pfc_machines.specs.Machines.{start_machine}
 use Rattle.pfc_checked_runs.specs.Along.{IsSoAlong}
 use Rattle.pfc_checked_runs.proofs.Along.{TellsAlong, so_at_first, goes_on_so}
-use Rattle.pfc_checked_runs.proofs.Carried.{Carries, run_kept, run_rules}
+use Rattle.pfc_checked_runs.proofs.Carried.{run_kept, run_rules}
 use Rattle.pfc_checked_runs.proofs.laws.checked_runs_are_kept.Goals as goal
 
 few_monitors : (t : ProgramTree) → IsSmall (forget_program t) → (image_of t).monitors < 2 ^ 32

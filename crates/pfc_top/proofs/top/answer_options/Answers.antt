@@ -1,4 +1,4 @@
-use Rattle.std.proofs.Common.{[], Some, rules, sym, subst}
+use Rattle.std.proofs.Common.{[], rules, sym, subst}
 use Rattle.std.specs.Prelude.{IsSome, Option, List}
 use Rattle.pfc_io.specs.Files.{File}
 use Rattle.pfc_outcome.specs.Asked.{asked_of}

@@ -1,4 +1,4 @@
-use Rattle.std.proofs.Common.{◌≡◌, List, Option, Some, None, rules, refl, subst}
+use Rattle.std.proofs.Common.{◌≡◌, Option, Some, None, rules, refl, subst}
 use Rattle.pfc_outcome.specs.Asked.{asked_of, texts_of}
 use Rattle.pfc_outcome.specs.Options.{Asked, options_of}
 use Rattle.pfc_outcome.specs.Outcomes.{IsOutcomeBy, without_run}

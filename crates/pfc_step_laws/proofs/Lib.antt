@@ -1,0 +1,12 @@
+pub mod Ahead
+pub mod Short
+pub mod Expressions
+pub mod Calls
+pub mod Selects
+pub mod Statements
+pub mod Images
+pub mod Leading
+pub mod Falling
+pub mod Moves
+pub mod Machines
+pub mod Lengths

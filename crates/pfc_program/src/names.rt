@@ -136,11 +136,10 @@ fn find_at(tables: Tables, level: Level, name: &Name) -> Option<Found>
         return None;
     }
     let names = tables.scopes.at(level.scope);
-    let place = names.position(name)?;
+    let (place, meaning) = names.look_up(name)?;
     if level.count <= place {
         return None;
     }
-    let meaning = *names.find(name)?;
     Some(Found {
         scope: Some(level.scope),
         place,

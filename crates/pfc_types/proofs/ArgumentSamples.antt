@@ -1,10 +1,10 @@
 -- Small programs that count arguments, alone or where another rule is broken at the same name.
-use Rattle.std.specs.Prelude.{◌≡◌, ℕ, true, false, List, [], ◌∷◌, None, Some, codes, refl}
+use Rattle.std.specs.Prelude.{◌≡◌, ℕ, false, List, [], ◌∷◌, None, Some, codes, refl}
 use Rattle.pfc_base.specs.declared.places.Place.{Place}
 use Rattle.pfc_tree.specs.Symbols.{Text}
 use Rattle.pfc_tree.specs.trees.Exprs.{ExprTree, ActualTrees, desig, field, no_selectors, more_selectors, actual, actual_width, no_actuals, more_actuals}
 use Rattle.pfc_tree.specs.trees.Types.{GroupTree, named}
-use Rattle.pfc_tree.specs.trees.Stmts.{StmtTree, accepting, accept, accept_do, assign, requeue, call, empty}
+use Rattle.pfc_tree.specs.trees.Stmts.{StmtTree, accepting, accept_do, assign, requeue, call, empty}
 use Rattle.pfc_tree.specs.trees.Parts.{PartTrees, ProgramTree, types, sub_part, monitor, resource, process_part, procedure, guarded, no_parts, more_parts, sub}
 use Rattle.pfc_tree.specs.trees.Parts.{the_module, process}
 use Rattle.pfc_types.specs.rules.Whole.{first_fault, first_concurrency_fault}

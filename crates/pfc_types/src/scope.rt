@@ -112,6 +112,16 @@ impl Scope {
         self.names.get(name)
     }
 
+    /// The place of a name in the order of the layout, from 0, and what it stands for; None exactly where the scope does not hold it.
+    #[tactic(auto, using(crate::proofs::Names::names))]
+    pub fn look_up(&self, name: &Name) -> Option<(u32, Meaning)>
+        ensures place { option_map (λ found. found.0) result ≡ position_in self.now name.now }
+        ensures meaning { option_map (λ found. found.1) result ≡ meaning_in self.now name.now }
+    {
+        let (place, _, meaning) = self.names.get_full(name)?;
+        Some((place as u32, *meaning))
+    }
+
     /// The place of a name in the order of the layout, from 0, None exactly where the scope does not hold it.
     #[tactic(auto, using(crate::proofs::Names::names))]
     pub fn position(&self, name: &Name) -> Option<u32>

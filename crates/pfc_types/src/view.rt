@@ -69,11 +69,10 @@ fn find_at(scopes: &Scopes, scope: u32, count: u32, name: &Name) -> Option<Found
         return None;
     }
     let names = scopes.at(scope);
-    let place = names.position(name)?;
+    let (place, meaning) = names.look_up(name)?;
     if count <= place {
         return None;
     }
-    let meaning = *names.find(name)?;
     Some(Found {
         scope: Some(scope),
         place,

@@ -1,9 +1,9 @@
 -- When an instruction may be performed.
-use Rattle.std.specs.Prelude.{ℕ, zero, suc, ◌+◌, ◌-◌, ◌≤◌, ◌<◌, ◌≡◌, true, ℤ, pos, ◌+ℤ◌, List, length}
+use Rattle.std.specs.Prelude.{ℕ, zero, suc, ◌+◌, ◌-◌, ◌≤◌, ◌<◌, ◌≡◌, true, ℤ, pos, ◌+ℤ◌, List, [], length}
 use Rattle.std.specs.List.{slice_get}
 use Rattle.pfc_code.specs.declared.images.Block.{Block}
 use Rattle.pfc_code.specs.declared.instructions.Instr.{Instr}
-use Rattle.pfc_code.specs.declared.instructions.Instr.TheVariants.{ADDR, REF, IDX, FLD, LOAD, STORE, FORW, CALL, RETF}
+use Rattle.pfc_code.specs.declared.instructions.Instr.TheVariants.{ADDR, REF, IDX, FLD, LOAD, STORE, FORW, CALL, RET, RETF}
 use Rattle.pfc_code.specs.declared.counts.Count.{Count}
 use Rattle.pfc_code.specs.Operands.{counted, told}
 use Rattle.pfc_code.specs.Operands as table
@@ -66,3 +66,10 @@ pub record CanPerform (blocks : List Block) (i : Instr) (p : ℕ) (stacks : Stac
   -- there is room for what it adds
   pub room : adds i ≤ (stack_of stacks p).room - length (operands_of stacks p)
   pub reach : Reaches blocks i p stacks
+
+-- What an instruction asks that begins and ends no activation; calls and returns, which are left undone, ask nothing.
+abbrev pub CanPerformInside : Instr → ℕ → Stacks → Type 0
+CanPerformInside (CALL k l) p stacks = Unit {0}
+CanPerformInside RET p stacks = Unit {0}
+CanPerformInside RETF p stacks = Unit {0}
+CanPerformInside i p stacks = CanPerform [] i p stacks

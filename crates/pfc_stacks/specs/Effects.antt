@@ -156,26 +156,30 @@ returns_by mark p stacks = outward
 abbrev pub last_block : List Block → Stack → Option Block
 last_block blocks s = slice_get blocks (own_number s block_place)
 
--- What the instruction does, in an image with these blocks. An operand is popped where it is read, unless the line says otherwise. All that are not
--- named here are outward.
-abbrev pub effect : List Block → Instr → ℕ → Stacks → Effect
-effect blocks (ADDR l d) p stacks = goes (passed stacks p (cell_word stacks p l d ∷ operands_of stacks p))
-effect blocks (REF l d) p stacks = goes (passed stacks p (cell_at stacks (ref_of (cell_word stacks p l d)) ∷ operands_of stacks p))
-effect blocks OBJ p stacks =
+-- What the instruction does where it begins and ends no activation. An operand is popped where it is read, unless the line says otherwise. All that
+-- are not named here are outward; calls and returns are left out too.
+abbrev pub effect_inside : Instr → ℕ → Stacks → Effect
+effect_inside (ADDR l d) p stacks = goes (passed stacks p (cell_word stacks p l d ∷ operands_of stacks p))
+effect_inside (REF l d) p stacks = goes (passed stacks p (cell_at stacks (ref_of (cell_word stacks p l d)) ∷ operands_of stacks p))
+effect_inside OBJ p stacks =
     let ops = operands_of stacks p in
     goes (passed stacks p (cell_at stacks (ref_of (operand ops 0)) ∷ drop 1 ops))
-effect blocks (LOAD z) p stacks =
+effect_inside (LOAD z) p stacks =
     let ops = operands_of stacks p in
     acts (passed stacks p (reverse (cells_at stacks (ref_of (operand ops 0)) z) ++ drop 1 ops))
-effect blocks (STORE z) p stacks =
+effect_inside (STORE z) p stacks =
     let ops = operands_of stacks p in
     acts (passed (written stacks (ref_of (operand ops z)) (reverse (take z ops))) p (drop (z + 1) ops))
-effect blocks FORW p stacks =
+effect_inside FORW p stacks =
     let ops = operands_of stacks p in
     acts (passed (written stacks (ref_of (operand ops 2)) (operand ops 1 ∷ [])) p ops)
+effect_inside i p stacks = within stacks p (own_effect i (stack_of stacks p).at (operands_of stacks p))
+
+-- What any instruction does, in an image with these blocks.
+abbrev pub effect : List Block → Instr → ℕ → Stacks → Effect
 effect blocks (CALL k l) p stacks = calls k (slice_get blocks k) l p stacks
 effect blocks RET p stacks = returns_by (mark_in (stack_of stacks p)) p stacks
 effect blocks RETF p stacks =
     let s = stack_of stacks p in
     acts (set stacks p (returned_with (result_in (last_block blocks s) s) s))
-effect blocks i p stacks = within stacks p (own_effect i (stack_of stacks p).at (operands_of stacks p))
+effect blocks i p stacks = effect_inside i p stacks

@@ -20,7 +20,7 @@ pub enum Instructed {
 
 /// What was done for an instruction.
 #[derive(Clone, Copy, Debug, PartialEq, Eq)]
-pub(crate) enum Performed {
+pub enum Performed {
     /// it was performed, and is no action
     Passed,
     /// it was performed, as an action

@@ -8,6 +8,7 @@
 mod activations;
 mod calls;
 mod cells;
+mod inside;
 mod instructed;
 mod laws;
 mod marks;
@@ -18,7 +19,7 @@ mod run;
 mod stack;
 mod stacks;
 
-pub use instructed::{CallFault, Instructed};
+pub use instructed::{CallFault, Instructed, Performed};
 pub use laws::{
     a_call_marks_its_activation, a_function_leaves_its_result, a_replacement_keeps_its_own_cells,
     a_return_undoes_its_call, an_instruction_takes_and_leaves_its_operands,

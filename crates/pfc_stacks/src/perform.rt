@@ -1,8 +1,7 @@
-//! The instructions that need no more than the address and the operands of their process.
+//! Instructions that need no more than the address and the operands of their process, but operators.
 ghost use Rattle.std.specs.Prelude.{◌≡◌, ◌≤◌, ◌<◌, ◌+◌, ◌-◌, ◌^◌, true, length};
-ghost use Rattle.pfc_code.specs.Operands as table;
 ghost use Rattle.pfc_stacks.specs.Answers.{own_effect_by, Changes};
-ghost use Rattle.pfc_stacks.specs.Conditions.{adds, Reckons};
+ghost use Rattle.pfc_stacks.specs.Conditions.{Reckons};
 ghost use Rattle.pfc_stacks.specs.Refs.{IsAddress};
 ghost use Rattle.pfc_stacks.specs.Effects.{own_effect, is_within, element_word, element_at};
 
@@ -10,60 +9,11 @@ use crate::instructed::Performed;
 use crate::stack::ProcessStack;
 use pfc_base::RunFault;
 use pfc_code::Instr;
-use pfc_values::{
-    Simple, both, char_at, difference, either, inverse, is_true, magnitude, negative, next_value,
-    odd, product, quotient, remainder, square, sum, truth, value_before,
-};
+use pfc_values::is_true;
 
 impl ProcessStack {
-    /// The instructions that need no more than the address and the operands of their process: numbers, the address of an
-    /// element or of a field, jumps and loops, operators and functions. Any other is left undone.
-    pub(crate) fn perform_own(&mut self, i: Instr) -> Performed
-        requires held { table.told (table.operands_of i).reads ≤ length self.old.operands }
-        requires room { adds i ≤ self.old.room - length self.old.operands }
-        requires reckons { Reckons i self.old.operands }
-        requires next { self.old.at + 1 < 2 ^ 32 }
-        ensures effect { own_effect i self.old.at self.old.operands ≡ own_effect_by result self.new.at self.new.operands }
-        ensures changes { Changes result self.old self.new }
-    {
-        match i {
-            Instr::LIT(n) => self.literal(n),
-            Instr::IDX(low, high, z) => self.index(low, high, z),
-            Instr::FLD(k) => self.field(k),
-            Instr::JMP(a) => self.jump(a),
-            Instr::JF(a) => self.jump_if_false(a),
-            Instr::TURN(a) => self.turn(a),
-            Instr::FORB(d, a) => self.begin_for(d, a),
-            Instr::FORT(d, a) => self.turn_for(d, a),
-            Instr::CEQ(n, a) => self.compare_label(n, a),
-            Instr::CERR => Performed::Faulted(RunFault::Case),
-            Instr::NEG => self.pass_outcome(1, negative(self.held(0))),
-            Instr::ABS => self.pass_outcome(1, magnitude(self.held(0))),
-            Instr::SQR => self.pass_outcome(1, square(self.held(0))),
-            Instr::ODD => self.pass_value(1, odd(self.held(0))),
-            Instr::CHR => self.pass_outcome(1, char_at(self.held(0))),
-            Instr::SUCC(k) => self.pass_outcome(1, next_value(Simple::of(k), self.held(0))),
-            Instr::PRED(k) => self.pass_outcome(1, value_before(Simple::of(k), self.held(0))),
-            Instr::NOT => self.pass_value(1, inverse(self.held(0))),
-            Instr::ADD => self.pass_outcome(2, sum(self.held(1), self.held(0))),
-            Instr::SUB => self.pass_outcome(2, difference(self.held(1), self.held(0))),
-            Instr::MUL => self.pass_outcome(2, product(self.held(1), self.held(0))),
-            Instr::DIV => self.pass_outcome(2, quotient(self.held(1), self.held(0))),
-            Instr::MOD => self.pass_outcome(2, remainder(self.held(1), self.held(0))),
-            Instr::AND => self.pass_value(2, both(self.held(1), self.held(0))),
-            Instr::OR => self.pass_value(2, either(self.held(1), self.held(0))),
-            Instr::EQ => self.pass_value(2, truth(self.held(1) == self.held(0))),
-            Instr::NE => self.pass_value(2, truth(self.held(1) != self.held(0))),
-            Instr::LT => self.pass_value(2, truth(self.held(1) < self.held(0))),
-            Instr::LE => self.pass_value(2, truth(self.held(1) <= self.held(0))),
-            Instr::GT => self.pass_value(2, truth(self.held(1) > self.held(0))),
-            Instr::GE => self.pass_value(2, truth(self.held(1) >= self.held(0))),
-            _ => Performed::Nothing,
-        }
-    }
-
     /// A number.
-    fn literal(&mut self, n: i32) -> Performed
+    pub(crate) fn literal(&mut self, n: i32) -> Performed
         requires room { 1 ≤ self.old.room - length self.old.operands }
         requires next { self.old.at + 1 < 2 ^ 32 }
         ensures effect { own_effect (Instr.LIT n) self.old.at self.old.operands ≡ own_effect_by result self.new.at self.new.operands }
@@ -75,7 +25,7 @@ impl ProcessStack {
     }
 
     /// The address of an element, over that of the array, whose index is on top.
-    fn index(&mut self, low: i32, high: i32, z: u32) -> Performed
+    pub(crate) fn index(&mut self, low: i32, high: i32, z: u32) -> Performed
         requires held { 2 ≤ length self.old.operands }
         requires reckons { Reckons (Instr.IDX low high z) self.old.operands }
         requires next { self.old.at + 1 < 2 ^ 32 }
@@ -88,7 +38,7 @@ impl ProcessStack {
     }
 
     /// The address of a field, over that of the record.
-    fn field(&mut self, k: u32) -> Performed
+    pub(crate) fn field(&mut self, k: u32) -> Performed
         requires held { 1 ≤ length self.old.operands }
         requires reckons { Reckons (Instr.FLD k) self.old.operands }
         requires next { self.old.at + 1 < 2 ^ 32 }
@@ -101,7 +51,7 @@ impl ProcessStack {
     }
 
     /// On at an address.
-    fn jump(&mut self, a: u32) -> Performed
+    pub(crate) fn jump(&mut self, a: u32) -> Performed
         ensures effect { own_effect (Instr.JMP a) self.old.at self.old.operands ≡ own_effect_by result self.new.at self.new.operands }
         ensures changes { Changes result self.old self.new }
     {
@@ -110,7 +60,7 @@ impl ProcessStack {
     }
 
     /// On at an address where the value on top is false.
-    fn jump_if_false(&mut self, a: u32) -> Performed
+    pub(crate) fn jump_if_false(&mut self, a: u32) -> Performed
         requires held { 1 ≤ length self.old.operands }
         requires next { self.old.at + 1 < 2 ^ 32 }
         ensures effect { own_effect (Instr.JF a) self.old.at self.old.operands ≡ own_effect_by result self.new.at self.new.operands }
@@ -126,7 +76,7 @@ impl ProcessStack {
     }
 
     /// On at an address where the value of a `case`, on top, is that of a label.
-    fn compare_label(&mut self, n: i32, a: u32) -> Performed
+    pub(crate) fn compare_label(&mut self, n: i32, a: u32) -> Performed
         requires held { 1 ≤ length self.old.operands }
         requires next { self.old.at + 1 < 2 ^ 32 }
         ensures effect { own_effect (Instr.CEQ n a) self.old.at self.old.operands ≡ own_effect_by result self.new.at self.new.operands }
@@ -141,7 +91,7 @@ impl ProcessStack {
     }
 
     /// Back to an address, as an action.
-    fn turn(&mut self, a: u32) -> Performed
+    pub(crate) fn turn(&mut self, a: u32) -> Performed
         ensures effect { own_effect (Instr.TURN a) self.old.at self.old.operands ≡ own_effect_by result self.new.at self.new.operands }
         ensures changes { Changes result self.old self.new }
     {
@@ -150,7 +100,7 @@ impl ProcessStack {
     }
 
     /// A `for` begins: it ends at once where the first value is past the last.
-    fn begin_for(&mut self, d: u32, a: u32) -> Performed
+    pub(crate) fn begin_for(&mut self, d: u32, a: u32) -> Performed
         requires held { 2 ≤ length self.old.operands }
         requires next { self.old.at + 1 < 2 ^ 32 }
         ensures effect { own_effect (Instr.FORB d a) self.old.at self.old.operands ≡ own_effect_by result self.new.at self.new.operands }
@@ -168,7 +118,7 @@ impl ProcessStack {
     }
 
     /// A `for` turns back with its next value, or ends quietly where the value that it keeps is not before the last.
-    fn turn_for(&mut self, d: u32, a: u32) -> Performed
+    pub(crate) fn turn_for(&mut self, d: u32, a: u32) -> Performed
         requires held { 2 ≤ length self.old.operands }
         requires next { self.old.at + 1 < 2 ^ 32 }
         ensures effect { own_effect (Instr.FORT d a) self.old.at self.old.operands ≡ own_effect_by result self.new.at self.new.operands }

@@ -159,6 +159,22 @@ impl ProcessStack {
         self.cells.get(k).copied().unwrap_or(0)
     }
 
+    /// The cell at a place, from 0, which is there.
+    pub(crate) fn live_cell(&self, k: usize) -> i64
+        requires { k < length self.now.cells }
+        ensures { result ≡ get_or self.now.cells k (pos 0) }
+    {
+        self.cells[k]
+    }
+
+    /// Writes the cell at a place, from 0, which is there.
+    pub(crate) fn set_live_cell(&mut self, k: usize, v: i64)
+        requires { k < length self.old.cells }
+        ensures { self.new ≡ record self.old { cells = set self.old.cells k v } }
+    {
+        self.cells[k] = v;
+    }
+
     /// The own cell of the last activation at a place, from 0.
     pub(crate) fn own_word(&self, k: usize) -> i64
         requires { k < 8 }

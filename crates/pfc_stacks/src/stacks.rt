@@ -1,10 +1,9 @@
 //! The stacks of all processes.
 ghost use Rattle.std.specs.Prelude.{◌≡◌, ◌≤◌, ◌<◌, ◌+◌, ◌-◌, ◌^◌, ℕ, ℤ, pos, max, Some, ◌∷◌, ◌++◌, length, take, drop, set, get_or, reverse, IfOk, IfSome, Option};
 ghost use Rattle.pfc_code.specs.Images.{plain_image};
-ghost use Rattle.pfc_code.specs.Operands as table;
 ghost use Rattle.pfc_stacks.specs.Answers.{IsDone};
-ghost use Rattle.pfc_stacks.specs.Conditions.{adds, Reckons, AreLive};
-ghost use Rattle.pfc_stacks.specs.Effects.{own_effect, within, passed};
+ghost use Rattle.pfc_stacks.specs.Conditions.{AreLive};
+ghost use Rattle.pfc_stacks.specs.Effects.{quiet, with_outcome, within, passed};
 ghost use Rattle.pfc_stacks.specs.Stacks.{Stack, stack_of, cells_of, operand, operands_of, written, first_in_view, own_number, block_place};
 ghost use Rattle.pfc_stacks.specs.Starts.{begun, guard_room, is_guarded, main_entered, start_stacks};
 
@@ -12,8 +11,8 @@ use crate::Ref;
 use crate::cells::{BLOCK_PLACE, word_at};
 use crate::instructed::Performed;
 use crate::stack::ProcessStack;
-use pfc_base::Memory;
-use pfc_code::{Block, Image, Instr, Object};
+use pfc_base::{Memory, RunFault};
+use pfc_code::{Block, Image, Object};
 use std::alloc::Global;
 use std::marker::Model;
 
@@ -205,6 +204,14 @@ impl Stacks {
         }
     }
 
+    /// The address of the next instruction of one of these processes.
+    pub fn address(&self, p: u32) -> u32
+        requires { p < length self.now }
+        ensures { result ≡ (stack_of self.now p).at }
+    {
+        self.stacks[p as usize].at()
+    }
+
     /// The number of the block of the last activation of a process; 0 where it has none.
     pub fn block(&self, p: u32) -> u32
         ensures { result ≡ own_number (stack_of self.now p) block_place }
@@ -245,6 +252,22 @@ impl Stacks {
         }
     }
 
+    /// The cell of a process at a place, from 0, which is there.
+    pub(crate) fn live_cell(&self, q: u32, k: usize) -> i64
+        requires { k < length (cells_of self.now q) }
+        ensures { result ≡ get_or (cells_of self.now q) k (pos 0) }
+    {
+        self.stacks[q as usize].live_cell(k)
+    }
+
+    /// Writes the cell of a process at a place, from 0, which is there.
+    pub(crate) fn set_live_cell(&mut self, q: u32, k: usize, v: i64)
+        requires { k < length (cells_of self.old q) }
+        ensures { self.new ≡ set self.old q (record (stack_of self.old q) { cells = set (cells_of self.old q) k v }) }
+    {
+        self.stacks[q as usize].set_live_cell(k, v);
+    }
+
     /// Writes the cell of a process at a place, from 0, where there is one.
     pub(crate) fn set_cell(&mut self, q: u32, k: usize, v: i64)
         ensures { self.new ≡ set self.old q (record (stack_of self.old q) { cells = set (cells_of self.old q) k v }) }
@@ -279,17 +302,31 @@ impl Stacks {
         stack.pass_with(n, w);
     }
 
-    /// An instruction that needs no more than the address and the operands of its process. Any other is left undone.
-    pub(crate) fn perform_own(&mut self, p: u32, i: Instr) -> Performed
+    /// Pops so many operands of a process, pushes the value of an evaluation that has no fault, and the process goes on at the next instruction.
+    pub(crate) fn pass_value(&mut self, p: u32, n: usize, v: i64) -> Performed
         requires process { p < length self.old }
-        requires held { table.told (table.operands_of i).reads ≤ length (stack_of self.old p).operands }
-        requires room { adds i ≤ (stack_of self.old p).room - length (stack_of self.old p).operands }
-        requires reckons { Reckons i (stack_of self.old p).operands }
+        requires some { 0 < n }
+        requires held { n ≤ length (operands_of self.old p) }
         requires next { (stack_of self.old p).at + 1 < 2 ^ 32 }
-        ensures { IsDone (within self.old p (own_effect i (stack_of self.old p).at (stack_of self.old p).operands)) self.old result self.new }
+        ensures { IsDone (within self.old p (quiet ((stack_of self.old p).at + 1) (v ∷ drop n (operands_of self.old p)))) self.old result self.new }
     {
-        let stack = &mut self.stacks[p as usize];
-        stack.perform_own(i)
+        self.stacks[p as usize].pass_value(n, v)
+    }
+
+    /// The same with what came of an evaluation; a fault changes nothing.
+    pub(crate) fn pass_outcome(
+        &mut self,
+        p: u32,
+        n: usize,
+        outcome: Result<i64, RunFault>,
+    ) -> Performed
+        requires process { p < length self.old }
+        requires some { 0 < n }
+        requires held { n ≤ length (operands_of self.old p) }
+        requires next { (stack_of self.old p).at + 1 < 2 ^ 32 }
+        ensures { IsDone (within self.old p (with_outcome (stack_of self.old p).at (drop n (operands_of self.old p)) outcome)) self.old result self.new }
+    {
+        self.stacks[p as usize].pass_outcome(n, outcome)
     }
 
     /// The activation from which a process counts static links.

@@ -14,8 +14,8 @@ returns c =
     let from : Ref = c.of-from.result in
     let from_is : from ≡ ref_of (operand ops 0) =
     c.of-from.ensures.of ∙ ap ref_of (to_z-of_z w64 c.held.result (record { sfits = c.held.type_inv }) ∙ c.held.ensures) in
-    let word : to_z w64 (of_z w64 c.cell-v.result) ≡ cell_at stacks from =
-    to_z-of_z w64 c.cell-v.result (record { sfits = c.cell-v.type_inv }) ∙ c.cell-v.ensures in
+    let word : to_z w64 (of_z w64 c.live_cell-v.result) ≡ cell_at stacks from =
+    to_z-of_z w64 c.live_cell-v.result (record { sfits = c.live_cell-v.type_inv }) ∙ c.live_cell-v.ensures in
     c.pass_pushing.ensures
     ∙ ap (λ (v : ℤ). passed stacks c.args.p (v ∷ drop 1 ops)) word
     ∙ ap (λ (r : Ref). passed stacks c.args.p (cell_at stacks r ∷ drop 1 ops)) from_is

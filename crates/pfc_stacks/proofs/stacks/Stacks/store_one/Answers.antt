@@ -19,7 +19,7 @@ returns c =
     c.of-to.ensures.of ∙ ap ref_of (to_z-of_z w64 c.held.result (record { sfits = c.held.type_inv }) ∙ c.held.ensures) in
     let word : v ≡ operand ops 0 = to_z-of_z w64 c.held-v.result (record { sfits = c.held-v.type_inv }) ∙ c.held-v.ensures in
     let live : AreLive stacks to 1 = subst (λ (r : Ref). AreLive stacks r 1) (sym to_is) c.requires.live in
-    let wrote : c.set_cell.new.self ≡ written stacks to (v ∷ []) = c.set_cell.ensures ∙ one_written stacks to v live in
+    let wrote : c.set_live_cell.new.self ≡ written stacks to (v ∷ []) = c.set_live_cell.ensures ∙ one_written stacks to v live in
     c.pass.ensures.pass
     ∙ ap (λ (s : Stacks). passed s c.args.p (drop 2 (operands_of s c.args.p))) wrote
     ∙ ap (λ (held : List ℤ). passed (written stacks to (v ∷ [])) c.args.p (drop 2 held)) (operands_written stacks to (v ∷ []) c.args.p)

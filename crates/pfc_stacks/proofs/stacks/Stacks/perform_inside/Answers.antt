@@ -1,12 +1,18 @@
 use Rattle.std.proofs.Common.{refl}
-use Rattle.pfc_stacks.proofs.Defaults.{IsNotOwn, own_effect-none}
-use Rattle.pfc_stacks.proofs.stack.ProcessStack.perform_own.Goals as goal
+use Rattle.pfc_stacks.proofs.Defaults.{IsOutside, effect_inside-none}
+use Rattle.pfc_stacks.proofs.stacks.Stacks.perform_inside.Goals as goal
 
 pub returns-in_default : goal.returns-in_default
 returns-in_default c =
     let d = c.in_default in
-    let none : IsNotOwn c.args.i =
+    let none : IsOutside c.args.i =
     record {
+      not-ADDR = d.not-ADDR;
+      not-REF = d.not-REF;
+      not-OBJ = d.not-OBJ;
+      not-LOAD = d.not-LOAD;
+      not-STORE = d.not-STORE;
+      not-FORW = d.not-FORW;
       not-LIT = d.not-LIT;
       not-IDX = d.not-IDX;
       not-FLD = d.not-FLD;
@@ -39,4 +45,4 @@ returns-in_default c =
       not-GT = d.not-GT;
       not-GE = d.not-GE;
     } in
-    record { effect = own_effect-none c.args.i c.args.self.now.at c.args.self.now.operands none; changes = refl }
+    (effect_inside-none c.args.i c.args.p c.args.self.now none, refl)

@@ -40,8 +40,8 @@ module _ (image : PlainImage) (i : Instr) (p : ℕ) (m mid : Machine) (d : Stepp
   number_of_faulted : (r : Running) (f : RunFault) → d ≡ Faulted r f → r.number ≡ p
   number_of_faulted r f is = ap (λ (x : Stepped). (stepper x).number) (sym is) ∙ proc
 
-  number_of_stands : (r : Running) (j : Instr) → d ≡ Stands r j → r.number ≡ p
-  number_of_stands r j is = ap (λ (x : Stepped). (stepper x).number) (sym is) ∙ proc
+  number_of_stands : (r : Running) → d ≡ Stands r → r.number ≡ p
+  number_of_stands r is = ap (λ (x : Stepped). (stepper x).number) (sym is) ∙ proc
 
   may_end : (choice r : ℕ) → CanDo image i choice p m → r ≡ p → mid.world ≡ m.world → MayEnd r mid
   may_end choice r can number world = record {
@@ -59,14 +59,14 @@ module _ (image : PlainImage) (i : Instr) (p : ℕ) (m mid : Machine) (d : Stepp
       let h = subst (λ (x : Stepped). IsStepped image i p m x mid) is did in
       may_end choice r.number can (number_of_faulted r f is) (ap (λ (x : Machine). x.world) h.1)
 
-  pub stands_can : (picking : Picking) (r : Running) (j : Instr) → d ≡ Stands r j
+  pub stands_can : (picking : Picking) (r : Running) (j : Instr) → d ≡ Stands r → j ≡ i
       → CanDo image i (choice_among picking (choices_for i p m)) p m
       → CanDo image j (choice_among picking (choices_for j r.number mid)) r.number mid
-  stands_can picking r j is can =
+  stands_can picking r j is same can =
       let h = subst (λ (x : Stepped). IsStepped image i p m x mid) is did in
-      subst (λ (q : ℕ). CanDo image j (choice_among picking (choices_for j q mid)) q mid) (sym (number_of_stands r j is))
-      (subst (λ (x : Machine). CanDo image j (choice_among picking (choices_for j p x)) p x) (sym h.2)
-      (subst (λ (k : Instr). CanDo image k (choice_among picking (choices_for k p m)) p m) (sym h.1) can))
+      subst (λ (q : ℕ). CanDo image j (choice_among picking (choices_for j q mid)) q mid) (sym (number_of_stands r is))
+      (subst (λ (x : Machine). CanDo image j (choice_among picking (choices_for j p x)) p x) (sym h.1)
+      (subst (λ (k : Instr). CanDo image k (choice_among picking (choices_for k p m)) p m) (sym same) can))
 
   pub acted_is : (picking : Picking) (out : List ℕ) (r : Running) (line : ℕ) (new : Machine) → d ≡ Acted r → line ≡ line_of image p m
       → new ≡ acted line r.number (at_rest mid) → IsActed image p m i picking picking out out (Ok Done) new
@@ -96,23 +96,23 @@ module _ (image : PlainImage) (i : Instr) (p : ℕ) (m mid : Machine) (d : Stepp
       )
 
   pub stands_is : (picking picking' : Picking) (out out' : List ℕ) (r : Running) (j : Instr) (line : ℕ) (result : Result ActionEnd Memory) (new : Machine)
-      → d ≡ Stands r j → line ≡ line_of image p m
+      → d ≡ Stands r → j ≡ i → line ≡ line_of image p m
       → IsAnswer (performs image j (choice_among picking (choices_for j r.number mid)) r.number mid) j line r.number
       (choices_for j r.number mid) mid picking picking' out out' result new
       → IsActed image p m i picking picking' out out' result new
-  stands_is picking picking' out out' r j line result new is at_line answer =
+  stands_is picking picking' out out' r j line result new is same at_line answer =
       let h = subst (λ (x : Stepped). IsStepped image i p m x mid) is did in
       let n : ℕ = choices_for i p m in
       let choice : ℕ = choice_among picking n in
       let by_number = subst (λ (q : ℕ). IsAnswer (performs image j (choice_among picking (choices_for j q mid)) q mid) j line q
       (choices_for j q mid) mid picking picking' out out' result new)
-      (number_of_stands r j is) answer in
+      (number_of_stands r is) answer in
       let by_machine = subst (λ (x : Machine). IsAnswer (performs image j (choice_among picking (choices_for j p x)) p x) j line p
       (choices_for j p x) x picking picking' out out' result new)
-      h.2 by_number in
+      h.1 by_number in
       let by_instr = subst (λ (k : Instr). IsAnswer (performs image k (choice_among picking (choices_for k p m)) p m) k line p
       (choices_for k p m) m picking picking' out out' result new)
-      h.1 by_machine in
+      same by_machine in
       let by_line = subst (λ (l : ℕ). IsAnswer (performs image i choice p m) i l p n m picking picking' out out' result new) at_line by_instr in
       subst (λ (e : PrintedEffect). IsAnswer e i (line_of image p m) p n m picking picking' out out' result new)
-      (sym (ap (λ (e : QuietEffect). comes_to e (acts_by image i choice p m)) h.0 ∙ h.3 choice)) by_line
+      (sym (ap (λ (e : QuietEffect). comes_to e (acts_by image i choice p m)) h.0 ∙ h.2 choice)) by_line

@@ -94,7 +94,7 @@ pub still_so : (d : Stepped) → ((r : Running) → d ≡ Passed r → ⊥) → 
 still_so (Passed r) not = absurd (not r refl)
 still_so (Acted r) not = tt
 still_so (Faulted r f) not = tt
-still_so (Stands r i) not = tt
+still_so (Stands r) not = tt
 
 no_move_by : (e f : QuietEffect) → e ≡ f → IsNoMove f → IsNoMove e
 no_move_by e f same h = subst (λ (x : QuietEffect). IsNoMove x) (sym same) h
@@ -104,7 +104,7 @@ pub no_move_so : (image : PlainImage) (i : Instr) (p : ℕ) (m new : Machine) (d
 no_move_so image i p m new (Passed r) still h = absurd still
 no_move_so image i p m new (Acted r) still h = no_move_by (quietly image i p m) acts h.0 tt
 no_move_so image i p m new (Faulted r f) still h = no_move_by (quietly image i p m) (ends_in f) h.0 tt
-no_move_so image i p m new (Stands r j) still h = no_move_by (quietly image i p m) acts h.0 tt
+no_move_so image i p m new (Stands r) still h = no_move_by (quietly image i p m) acts h.0 tt
 
 pub reached_so :
     (image : PlainImage) (p : ℕ) (m new : Machine) (d : Stepped) (place n : ℕ) (m' : Machine) (i : Instr)

@@ -55,21 +55,21 @@ abbrev pub stepper : Stepped → Running
 stepper (Passed r) = r
 stepper (Acted r) = r
 stepper (Faulted r f) = r
-stepper (Stands r i) = r
+stepper (Stands r) = r
 
 -- of an instruction that the stacks leave to others
-abbrev pub IsOutward : QuietEffect → Instr → Machine → Stepped → Machine → Type 0
-IsOutward e i old (Passed r) new = e ≡ goes new
-IsOutward e i old (Acted r) new = ⊥
-IsOutward e i old (Faulted r f) new = (e ≡ ends_in f) × (new ≡ old)
-IsOutward e i old (Stands r j) new = (e ≡ acts) × (j ≡ i) × (new ≡ old)
+abbrev pub IsOutward : QuietEffect → Machine → Stepped → Machine → Type 0
+IsOutward e old (Passed r) new = e ≡ goes new
+IsOutward e old (Acted r) new = ⊥
+IsOutward e old (Faulted r f) new = (e ≡ ends_in f) × (new ≡ old)
+IsOutward e old (Stands r) new = (e ≡ acts) × (new ≡ old)
 
 -- of one that was tried, by its effect on the stacks, and what it comes to where it has none
-abbrev pub IsTried : stacked.Effect → QuietEffect → Instr → Machine → Stepped → Machine → Type 0
-IsTried e outward i old (Passed r) new = on_stacks e outward old ≡ goes new
-IsTried e outward i old (Acted r) new = (e ≡ stacked.acts new.stacks) × (new ≡ record old { stacks = new.stacks })
-IsTried e outward i old (Faulted r f) new = (on_stacks e outward old ≡ ends_in f) × (new ≡ old)
-IsTried e outward i old (Stands r j) new = (e ≡ stacked.outward) × (outward ≡ acts) × (j ≡ i) × (new ≡ old)
+abbrev pub IsTried : stacked.Effect → QuietEffect → Machine → Stepped → Machine → Type 0
+IsTried e outward old (Passed r) new = on_stacks e outward old ≡ goes new
+IsTried e outward old (Acted r) new = (e ≡ stacked.acts new.stacks) × (new ≡ record old { stacks = new.stacks })
+IsTried e outward old (Faulted r f) new = (on_stacks e outward old ≡ ends_in f) × (new ≡ old)
+IsTried e outward old (Stands r) new = (e ≡ stacked.outward) × (outward ≡ acts) × (new ≡ old)
 
 -- Of any. An action of the stacks alone is done, and any other is left undone, as a fault is.
 abbrev pub IsStepped : PlainImage → Instr → ℕ → Machine → Stepped → Machine → Type 0
@@ -78,5 +78,5 @@ IsStepped image i p old (Acted r) new =
     (quietly image i p old ≡ acts) × (new.world ≡ old.world) × ((choice : ℕ) → acts_by image i choice p old ≡ silent (Ok (at_rest new)))
     × (choices_for i p old ≡ 0)
 IsStepped image i p old (Faulted r f) new = (quietly image i p old ≡ ends_in f) × (new ≡ old)
-IsStepped image i p old (Stands r j) new =
-    (quietly image i p old ≡ acts) × (j ≡ i) × (new ≡ old) × ((choice : ℕ) → acts_by image i choice p old ≡ performs image i choice p old)
+IsStepped image i p old (Stands r) new =
+    (quietly image i p old ≡ acts) × (new ≡ old) × ((choice : ℕ) → acts_by image i choice p old ≡ performs image i choice p old)

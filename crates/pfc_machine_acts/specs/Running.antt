@@ -57,4 +57,4 @@ abbrev pub IsStill : Stepped → Type 0
 IsStill (Passed r) = ⊥
 IsStill (Acted r) = Unit {0}
 IsStill (Faulted r f) = Unit {0}
-IsStill (Stands r i) = Unit {0}
+IsStill (Stands r) = Unit {0}

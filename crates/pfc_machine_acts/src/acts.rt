@@ -11,7 +11,7 @@ ghost use Rattle.pfc_machine_acts.specs.Conditions.{CanSelect, CanDo};
 ghost use Rattle.pfc_machine_acts.specs.Performing.{performs, choices_for};
 ghost use Rattle.pfc_machine_acts.specs.Running.{IsNext};
 
-use crate::advancing::advance;
+use crate::advancing::{advance, instr_at};
 use crate::performing::perform;
 use crate::stepping::Stepped;
 use pfc_base::{Memory, RunFault};
@@ -159,6 +159,6 @@ pub fn act(
             end(machine, r, line);
             Ok(ActionEnd::Faulted { line, fault })
         }
-        Stepped::Stands { r, i } => carry_out(machine, image, r, i, line, picker, out),
+        Stepped::Stands(r) => carry_out(machine, image, r, instr_at(image, at), line, picker, out),
     }
 }

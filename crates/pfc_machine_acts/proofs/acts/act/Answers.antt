@@ -1,4 +1,5 @@
-use Rattle.std.proofs.Common.{ℕ, ◌≡◌, get_or, sym, ap, ◌∙◌, subst}
+use Rattle.std.proofs.Common.{ℕ, ◌≡◌, ◌<◌, length, get_or, sym, ap, ◌∙◌, subst}
+use Rattle.std.specs.List.{slice_get}
 use Rattle.pfc_code.specs.declared.instructions.Instr.{Instr}
 use Rattle.pfc_code.specs.Images.{PlainImage, plain_image}
 use Rattle.pfc_machines.specs.declared.machine.Machine.{Machine}
@@ -7,6 +8,8 @@ use Rattle.pfc_machine_acts.specs.Acting.{choice_among, line_of}
 use Rattle.pfc_machine_acts.specs.Performing.{choices_for}
 use Rattle.pfc_machine_acts.specs.Running.{IsNext}
 use Rattle.pfc_machine_acts.proofs.Ends.{acted_may_end, faulted_may_end, stands_can, acted_is, faulted_is, stands_is}
+use Rattle.pfc_machine_acts.proofs.Lengths.{as_many_ahead}
+use Rattle.pfc_machine_acts.proofs.Tried.{same_instr}
 use Rattle.pfc_machine_acts.proofs.acts.act.Goals as goal
 
 pub end-requires-in-Acted-clause-acts : goal.end-requires-in-Acted-clause-acts
@@ -87,6 +90,28 @@ end-requires-in-Faulted-clause-moment c =
     (faulted_may_end image i p m c.advance-at.new.machine c.advance-at.result.1 c.advance-at.ensures.process reached.1 choice c.in-Faulted.r
     c.in-Faulted.fault c.in-Faulted.is c.requires.can).moment
 
+-- who acts has a stack, and what is quiet leaves as many as there were
+pub advance-at-requires-clause-stack : goal.advance-at-requires-clause-stack
+advance-at-requires-clause-stack c =
+    let image : PlainImage = plain_image c.args.image.now in
+    let p : ℕ = c.args.r.number in
+    let m0 : Machine = c.args.machine.now in
+    let taken : takes_up p m0 ≡ c.take_up.new.machine = sym (c.take_up.ensures ∙ ap (λ (q : ℕ). takes_up q m0) c.number.ensures) in
+    let same = as_many_ahead image p c.requires.count (takes_up p m0) c.requires.before c.requires.next.run in
+    subst (λ (x : Machine). p < length x.stacks) taken (subst (λ (n : ℕ). p < n) same c.requires.can.acting.acts.stack)
+
+-- the process stands at an instruction of the image
+pub instr_at-requires : goal.instr_at-requires
+instr_at-requires c =
+    let image : PlainImage = plain_image c.args.image.now in
+    let p : ℕ = c.args.r.number in
+    let m0 : Machine = c.args.machine.now in
+    let taken : takes_up p m0 ≡ c.take_up.new.machine = sym (c.take_up.ensures ∙ ap (λ (q : ℕ). takes_up q m0) c.number.ensures) in
+    let m : Machine = c.requires.before in
+    let i : Instr = c.requires.instr in
+    let reached = c.advance-at.ensures.reached c.requires.count m i (subst (λ (x : Machine). IsNext image p x c.requires.count m i) taken c.requires.next) in
+    (i, ap (λ (a : ℕ). slice_get image.code a) reached.0 ∙ c.requires.next.is)
+
 pub carry_out-requires : goal.carry_out-requires
 carry_out-requires c =
     let image : PlainImage = plain_image c.args.image.now in
@@ -96,8 +121,10 @@ carry_out-requires c =
     let m : Machine = c.requires.before in
     let i : Instr = c.requires.instr in
     let reached = c.advance-at.ensures.reached c.requires.count m i (subst (λ (x : Machine). IsNext image p x c.requires.count m i) taken c.requires.next) in
-    stands_can image i p m c.advance-at.new.machine c.advance-at.result.1 c.advance-at.ensures.process reached.1 c.args.picker.now c.in-Stands.r c.in-Stands.i
-    c.in-Stands.is c.requires.can
+    let same : c.instr_at.result ≡ i =
+    same_instr c.instr_at.result i (sym c.instr_at.ensures ∙ ap (λ (a : ℕ). slice_get image.code a) reached.0 ∙ c.requires.next.is) in
+    stands_can image i p m c.advance-at.new.machine c.advance-at.result.1 c.advance-at.ensures.process reached.1 c.args.picker.now c.in-Stands.r
+    c.instr_at.result c.in-Stands.is same c.requires.can
 
 pub returns-in-Acted : goal.returns-in-Acted
 returns-in-Acted c = λ n m i next.
@@ -129,6 +156,8 @@ returns-in-Stands c = λ n m i next.
     let taken : takes_up p m0 ≡ c.take_up.new.machine = sym (c.take_up.ensures ∙ ap (λ (q : ℕ). takes_up q m0) c.number.ensures) in
     let reached = c.advance-at.ensures.reached n m i (subst (λ (x : Machine). IsNext image p x n m i) taken next) in
     let at_line : c.line_at-line.result ≡ line_of image p m = c.line_at-line.ensures ∙ ap (λ (a : ℕ). get_or image.lines a 0) reached.0 in
+    let same : c.instr_at.result ≡ i =
+    same_instr c.instr_at.result i (sym c.instr_at.ensures ∙ ap (λ (a : ℕ). slice_get image.code a) reached.0 ∙ next.is) in
     stands_is image i p m c.advance-at.new.machine c.advance-at.result.1 c.advance-at.ensures.process reached.1 c.args.picker.now c.carry_out.new.picker
-    c.args.out.now c.carry_out.new.out c.in-Stands.r c.in-Stands.i c.line_at-line.result c.carry_out.result c.carry_out.new.machine
-    c.in-Stands.is at_line c.carry_out.ensures
+    c.args.out.now c.carry_out.new.out c.in-Stands.r c.instr_at.result c.line_at-line.result c.carry_out.result c.carry_out.new.machine
+    c.in-Stands.is same at_line c.carry_out.ensures

@@ -1,4 +1,4 @@
-use Rattle.std.proofs.Common.{◌≡◌, ℕ, length}
+use Rattle.std.proofs.Common.{◌≡◌, ◌<◌, ℕ, length}
 use Rattle.pfc_code.specs.declared.instructions.Instr.{Instr}
 use Rattle.pfc_code.specs.Images.{plain_image}
 use Rattle.pfc_machines.specs.declared.machine.Machine.{Machine}
@@ -9,6 +9,7 @@ use Rattle.pfc_machine_acts.proofs.advancing.advance.Given as goal
 abbrev pub invariant-loop-next : goal.invariant-loop-next
 invariant-loop-next l = record {
   process : l.r.number ≡ l.p;
+  stack : l.p < length l.machine.stacks;
   some : (n : ℕ) × (m : Machine) × (i : Instr) × IsNext (plain_image l.image) l.p l.machine n m i;
   all : (n : ℕ) (m : Machine) (i : Instr) → IsNext (plain_image l.image) l.p l.fn.machine n m i
       → (k : ℕ) × IsNext (plain_image l.image) l.p l.machine k m i;

@@ -8,6 +8,7 @@ ghost use Rattle.pfc_acting.specs.Acting.{StandsBefore, IsBeforeDeed};
 
 use pfc_activities::{Doing, Source, State};
 use pfc_base::Memory;
+use pfc_frequent_steps::frequent_deed;
 use pfc_pending::{At, Deed};
 use pfc_program::Program;
 use pfc_rewriting::{Going, next_deed};
@@ -29,8 +30,34 @@ fn hold<'t>(place: &mut At<'t>, at: At<'t>)
 fn let_go<'t>(_before: At<'t>) {}
 
 /// The one action that comes next for what a process is at. What is left behind it is pending then. Its only refusal is want of memory,
-/// which leaves the process before the same action.
+/// which leaves the process before the same action. Frequent steps are taken first, where the process stands.
 fn rewrite<'t>(
+    alloc: Global,
+    program: &Program<'t>,
+    doing: &mut Doing<'t>,
+) -> Result<Deed<'t>, Memory>
+    ensures ok { IfOk result (λ deed. deed_of program.now.tables doing.new deed ≡ doing_ahead program.now.tables doing.old) }
+    ensures err { OnErr result (doing_ahead program.now.tables doing.new ≡ doing_ahead program.now.tables doing.old) }
+{
+    match frequent_deed(
+        alloc,
+        program,
+        &doing.names,
+        &mut doing.at,
+        &mut doing.line,
+        &mut doing.pending,
+    ) {
+        Some(deed) => Ok(deed),
+        None => match rewrite_any(alloc, program, doing) {
+            Ok(deed) => Ok(deed),
+            Err(Memory) => Err(Memory),
+        },
+    }
+}
+
+/// The same by any steps.
+#[inline(never)]
+fn rewrite_any<'t>(
     alloc: Global,
     program: &Program<'t>,
     doing: &mut Doing<'t>,

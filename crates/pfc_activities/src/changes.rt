@@ -9,6 +9,7 @@ ghost use Rattle.pfc_activities.specs.Relation.{IsIn, MayAct, IsKept, GoesOn, Is
 use crate::{Hand, State};
 use pfc_base::RunFault;
 use pfc_pending::At;
+use pfc_store::Value;
 use std::mem;
 
 /// What an action was.
@@ -23,6 +24,18 @@ pub enum Done {
 /// Lets go of what was at hand.
 #[inline(never)]
 fn let_go<'t>(_before: At<'t>) {}
+
+/// This is at hand now. What owned nothing needs not be let go of.
+#[inline(always)]
+fn hold<'t>(place: &mut At<'t>, at: At<'t>)
+    ensures { place.new ≡ at.entry }
+{
+    match &*place {
+        At::Rest => mem::forget(mem::replace(place, at)),
+        At::Value(Value::Ordinal(_)) => mem::forget(mem::replace(place, at)),
+        _ => let_go(mem::replace(place, at)),
+    }
+}
 
 impl<'t> State<'t> {
     /// The line of the statement that the process is at.
@@ -43,13 +56,10 @@ impl<'t> State<'t> {
         ensures world { self.new.world ≡ self.old.world }
     {
         let activity = &mut self.activities[p as usize];
-        match mem::replace(&mut activity.doing.at, at) {
-            At::Rest => {}
-            before => let_go(before),
-        }
-        match mem::replace(&mut activity.hand, Hand::Empty) {
+        hold(&mut activity.doing.at, at);
+        match &activity.hand {
             Hand::Empty => {}
-            shown => drop(shown),
+            _ => drop(mem::replace(&mut activity.hand, Hand::Empty)),
         }
     }
 

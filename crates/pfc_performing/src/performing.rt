@@ -105,9 +105,36 @@ fn decide<'t>(
     }
 }
 
-/// Performs the action of a process; what it writes is put behind `out`, and a select that has something to choose among asks the picker. Its
-/// only refusal is want of memory: then the action is given back, and all is as it was.
+/// Performs the action of a process, a frequent one at once; what it writes is put behind `out`, and a select that has something to choose
+/// among asks the picker. Its only refusal is want of memory: then the action is given back, and all is as it was.
+#[inline(always)]
 pub fn perform<'t>(
+    alloc: Global,
+    source: &'t Source<'t>,
+    state: &mut State<'t>,
+    p: u32,
+    deed: Deed<'t>,
+    picker: &mut Picker,
+    out: &mut Output,
+) -> Result<Done, Deed<'t>>
+    requires { MayAct state.old p }
+    ensures ok { IfOk result (λ d. IsDone source.now state.old state.new p deed.entry picker.old picker.new out.old out.new d) }
+    ensures err { OnErr result (StaysAt state.old state.new p) }
+    ensures given { IfErr result (λ given. given ≡ deed.entry) }
+    ensures kept { OnErr result (out.new ≡ out.old) }
+    ensures unchosen { OnErr result (picker.new ≡ picker.old) }
+{
+    match deed {
+        Deed::Turns => Ok(turns(state, p)),
+        Deed::Reads(spot) => read(alloc, state, p, spot),
+        Deed::Writes(spot, value) => write(alloc, state, p, spot, value),
+        other => perform_other(alloc, source, state, p, other, picker, out),
+    }
+}
+
+/// The same of any action.
+#[inline(never)]
+fn perform_other<'t>(
     alloc: Global,
     source: &'t Source<'t>,
     state: &mut State<'t>,

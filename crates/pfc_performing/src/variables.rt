@@ -11,6 +11,7 @@ use pfc_store::{Spot, Value};
 use pfc_types::TypeId;
 use std::alloc::Global;
 
+#[inline(never)]
 pub(crate) fn read<'t>(
     alloc: Global,
     state: &mut State<'t>,
@@ -26,6 +27,7 @@ pub(crate) fn read<'t>(
     }
 }
 
+#[inline(never)]
 pub(crate) fn write<'t>(
     alloc: Global,
     state: &mut State<'t>,

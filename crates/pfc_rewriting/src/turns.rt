@@ -7,6 +7,7 @@ ghost use Rattle.pfc_rewriting.specs.Going.{arrived_ahead, going_ahead, turned_a
 
 use crate::going::{Came, Going};
 use pfc_base::Memory;
+use pfc_frequent_steps::come;
 use pfc_pending::At;
 use pfc_sites::Site;
 use pfc_store::Value;
@@ -21,13 +22,16 @@ impl<'t> Going<'t> {
             if let Some(came) = self.turn(site)? {
                 return Ok(came);
             }
+            if let Some(deed) = come(&mut self.at, &mut self.line, &mut self.pending, site) {
+                return Ok(Came::Deed(deed));
+            }
         }
         Err(Memory)
     }
 
     /// One turn: a part of the text is read, or a part is put among those that are pending or taken from them. What is at hand most often
     /// is looked at where it stands.
-    #[inline(always)]
+    #[inline(never)]
     fn turn(&mut self, site: Site<'t, '_>) -> Result<Option<Came<'t>>, Memory>
         ensures { (t : Tables) → turned_ahead t (env_view site.entry.env) self.new result ≡ going_ahead t (env_view site.entry.env) self.old }
     {

@@ -1,0 +1,9 @@
+pub mod Assigned
+pub mod Firsts
+pub mod Left
+pub mod Named
+pub mod Nodes
+pub mod Numbers
+pub mod Rules
+pub mod Taken
+pub mod Waiting

@@ -1,0 +1,10 @@
+use Rattle.std.proofs.Common.{◌∙◌}
+use Rattle.pfc_pending.specs.Waiting.{awaits_of}
+use Rattle.pfc_frequent_steps.proofs.Firsts.{multipliers_first, multipliers_same}
+use Rattle.pfc_frequent_steps.proofs.expressions.multipliers.Goals as goal
+
+pub returns-in-len1-up : goal.returns-in-len1-up
+returns-in-len1-up c = λ t here w.
+    c.multiply.ensures t here w
+    ∙ multipliers_same here c.args.product _ _ (awaits_of w) c.ranges.product
+    (multipliers_first c.args.rest.now c.first-item.result c.in-len1-up.len_at_least c.first-item.is)

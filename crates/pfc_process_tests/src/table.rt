@@ -121,7 +121,7 @@ fn a_select_offers_its_alternatives(alloc: Global) -> Result<[bool; 4], Memory> 
     ])
 }
 
-fn the_barred_are_found_by_ticket(alloc: Global) -> Result<[bool; 2], Memory> {
+fn the_barred_are_found_by_ticket(alloc: Global) -> Result<[bool; 3], Memory> {
     let mut world = two_children(alloc)?;
     let child = world.begin(1);
     world.block(
@@ -141,8 +141,19 @@ fn the_barred_are_found_by_ticket(alloc: Global) -> Result<[bool; 2], Memory> {
         },
     );
     Ok([
-        (world.next_barred(4, None), world.next_barred(5, None)) == (Some(1), None),
-        (world.next_barred(4, Some(2)), world.next_barred(4, Some(3))) == (Some(2), None),
+        (
+            world.next_barred(4, None, None),
+            world.next_barred(5, None, None),
+        ) == (Some(1), None),
+        (
+            world.next_barred(4, Some(2), None),
+            world.next_barred(4, Some(3), None),
+        ) == (Some(2), None),
+        // whose the ticket is changes nothing, nor that it is another's or nobody's
+        (
+            world.next_barred(4, Some(2), Some(1)),
+            world.next_barred(4, Some(2), Some(9)),
+        ) == (Some(2), Some(2)),
     ])
 }
 
@@ -195,7 +206,7 @@ fn transitions(rt: HostRuntime) -> Result<(), Fail> {
 #[test]
 fn who_is_first(rt: HostRuntime) -> Result<(), Fail> {
     assert!(rt; the_first_is_who_waits_longest(rt.alloc())? == [true; 4]);
-    assert!(rt; the_barred_are_found_by_ticket(rt.alloc())? == [true; 2]);
+    assert!(rt; the_barred_are_found_by_ticket(rt.alloc())? == [true; 3]);
     Ok(())
 }
 

@@ -1,5 +1,5 @@
 -- Those who come before a delay, or stand at lesser objects, stand first in the sorted list.
-use Rattle.std.proofs.Common.{◌≡◌, ℕ, ◌≤◌, Bool, true, false, not, nat_lt, Option, List, arith, refl}
+use Rattle.std.proofs.Common.{◌≡◌, ℕ, ◌≤◌, true, nat_lt, Option, List, arith, refl}
 use Rattle.std.specs.List.Sorted.{IsPartitionedBy}
 use Rattle.std.proofs.lemmas.Bool.Decides.{nat_tests}
 use Rattle.pfc_sorted.specs.Sorted.{passes, AreSorted}
@@ -16,20 +16,6 @@ never-first p a h = not-itself ⊥ a a refl h
 pub parted-before : (sorted : List ℕ) (delays : List (Option Delay)) (delay : Delay) → AreSorted comes_first sorted delays
     → IsPartitionedBy (passes (λ p other. is_before other delay) delays) sorted
 parted-before sorted delays delay h = parted comes_first (λ p other. is_before other delay) (λ p q a b e f. before-trans a b delay e f) sorted delays h
-
-not-true : (b : Bool) → (b ≡ true → ⊥) → not b ≡ true
-not-true true h = absurd (h refl)
-not-true false h = refl
-
-never-both : (b : Bool) → b ≡ true → not b ≡ true → ⊥
-never-both true e f = cc
-never-both false e f = cc
-
-pub parted-behind : (sorted : List ℕ) (delays : List (Option Delay)) (delay : Delay) → AreSorted comes_first sorted delays
-    → IsPartitionedBy (passes (λ p other. not (is_before delay other)) delays) sorted
-parted-behind sorted delays delay h =
-    parted comes_first (λ p other. not (is_before delay other))
-    (λ p q a b e f. not-true (is_before delay a) (λ is. never-both (is_before delay b) (before-trans delay a b is e) f)) sorted delays h
 
 lower : (a b c : ℕ) → a ≤ b → nat_lt b c ≡ true → nat_lt a c ≡ true
 lower a b c low less = grind (arith, nat_tests)

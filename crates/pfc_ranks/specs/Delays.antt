@@ -1,5 +1,5 @@
 -- Who is delayed at which object, and with which rank.
-use Rattle.std.specs.Prelude.{ℕ, ◌≤◌, ◌≤ℤ◌, ◌≡◌, ◌≢◌, ◌==◌, ◌&&◌, ◌||◌, Bool, true, false, nat_lt, int_lt, Option, None, Some, List, slice_index_or}
+use Rattle.std.specs.Prelude.{ℕ, ◌≤◌, ◌≤ℤ◌, ◌≡◌, ◌≢◌, ◌==◌, ◌&&◌, ◌||◌, Bool, nat_lt, int_lt, Option, None, Some, List, slice_index_or}
 use Rattle.std.specs.Ordering.{int_eq}
 use Rattle.pfc_ranks.specs.declared.ranks.Delay.{Delay}
 
@@ -22,16 +22,3 @@ pub record IsFirst (delays : List (Option Delay)) (object p : ℕ) : Type 0 wher
   pub there : delay.object ≡ object
   pub least : (q : ℕ) (other : Delay) → delay_at delays q ≡ Some other → other.object ≡ object → delay.rank ≤ℤ other.rank
   pub earliest : (q : ℕ) (other : Delay) → delay_at delays q ≡ Some other → other.object ≡ object → other.rank ≡ delay.rank → delay.ticket ≤ other.ticket
-
--- nobody at the object of the delay is behind it
-abbrev pub IsNobodyBehind : List (Option Delay) → Delay → Type 0
-IsNobodyBehind delays delay = (p : ℕ) (other : Delay) → delay_at delays p ≡ Some other → other.object ≡ delay.object → is_before delay other ≡ false
-
--- Process p is behind the delay, at its object, and nobody behind it there comes before p.
-pub record IsFirstBehind (delays : List (Option Delay)) (delay : Delay) (p : ℕ) : Type 0 where
-  pub found : Delay
-  pub own : delay_at delays p ≡ Some found
-  pub there : found.object ≡ delay.object
-  pub behind : is_before delay found ≡ true
-  pub least : (q : ℕ) (other : Delay) → delay_at delays q ≡ Some other → other.object ≡ delay.object →
-      is_before delay other ≡ true → is_before other found ≡ false

@@ -1,8 +1,8 @@
 //! Delays of processes, and who is delayed in the order of the delays.
-ghost use Rattle.std.specs.Prelude.{◌≡◌, ◌≢◌, ◌==◌, ◌<◌, ◌≤◌, ℕ, Bool, true, false, None, Some, length, nat_lt, not, set, replicate, slice_index_or, is_some, IfOk, MatchOption};
+ghost use Rattle.std.specs.Prelude.{◌≡◌, ◌≢◌, ◌==◌, ◌<◌, ◌≤◌, ℕ, Bool, true, false, None, Some, length, nat_lt, set, replicate, slice_index_or, is_some, IfOk, MatchOption};
 ghost use Rattle.pfc_sorted.specs.Sorted.{passes, IsParted, IsPlace, AreSorted};
 ghost use Rattle.pfc_ranks.specs.declared.ranks.Delay.{Delay};
-ghost use Rattle.pfc_ranks.specs.Delays.{delay_at, is_before, IsFirst, IsFirstBehind, IsNobody, IsNobodyBehind};
+ghost use Rattle.pfc_ranks.specs.Delays.{delay_at, is_before, IsFirst, IsNobody};
 ghost use Rattle.pfc_ranks.specs.Sorted.{comes_first};
 
 use pfc_base::Memory;
@@ -86,18 +86,6 @@ impl Ranks {
         }
     }
 
-    /// The first behind a delay: of those at its object that it comes before, the one that comes before the others.
-    pub fn first_behind(&self, delay: Delay) -> Option<u32>
-        ensures { MatchOption result (IsNobodyBehind self.now delay) (IsFirstBehind self.now delay) }
-    {
-        let delays = self.delays.as_slice();
-        let place = place_behind(&self.sorted, delays, delay);
-        match self.sorted.get(place) {
-            Some(first) if is_at(delays, *first, delay.object) => Some(u32::from(*first)),
-            _ => None,
-        }
-    }
-
     /// A process that is not delayed has this delay from now on. Nobody else has its ticket.
     pub fn put(&mut self, process: u32, delay: Delay)
         requires process { process < length self.old }
@@ -153,16 +141,6 @@ fn comes_before(delays: &[Option<Delay>], process: u16, delay: Delay) -> bool
     }
 }
 
-/// Whether a process has this delay or one that comes before it.
-fn is_within(delays: &[Option<Delay>], process: u16, delay: Delay) -> bool
-    ensures { result ≡ passes (λ p other. not (is_before delay other)) delays.now process }
-{
-    match delays.get(process as usize) {
-        Some(Some(other)) => !delay.is_before(*other),
-        _ => false,
-    }
-}
-
 /// Where the process stands, which has this delay.
 fn place_of_process(
     sorted: &VecDeque<u16>,
@@ -199,14 +177,6 @@ fn count_before(sorted: &VecDeque<u16>, delays: &[Option<Delay>], delay: Delay) 
     ensures { IsParted (passes (λ p other. is_before other delay) delays.now) sorted.now.items result }
 {
     count_passing(sorted, |p| comes_before(delays, *p, delay))
-}
-
-/// Where those behind this delay begin: how many come before it, or have it.
-fn place_behind(sorted: &VecDeque<u16>, delays: &[Option<Delay>], delay: Delay) -> usize
-    requires { AreSorted comes_first sorted.now.items delays.now }
-    ensures { IsParted (passes (λ p other. not (is_before delay other)) delays.now) sorted.now.items result }
-{
-    count_passing(sorted, |p| is_within(delays, *p, delay))
 }
 
 /// Where those at an object begin: how many are delayed at lesser objects.

@@ -174,6 +174,7 @@ fn scan_ahead<'t>(
         resource,
         line,
         after: None,
+        whose: None,
         own: bar_at(block, resource, procedure),
     }
 }

@@ -39,6 +39,7 @@ fn push_scan<'t>(
         resource,
         line,
         after: None,
+        whose: None,
         own: None,
     };
     pending.push(Pending::ScanOn(scan)).unwrap();

@@ -18,6 +18,7 @@ use Rattle.pfc_world.specs.declared.lists.Spread.{Spread}
 use Rattle.pfc_world.specs.Lists.{list_at, list_of, call_place, member_of}
 use Rattle.pfc_world.specs.Tables.{at}
 use Rattle.pfc_world.specs.Tickets.{AreApart, AreTickets}
+use Rattle.pfc_world.specs.Walks.{IsIn, IsFrontier, IsForward}
 use Rattle.pfc_world.proofs.Indexes.{member-ticket}
 
 left-of : (a b : Bool) → (a && b) ≡ true → a ≡ true
@@ -69,10 +70,6 @@ why-listed spread why Is_created t h = no-ticket _ t h
 why-listed spread why Is_ready t h = no-ticket _ t h
 why-listed spread why Is_done t h = no-ticket _ t h
 
--- in the rows, a process is in this list with this ticket
-abbrev pub IsIn : Spread → List Stand → ℕ → ℕ → ℕ → Type 0
-IsIn spread rows list p t = member_of spread (at rows p) ≡ in_list list t
-
 -- all that have a ticket by the key are in the list
 abbrev pub AreIn : Spread → (Stand → Option ℕ) → ℕ → Type 0
 AreIn spread key list = (s : Stand) (t : ℕ) → key s ≡ Some t → member_of spread s ≡ in_list list t
@@ -80,16 +77,6 @@ AreIn spread key list = (s : Stand) (t : ℕ) → key s ≡ Some t → member_of
 pub same-member : (spread : Spread) (rows : List Stand) (lists : Lists) (q : ℕ) → AreListed spread rows lists →
     member_at lists.members q ≡ member_of spread (at rows q)
 same-member spread rows lists q h = ap (λ v. member_at v q) h.members ∙ get_or-map (member_of spread) rows q Is_idle
-
--- Process p is in the list, and who is sought has no lesser ticket than it.
-pub record IsFrontier (spread : Spread) (key : Stand → Option ℕ) (rows : List Stand) (list p : ℕ) : Type 0 where
-  pub ticket : ℕ
-  pub own : IsIn spread rows list p ticket
-  pub rest : (q t : ℕ) → key (at rows q) ≡ Some t → ticket ≤ t
-
--- where a walk forward has come to: a process, or the end
-abbrev pub IsForward : Spread → (Stand → Option ℕ) → List Stand → ℕ → Option ℕ → Type 0
-IsForward spread key rows list next = MatchOption next (IsNobody key rows) (IsFrontier spread key rows list)
 
 none-is : (o : Option ℕ) → ((t : ℕ) → o ≡ Some t → ⊥) → o ≡ None
 none-is None f = refl

@@ -11,13 +11,13 @@ use Rattle.pfc_moments.specs.Moments.{moment_at}
 use Rattle.pfc_ranks.specs.declared.ranks.Delay.{Delay}
 use Rattle.pfc_ranks.specs.Delays.{delay_at}
 use Rattle.pfc_state.specs.declared.waits.Why.{Why}
-use Rattle.pfc_state.specs.declared.waits.Why.TheVariants.{Barred, Condition, Select}
+use Rattle.pfc_state.specs.declared.waits.Why.TheVariants.{Condition, Select}
 use Rattle.pfc_state.specs.declared.waits.Arm.{Arm}
 use Rattle.pfc_state.specs.Stands.{Stand, Is_idle, Is_created, Is_ready, Waits, Is_done, IsWaiting, is_ready, is_created, is_unfinished, may_end, due_of}
 use Rattle.pfc_state.specs.Stands.{ticket_of, started}
 use Rattle.pfc_world.specs.declared.index.Index.{Index}
 use Rattle.pfc_world.specs.Indexes.{IsReadySet, IsIndexed, Admits, BeginsWait, IsListed, EndsWait, number, count_of}
-use Rattle.pfc_world.specs.Delays.{barred_of, delay_of}
+use Rattle.pfc_world.specs.Delays.{delay_of}
 use Rattle.pfc_world.specs.declared.lists.Spread.{Spread}
 use Rattle.pfc_world.specs.Lists.{list_count, member_of, IsSpread}
 use Rattle.pfc_world.specs.Tables.{at}
@@ -33,7 +33,6 @@ record IsChanged (old new : Index) (rows : List Stand) (p : ℕ) (s : Stand) : T
   lists : new.waits.lists ≡ old.waits.lists
   dues : new.dues ≡ set old.dues p (due_of s)
   ranks : new.ranks ≡ set old.ranks p (delay_of s)
-  barred : new.barred ≡ set old.barred p (barred_of s)
   unfinished : new.unfinished + number (is_unfinished (at rows p)) ≡ old.unfinished + number (is_unfinished s)
   created : new.created + number (is_created (at rows p)) ≡ old.created + number (is_created s)
   ending : new.ending + number (may_end (at rows p)) ≡ old.ending + number (may_end s)
@@ -54,7 +53,6 @@ changed-index rows new p s ix ix' lt is h c = subst (λ v. IsIndexed v ix') (sym
   lists = c.lists ∙ h.lists ∙ ap list_count (sym c.spread);
   dues = c.dues ∙ ap (λ v. set v p (due_of s)) h.dues ∙ sym (map-set due_of rows p s);
   ranks = c.ranks ∙ ap (λ v. set v p (delay_of s)) h.ranks ∙ sym (map-set delay_of rows p s);
-  barred = c.barred ∙ ap (λ v. set v p (barred_of s)) h.barred ∙ sym (map-set barred_of rows p s);
   unfinished = same-count ix'.unfinished (count_of is_unfinished (set rows p s)) ix.unfinished (count_of is_unfinished rows)
       (number (is_unfinished (at rows p))) (number (is_unfinished s)) c.unfinished h.unfinished (count-set is_unfinished rows p s lt);
   created = same-count ix'.created (count_of is_created (set rows p s)) ix.created (count_of is_created rows) (number (is_created (at rows p)))
@@ -73,9 +71,6 @@ moment-is rows ix p h = ap (λ v. moment_at v p) h.dues ∙ get_or-map due_of ro
 pub delay-is : (rows : List Stand) (ix : Index) (p : ℕ) → IsIndexed rows ix → delay_at ix.ranks p ≡ delay_of (at rows p)
 delay-is rows ix p h = ap (λ v. delay_at v p) h.ranks ∙ get_or-map delay_of rows p Is_idle
 
-pub barred-is : (rows : List Stand) (ix : Index) (p : ℕ) → IsIndexed rows ix → delay_at ix.barred p ≡ barred_of (at rows p)
-barred-is rows ix p h = ap (λ v. delay_at v p) h.barred ∙ get_or-map barred_of rows p Is_idle
-
 pub members-room : (rows : List Stand) (ix : Index) → IsIndexed rows ix → length ix.waits.members ≡ length rows
 members-room rows ix h = ap length h.waits ∙ length-map rows (member_of ix.spread)
 
@@ -84,9 +79,6 @@ dues-room rows ix h = ap length h.dues ∙ length-map rows due_of
 
 ranks-room : (rows : List Stand) (ix : Index) → IsIndexed rows ix → length ix.ranks ≡ length rows
 ranks-room rows ix h = ap length h.ranks ∙ length-map rows delay_of
-
-barred-room : (rows : List Stand) (ix : Index) → IsIndexed rows ix → length ix.barred ≡ length rows
-barred-room rows ix h = ap length h.barred ∙ length-map rows barred_of
 
 abbrev ticket_in : Option Member → Option ℕ
 ticket_in (Some m) = Some m.ticket
@@ -115,22 +107,6 @@ delay-ticket Is_created delay h = cc
 delay-ticket Is_ready delay h = cc
 delay-ticket Is_done delay h = cc
 
-wait-barred : (why : Why) (ticket : ℕ) (arms : List Arm) (delay : Delay) → barred_of (Waits why ticket arms) ≡ Some delay → ticket ≡ delay.ticket
-wait-barred (Barred resource procedure) ticket arms delay h = ap ticket_delayed h
-  where
-    ticket_delayed : Option Delay → ℕ
-    ticket_delayed (Some d) = d.ticket
-    ticket_delayed None = ticket
-wait-barred _ ticket arms delay h = cc
-
--- a process is barred with the ticket of its wait
-pub barred-ticket : (s : Stand) (delay : Delay) → barred_of s ≡ Some delay → ticket_of s ≡ Some delay.ticket
-barred-ticket (Waits why ticket arms) delay h = ap (λ n. Some n) (wait-barred why ticket arms delay h)
-barred-ticket Is_idle delay h = cc
-barred-ticket Is_created delay h = cc
-barred-ticket Is_ready delay h = cc
-barred-ticket Is_done delay h = cc
-
 -- a process that acts may be put into a list, with the ticket of the present action
 pub admits : (rows : List Stand) (ix : Index) (p done t : ℕ) → p < length rows → at rows p ≡ Is_ready → AreTickets rows done →
     IsNew rows done → t ≡ done + 1 → IsIndexed rows ix
@@ -142,15 +118,11 @@ admits rows ix p done t lt ready tickets fresh is h = record {
   lists = h.lists;
   dues = let room : length ix.dues ≡ length rows = dues-room rows ix h in omega (arith, room, lt);
   ranks = let room : length ix.ranks ≡ length rows = ranks-room rows ix h in omega (arith, room, lt);
-  barred = let room : length ix.barred ≡ length rows = barred-room rows ix h in omega (arith, room, lt);
   free = member-is rows ix p h ∙ ap (member_of ix.spread) ready;
   undue = moment-is rows ix p h ∙ ap due_of ready;
   undelayed = delay-is rows ix p h ∙ ap delay_of ready;
-  unbarred = barred-is rows ix p h ∙ ap barred_of ready;
   from_one = omega (arith, is);
   last = λ list q u own. last q u (member-ticket ix.spread (at rows q) list u (sym (member-is rows ix q h) ∙ own));
-  distinct = λ q delay own same.
-      let lt' : delay.ticket < t = last q delay.ticket (barred-ticket (at rows q) delay (sym (barred-is rows ix q h) ∙ own)) in omega (arith, lt', same);
   apart = λ q delay own same. let lt' : delay.ticket < t =
       last q delay.ticket (delay-ticket (at rows q) delay (sym (delay-is rows ix q h) ∙ own)) in omega (arith, lt', same);
   ending = let le : count_of may_end rows ≤ length rows = count-most may_end rows in let e : ix.ending ≡ count_of may_end rows =
@@ -179,7 +151,6 @@ begun-index rows new p t why arms ix ix' lt ready is h b = changed-index rows ne
   lists = b.lists;
   dues = b.dues;
   ranks = b.ranks;
-  barred = b.barred;
   unfinished = ap (λ n. n + number (is_unfinished (at rows p))) b.unfinished ∙ ap (λ s. ix.unfinished + number (is_unfinished s)) ready;
   created = ap (λ n. n + number (is_created (at rows p))) b.created ∙ ap (λ s. ix.created + number (is_created s)) ready;
   ending =
@@ -226,7 +197,6 @@ is-listed rows ix p ends lt waits is h = record {
   member = ap is_some (member-is rows ix p h) ∙ waiting-member ix.spread (at rows p) waits;
   dues = let room : length ix.dues ≡ length rows = dues-room rows ix h in omega (arith, room, lt);
   ranks = let room : length ix.ranks ≡ length rows = ranks-room rows ix h in omega (arith, room, lt);
-  barred = let room : length ix.barred ≡ length rows = barred-room rows ix h in omega (arith, room, lt);
   unfinished =
       let one : number (is_unfinished (at rows p)) ≤ count_of is_unfinished rows = count-one is_unfinished rows p lt in
       let is_one : number (is_unfinished (at rows p)) ≡ 1 = ap number (waiting-unfinished (at rows p) waits) in
@@ -248,7 +218,6 @@ woken-index rows new p ends ix ix' lt waits may is h e ready unfinished = change
   lists = e.lists;
   dues = e.dues;
   ranks = e.ranks;
-  barred = e.barred;
   unfinished = ap (λ n. n + number (is_unfinished (at rows p))) unfinished ∙ ap (λ b. ix.unfinished + number b) (waiting-unfinished (at rows p) waits);
   created = ap (λ n. n + number (is_created (at rows p))) e.created ∙ ap (λ b. ix.created + number b) (waiting-begun (at rows p) waits);
   ending = let same : number ends ≡ number (may_end (at rows p)) =
@@ -266,7 +235,6 @@ ended-index rows new p ends ix ix' lt waits may is h e ready unfinished = change
   lists = e.lists;
   dues = e.dues;
   ranks = e.ranks;
-  barred = e.barred;
   unfinished = let one : number (is_unfinished (at rows p)) ≡ 1 = ap number (waiting-unfinished (at rows p) waits) in omega (arith, one, unfinished);
   created = ap (λ n. n + number (is_created (at rows p))) e.created ∙ ap (λ b. ix.created + number b) (waiting-begun (at rows p) waits);
   ending = let same : number ends ≡ number (may_end (at rows p)) =
@@ -293,12 +261,6 @@ undelayed rows ix p h none = kept ix.ranks (delay-is rows ix p h ∙ none)
     kept : (ds : List (Option Delay)) → delay_at ds p ≡ None → set ds p None ≡ ds
     kept ds e = ap (λ v. set ds p v) (sym e) ∙ set-get_or ds p None
 
-unbarred : (rows : List Stand) (ix : Index) (p : ℕ) → IsIndexed rows ix → barred_of (at rows p) ≡ None → set ix.barred p None ≡ ix.barred
-unbarred rows ix p h none = kept ix.barred (barred-is rows ix p h ∙ none)
-  where
-    kept : (ds : List (Option Delay)) → delay_at ds p ≡ None → set ds p None ≡ ds
-    kept ds e = ap (λ v. set ds p v) (sym e) ∙ set-get_or ds p None
-
 abbrev with_counts : Index → List Bool → ℕ → ℕ → Index
 with_counts ix ready unfinished created = record ix { ready = ready; unfinished = unfinished; created = created }
 
@@ -319,7 +281,6 @@ finished-index rows new p n ix ready lt was is h made count = changed-index rows
   lists = refl;
   dues = sym (undue rows ix p h (ap due_of was));
   ranks = sym (undelayed rows ix p h (ap delay_of was));
-  barred = sym (unbarred rows ix p h (ap barred_of was));
   unfinished =
       let one : number (is_unfinished (at rows p)) ≡ 1 = ap (λ s. number (is_unfinished s)) was in
       let some : 0 < ix.unfinished = some-unfinished rows ix p lt was h in
@@ -356,13 +317,6 @@ over-undelayed Is_created h = cc
 over-undelayed Is_ready h = cc
 over-undelayed (Waits why ticket arms) h = cc
 
-over-unbarred : (s : Stand) → is_unfinished s ≡ false → barred_of s ≡ None
-over-unbarred Is_idle h = refl
-over-unbarred Is_done h = refl
-over-unbarred Is_created h = cc
-over-unbarred Is_ready h = cc
-over-unbarred (Waits why ticket arms) h = cc
-
 over-free : (spread : Spread) (s : Stand) → is_unfinished s ≡ false → member_of spread s ≡ None
 over-free spread Is_idle h = refl
 over-free spread Is_done h = refl
@@ -387,7 +341,6 @@ created-index rows new p n m ix lt was is h count more = changed-index rows new 
   lists = refl;
   dues = sym (undue rows ix p h (over-undue (at rows p) was));
   ranks = sym (undelayed rows ix p h (over-undelayed (at rows p) was));
-  barred = sym (unbarred rows ix p h (over-unbarred (at rows p) was));
   unfinished = let none : number (is_unfinished (at rows p)) ≡ 0 = ap number was in omega (arith, none, count);
   created = let none : number (is_created (at rows p)) ≡ 0 = ap number (over-begun (at rows p) was) in omega (arith, none, more);
   ending = let none : number (may_end (at rows p)) ≡ 0 = ap number (over-stays (at rows p) was) in omega (arith, none);
@@ -426,16 +379,12 @@ idle-ranks : (n : ℕ) → replicate n None ≡ map delay_of (replicate n Is_idl
 idle-ranks zero = refl
 idle-ranks (suc n) = ap (λ v. None ∷ v) (idle-ranks n)
 
-idle-barred : (n : ℕ) → replicate n None ≡ map barred_of (replicate n Is_idle)
-idle-barred zero = refl
-idle-barred (suc n) = ap (λ v. None ∷ v) (idle-barred n)
-
 -- the index of a table that is made
 pub first-index : (n : ℕ) (ix : Index) → 0 < n → n ≤ 1024 → IsSpread ix.spread → IsReadySet (Is_ready ∷ replicate (n - 1) Is_idle) ix.ready →
     ix.waits.members ≡ replicate n None → ix.waits.lists ≡ list_count ix.spread
-    → ix.dues ≡ replicate n None → ix.ranks ≡ replicate n None → ix.barred ≡ replicate n None → ix.unfinished ≡ 1 → ix.created ≡ 0 → ix.ending ≡ 0 →
+    → ix.dues ≡ replicate n None → ix.ranks ≡ replicate n None → ix.unfinished ≡ 1 → ix.created ≡ 0 → ix.ending ≡ 0 →
     IsIndexed (Is_ready ∷ replicate (n - 1) Is_idle) ix
-first-index n ix some few spread bits members lists dues ranks barred unfinished created ending =
+first-index n ix some few spread bits members lists dues ranks unfinished created ending =
     let e : n ≡ suc (n - 1) = omega (arith, some) in
     let long : length (replicate (n - 1) Is_idle) ≡ n - 1 = length-replicate (n - 1) Is_idle in
     record {
@@ -447,7 +396,6 @@ first-index n ix some few spread bits members lists dues ranks barred unfinished
       lists = lists;
       dues = dues ∙ ap (λ k. replicate k None) e ∙ ap (λ v. None ∷ v) (idle-dues (n - 1));
       ranks = ranks ∙ ap (λ k. replicate k None) e ∙ ap (λ v. None ∷ v) (idle-ranks (n - 1));
-      barred = barred ∙ ap (λ k. replicate k None) e ∙ ap (λ v. None ∷ v) (idle-barred (n - 1));
       unfinished = unfinished ∙ ap (λ k. suc k) (sym (count-idle is_unfinished refl (n - 1)));
       created = created ∙ sym (count-idle is_created refl (n - 1));
       ending = ending ∙ sym (count-idle may_end refl (n - 1));
@@ -473,13 +421,6 @@ started-delay Is_created = refl
 started-delay Is_ready = refl
 started-delay (Waits why ticket arms) = refl
 started-delay Is_done = refl
-
-started-barred : (s : Stand) → barred_of (started s) ≡ barred_of s
-started-barred Is_idle = refl
-started-barred Is_created = refl
-started-barred Is_ready = refl
-started-barred (Waits why ticket arms) = refl
-started-barred Is_done = refl
 
 started-unfinished : (s : Stand) → is_unfinished (started s) ≡ is_unfinished s
 started-unfinished Is_idle = refl
@@ -514,7 +455,6 @@ all-started-index rows new ix ready is bits h = record {
   lists = h.lists;
   dues = h.dues ∙ sym (map-same due_of started-due rows) ∙ ap (map due_of) (sym is);
   ranks = h.ranks ∙ sym (map-same delay_of started-delay rows) ∙ ap (map delay_of) (sym is);
-  barred = h.barred ∙ sym (map-same barred_of started-barred rows) ∙ ap (map barred_of) (sym is);
   unfinished = h.unfinished ∙ sym (count-map is_unfinished started started-unfinished rows) ∙ ap (count_of is_unfinished) (sym is);
   created = sym (none-created rows) ∙ ap (count_of is_created) (sym is);
   ending = h.ending ∙ sym (count-map may_end started started-end rows) ∙ ap (count_of may_end) (sym is);

@@ -7,7 +7,7 @@ use Rattle.pfc_ranks.specs.Delays.{delay_at}
 use Rattle.pfc_state.specs.declared.waits.Why.{Why}
 use Rattle.pfc_state.specs.Stands.{Stand, Waits, is_ready, is_created, due_of, is_unfinished, may_end}
 use Rattle.pfc_world.specs.declared.index.Index.{Index}
-use Rattle.pfc_world.specs.Delays.{barred_of, delay_of}
+use Rattle.pfc_world.specs.Delays.{delay_of}
 use Rattle.pfc_world.specs.declared.lists.Spread.{Spread}
 use Rattle.pfc_world.specs.Lists.{list_count, list_of, member_of, IsSpread}
 use Rattle.pfc_world.specs.Tables.{at}
@@ -31,7 +31,7 @@ count_of holds [] = 0
 count_of holds (stand ∷ rest) = one_more (holds stand) (count_of holds rest)
 
 -- What is kept beside the rows is what they say: who is ready, who waits in which list, who is due, who is delayed at
--- a condition, who is barred at a resource, how many are unfinished, how many are created, and how many wait in a select with an open `terminate`.
+-- a condition, how many are unfinished, how many are created, and how many wait in a select with an open `terminate`.
 pub record IsIndexed (rows : List Stand) (index : Index) : Type 0 where
   pub some : 0 < length rows
   pub few : length rows ≤ 1024
@@ -41,7 +41,6 @@ pub record IsIndexed (rows : List Stand) (index : Index) : Type 0 where
   pub lists : index.waits.lists ≡ list_count index.spread
   pub dues : index.dues ≡ map due_of rows
   pub ranks : index.ranks ≡ map delay_of rows
-  pub barred : index.barred ≡ map barred_of rows
   pub unfinished : index.unfinished ≡ count_of is_unfinished rows
   pub created : index.created ≡ count_of is_created rows
   pub ending : index.ending ≡ count_of may_end rows
@@ -60,15 +59,12 @@ pub record Admits (index : Index) (p ticket : ℕ) : Type 0 where
   pub lists : index.waits.lists ≡ list_count index.spread
   pub dues : p < length index.dues
   pub ranks : p < length index.ranks
-  pub barred : p < length index.barred
   pub free : member_at index.waits.members p ≡ None
   pub undue : moment_at index.dues p ≡ None
   pub undelayed : delay_at index.ranks p ≡ None
-  pub unbarred : delay_at index.barred p ≡ None
   pub from_one : 0 < ticket
   pub last : (list q t : ℕ) → member_at index.waits.members q ≡ in_list list t → t < ticket
   pub apart : (q : ℕ) (delay : Delay) → delay_at index.ranks q ≡ Some delay → delay.ticket ≢ ticket
-  pub distinct : (q : ℕ) (delay : Delay) → delay_at index.barred q ≡ Some delay → delay.ticket ≢ ticket
   pub ending : index.ending ≤ 1024
 
 -- process p waits from now on
@@ -79,7 +75,6 @@ pub record BeginsWait (old new : Index) (p : ℕ) (why : Why) (ticket : ℕ) : T
   pub lists : new.waits.lists ≡ old.waits.lists
   pub dues : new.dues ≡ set old.dues p (due_of (Waits why ticket []))
   pub ranks : new.ranks ≡ set old.ranks p (delay_of (Waits why ticket []))
-  pub barred : new.barred ≡ set old.barred p (barred_of (Waits why ticket []))
   pub unfinished : new.unfinished ≡ old.unfinished
   pub created : new.created ≡ old.created
   pub ending : new.ending ≡ old.ending + number (may_end (Waits why ticket []))
@@ -91,7 +86,6 @@ pub record IsListed (index : Index) (p : ℕ) (ends : Bool) : Type 0 where
   pub member : is_some (member_at index.waits.members p) ≡ true
   pub dues : p < length index.dues
   pub ranks : p < length index.ranks
-  pub barred : p < length index.barred
   pub unfinished : 0 < index.unfinished
   pub ending : number ends ≤ index.ending
 
@@ -102,6 +96,5 @@ pub record EndsWait (old new : Index) (p : ℕ) (ends : Bool) : Type 0 where
   pub lists : new.waits.lists ≡ old.waits.lists
   pub dues : new.dues ≡ set old.dues p None
   pub ranks : new.ranks ≡ set old.ranks p None
-  pub barred : new.barred ≡ set old.barred p None
   pub created : new.created ≡ old.created
   pub ending : new.ending + number ends ≡ old.ending

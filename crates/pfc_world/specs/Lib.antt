@@ -21,3 +21,4 @@ pub mod Tables
 pub mod Terminating
 pub mod Tickets
 pub mod Transitions
+pub mod Walks

@@ -2,7 +2,7 @@
 ghost use Rattle.std.specs.Prelude.{◌≡◌, ◌+◌, ◌-◌, ◌<◌, ◌≤◌, ◌∷◌, true, false, [], length, set, replicate, IfOk};
 ghost use Rattle.pfc_state.specs.Stands.{Is_idle, Is_ready, Waits, may_end};
 ghost use Rattle.pfc_state.specs.Waits.{due_of_wait};
-ghost use Rattle.pfc_world.specs.Delays.{barred_of_wait, barred_at, delay_of_wait};
+ghost use Rattle.pfc_world.specs.Delays.{delay_of_wait};
 ghost use Rattle.pfc_world.specs.Indexes.{IsIndexed, Admits, BeginsWait, IsListed, EndsWait};
 
 use crate::Why;
@@ -15,8 +15,8 @@ use pfc_ranks::{Delay, Ranks};
 use std::alloc::Global;
 
 /// How waits are spread over lists; who is ready; who waits in which list; who is due, and when; who is delayed at a
-/// condition, by ranks; who is barred at a resource; how many processes are unfinished, main included; how many of these
-/// are created and wait to be started; and how many wait in a select with an open `terminate`.
+/// condition, by ranks; how many processes are unfinished, main included; how many of these are created and wait to be
+/// started; and how many wait in a select with an open `terminate`.
 #[derive(Drop)]
 pub(crate) struct Index {
     pub(crate) spread: Spread,
@@ -24,7 +24,6 @@ pub(crate) struct Index {
     pub(crate) waits: Links,
     pub(crate) dues: Moments,
     pub(crate) ranks: Ranks,
-    pub(crate) barred: Ranks,
     pub(crate) unfinished: u32,
     pub(crate) created: u32,
     pub(crate) ending: u32,
@@ -47,7 +46,6 @@ impl Index {
             waits: Links::new(alloc, n, spread.lists())?,
             dues: Moments::new(alloc, n)?,
             ranks: Ranks::new(alloc, n)?,
-            barred: Ranks::new(alloc, n)?,
             unfinished: 1,
             created: 0,
             ending: 0,
@@ -66,9 +64,6 @@ impl Index {
         }
         if let Some(delay) = delay_of(why, ticket) {
             self.ranks.put(p, delay);
-        }
-        if let Some(delay) = barred_of(why, ticket) {
-            self.barred.put(p, delay);
         }
         if may_end(why) {
             self.ending += 1;
@@ -106,7 +101,6 @@ impl Index {
         self.waits.remove(p);
         self.dues.remove(p);
         self.ranks.remove(p);
-        self.barred.remove(p);
         if ends {
             self.ending -= 1;
         }
@@ -135,27 +129,6 @@ fn delay_of(why: Why, ticket: u64) -> Option<Delay>
             ticket,
         }),
         _ => None,
-    }
-}
-
-/// The delay of a wait at a guarded procedure of a resource, with this ticket.
-fn barred_of(why: Why, ticket: u64) -> Option<Delay>
-    ensures { result ≡ barred_of_wait why ticket }
-{
-    match why {
-        Why::Barred { resource, .. } => Some(barred(resource, ticket)),
-        _ => None,
-    }
-}
-
-/// To be barred at a resource with this ticket.
-pub(crate) fn barred(resource: u32, ticket: u64) -> Delay
-    ensures { result ≡ barred_at resource ticket }
-{
-    Delay {
-        object: resource,
-        rank: 0,
-        ticket,
     }
 }
 

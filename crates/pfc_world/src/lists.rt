@@ -56,7 +56,7 @@ impl Spread {
             Why::Condition { number, .. } => self.list_at(9, number),
             Why::Resumer(m) => self.list_at(10, m),
             Why::Entrant(g) => self.list_at(11, g),
-            Why::Barred { resource, .. } => self.list_at(12, resource),
+            Why::Barred { resource, .. } => self.list_of_barred(resource),
             Why::Sleep(_) => self.list_at(13, 0),
         }
     }
@@ -68,6 +68,15 @@ impl Spread {
         ensures known { result < list_count self }
     {
         self.list_at(7, 0)
+    }
+
+    /// The list of all who are barred at a resource.
+    pub(crate) fn list_of_barred(self, resource: u32) -> u32
+        requires { IsSpread self }
+        ensures list { result ≡ list_at self 12 resource }
+        ensures known { result < list_count self }
+    {
+        self.list_at(12, resource)
     }
 
     fn list_at(self, cause: u32, place: u32) -> u32

@@ -3,7 +3,7 @@ ghost use Rattle.std.specs.Prelude.{◌≡◌, ℕ, ◌+◌, ◌*◌, ◌^◌, �
 ghost use Rattle.std.specs.Prelude.{[], length, map, is_some, IfOk, IfSome, MatchOption};
 ghost use Rattle.pfc_state.specs.declared.waits.Why.{Why};
 ghost use Rattle.pfc_state.specs.Stands.{Is_ready, Waits, Is_done, IsWaiting, is_ready, is_unfinished, is_at_coend, state_of};
-ghost use Rattle.pfc_state.specs.Stands.{ticket_of, arms_of, may_end, ticket_at, ticket_offering};
+ghost use Rattle.pfc_state.specs.Stands.{ticket_of, arms_of, may_end, ticket_at, ticket_barred, ticket_offering};
 ghost use Rattle.pfc_state.specs.Waits.{is_select, place_of_arm};
 ghost use Rattle.pfc_world.specs.Coend.{IsAtCoend};
 ghost use Rattle.pfc_world.specs.Firsts.{offer_at};
@@ -301,6 +301,29 @@ impl Rows {
     {
         let row = &self.rows[p as usize];
         row.ticket_at(why).is_some()
+    }
+
+    /// Whether a process is barred at the resource with a ticket above `after`; any ticket is above None.
+    pub(crate) fn is_barred(&self, p: u32, resource: u32, after: Option<u64>) -> bool
+        requires { p < length self.now.rows }
+        ensures { result ≡ is_some (ticket_barred resource after (at self.now.rows p)) }
+    {
+        let row = &self.rows[p as usize];
+        row.ticket_barred(resource, after).is_some()
+    }
+
+    /// Whether there is such a process, and it is barred at the resource with this ticket.
+    pub(crate) fn is_barred_since(&self, p: u32, resource: u32, ticket: u64) -> bool
+        ensures within { result ≡ true → p < length self.now.rows }
+        ensures barred { result ≡ true → ticket_barred resource None (at self.now.rows p) ≡ Some ticket }
+    {
+        let Some(row) = self.rows.get(p as usize) else {
+            return false;
+        };
+        match row.ticket_barred(resource, None) {
+            Some(own) => own == ticket,
+            None => false,
+        }
     }
 
     pub(crate) fn give_up(&mut self, r: Running)

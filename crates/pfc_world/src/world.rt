@@ -14,8 +14,8 @@ ghost use Rattle.pfc_world.specs.Tables.{at, start_table, some_ready, some_creat
 ghost use Rattle.pfc_world.specs.Tickets.{AreTickets, IsNew};
 ghost use Rattle.pfc_world.specs.Transitions.{begun, rested, placed, blocked, is_released, released, ended, finished, all_started, ticked, IsCreation};
 
-use crate::index::{Index, barred};
-use crate::lookups::{first_of, first_offering, last_of};
+use crate::index::Index;
+use crate::lookups::{first_barred, first_of, first_offering, last_of};
 use crate::rows::Rows;
 use crate::{After, Arm, Offer, Running, Settled, State, Why};
 use pfc_alternatives::Alternatives;
@@ -332,19 +332,22 @@ impl World {
     }
 
     /// The process of least ticket above `after` among those that are barred at the resource; any ticket
-    /// is above None.
-    pub fn next_barred(&self, resource: u32, after: Option<u64>) -> Option<u32>
+    /// is above None. Told whose ticket `after` is, it looks behind that process, and else from the first
+    /// on: the answer is the same.
+    pub fn next_barred(&self, resource: u32, after: Option<u64>, whose: Option<u32>) -> Option<u32>
         ensures first { result ≡ first (ticket_barred resource after) self.now.rows }
         ensures found { MatchOption result (IsNobody (ticket_barred resource after) self.now.rows) (IsFirst (ticket_barred resource after) self.now.rows) }
         ensures waits { IfSome result (λ p. IsWaiting (at self.now.rows p)) }
         ensures within { IfSome result (λ p. p < length self.now.rows) }
     {
-        // this also tells that no two tickets are equal
-        let _done = self.rows.done();
-        match after {
-            Some(after) => self.index.barred.first_behind(barred(resource, after)),
-            None => self.index.barred.first(resource),
-        }
+        first_barred(
+            &self.rows,
+            self.index.spread,
+            &self.index.waits,
+            resource,
+            after,
+            whose,
+        )
     }
 }
 

@@ -4,9 +4,10 @@ use Rattle.pfc_links.specs.Members.{IsEmpty, IsFirst}
 use Rattle.pfc_world.specs.Firsts.{IsNobody}
 use Rattle.pfc_state.specs.Stands.{ticket_at}
 use Rattle.pfc_world.specs.Lists.{list_of}
+use Rattle.pfc_world.specs.Walks.{IsForward, IsFrontier}
 use Rattle.pfc_world.proofs.Finding.{at-gives, first-found}
 use Rattle.pfc_world.proofs.FirstIs.{first-none}
-use Rattle.pfc_world.proofs.InOrder.{IsForward, IsFrontier, ahead, why-listed, same-member, forward-starts, forward-steps, forward-found, forward-nearer}
+use Rattle.pfc_world.proofs.InOrder.{ahead, why-listed, same-member, forward-starts, forward-steps, forward-found, forward-nearer}
 use Rattle.pfc_world.proofs.lookups.first_of.Goals as goal
 
 pub loop-next-init : goal.loop-next-init

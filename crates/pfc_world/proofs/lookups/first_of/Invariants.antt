@@ -1,6 +1,7 @@
 use Rattle.pfc_state.specs.Stands.{ticket_at}
 use Rattle.pfc_world.specs.Lists.{list_of}
-use Rattle.pfc_world.proofs.InOrder.{IsForward, ahead}
+use Rattle.pfc_world.specs.Walks.{IsForward}
+use Rattle.pfc_world.proofs.InOrder.{ahead}
 use Rattle.pfc_world.proofs.lookups.first_of.Given as goal
 
 abbrev pub invariant-loop-next : goal.invariant-loop-next

@@ -41,7 +41,7 @@ pub record CanTry (image : PlainImage) (i : Instr) (p : ℕ) (m : Machine) : Typ
   pub performed : CanPerform image.blocks i p m.stacks
   pub goes : stacked.effect image.blocks i p m.stacks ≡ stacked.outward → CanGo i p m
 
--- calls and returns need not be tried
+-- Of calls and returns nothing is asked: that they act is told without a try.
 abbrev pub CanStep : PlainImage → Instr → ℕ → Machine → Type 0
 CanStep image (CALL k l) p m = Unit {0}
 CanStep image RET p m = Unit {0}

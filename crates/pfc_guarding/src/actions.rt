@@ -34,7 +34,7 @@ fn scan_once<'t>(state: &mut State<'t>, p: u32, scan: Scan<'t>) -> Result<Done, 
     ensures ok { IfOk result (λ d. IsPerformed state.old state.new p (deed.Scans scan.entry) [] d) }
     ensures err { OnErr result (StaysAt state.old state.new p) }
 {
-    match next_tried(state, scan.resource, scan.after, scan.whose) {
+    match next_tried(state, scan.resource, scan.after) {
         Some(tried) => go_under(state, p, Pending::TryOther(tried, scan)),
         None => match scan.own {
             Some(bar) => go_under(state, p, Pending::TryGuard(bar)),

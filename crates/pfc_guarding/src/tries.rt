@@ -46,17 +46,12 @@ fn barred_process<'t>(state: &State<'t>, q: u32) -> Option<Tried<'t>>
     })
 }
 
-/// The barred process of the resource with the least ticket above this one; None where there is none. Told whose ticket it is, it looks behind
-/// that process, and else from the first on.
-pub(crate) fn next_tried<'t>(
-    state: &State<'t>,
-    r: u32,
-    after: Option<u64>,
-    whose: Option<u32>,
-) -> Option<Tried<'t>>
-    ensures { IsNext state.now r after result }
+/// The barred process of the resource with the least ticket above this one; None where there is none.
+pub(crate) fn next_tried<'t>(state: &mut State<'t>, r: u32, after: Option<u64>) -> Option<Tried<'t>>
+    ensures same { state.new ≡ state.old }
+    ensures next { IsNext state.old r after result }
 {
-    match state.world.next_barred(r, after, whose) {
+    match state.world.next_barred(r, after) {
         Some(q) => barred_process(state, q),
         None => None,
     }

@@ -191,14 +191,13 @@ pub struct Bar<'a> {
     pub guard: &'a Guard<'a>,
 }
 
-/// A scan of the barred processes of a resource past a ticket, with the line of the resource's final `end`, and whose ticket it is, where one
-/// was tried. Behind it the process leaves the resource, or tries the guard of the procedure to which it has requeued.
+/// A scan of the barred processes of a resource past a ticket, with the line of the resource's final `end`. Behind it the process leaves
+/// the resource, or tries the guard of the procedure to which it has requeued.
 #[derive(Clone, Copy)]
 pub struct Scan<'a> {
     pub resource: u32,
     pub line: u32,
     pub after: Option<u64>,
-    pub whose: Option<u32>,
     pub own: Option<Bar<'a>>,
 }
 

@@ -141,19 +141,10 @@ fn the_barred_are_found_by_ticket(alloc: Global) -> Result<[bool; 3], Memory> {
         },
     );
     Ok([
-        (
-            world.next_barred(4, None, None),
-            world.next_barred(5, None, None),
-        ) == (Some(1), None),
-        (
-            world.next_barred(4, Some(2), None),
-            world.next_barred(4, Some(3), None),
-        ) == (Some(2), None),
-        // whose the ticket is changes nothing, nor that it is another's or nobody's
-        (
-            world.next_barred(4, Some(2), Some(1)),
-            world.next_barred(4, Some(2), Some(9)),
-        ) == (Some(2), Some(2)),
+        (world.next_barred(4, None), world.next_barred(5, None)) == (Some(1), None),
+        (world.next_barred(4, Some(2)), world.next_barred(4, Some(3))) == (Some(2), None),
+        // another ticket than that of the one found last
+        (world.next_barred(4, Some(2)), world.next_barred(4, Some(1))) == (Some(2), Some(1)),
     ])
 }
 

@@ -174,7 +174,6 @@ fn scan_ahead<'t>(
         resource,
         line,
         after: None,
-        whose: None,
         own: bar_at(block, resource, procedure),
     }
 }

@@ -39,7 +39,6 @@ fn push_scan<'t>(
         resource,
         line,
         after: None,
-        whose: None,
         own: None,
     };
     pending.push(Pending::ScanOn(scan)).unwrap();

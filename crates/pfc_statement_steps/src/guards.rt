@@ -101,7 +101,6 @@ fn pass_other<'t>(tried: Tried<'t>, scan: Scan<'t>, v: &Value, line: u32) -> Beg
     }
     let past = Scan {
         after: Some(tried.ticket),
-        whose: Some(tried.process),
         ..scan
     };
     on(scan.line, At::Deed(Deed::Scans(past)))

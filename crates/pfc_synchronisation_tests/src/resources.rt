@@ -16,8 +16,7 @@ use std::test::Fail;
 enum Call {
     Enter,
     Bar(u32),
-    /// past a ticket, and whose it is
-    Scan(Option<u64>, Option<u32>),
+    Scan(Option<u64>),
     Pass(u32),
     Leave,
     Requeue { procedure: u32, to: u32 },
@@ -42,19 +41,11 @@ static ACTIONS: [(u32, Call, Answer); 18] = [
     (2, Call::Bar(4), Answer::Next(None)),
     (3, Call::Enter, Answer::Goes),
     (4, Call::Enter, Answer::Waits),
-    (3, Call::Scan(None, None), Answer::Finds(Some((1, 3, 4)))),
-    (
-        3,
-        Call::Scan(Some(4), Some(1)),
-        Answer::Finds(Some((2, 4, 5))),
-    ),
-    (3, Call::Scan(Some(5), Some(2)), Answer::Finds(None)),
-    // told a process that was not tried, it finds the same
-    (
-        3,
-        Call::Scan(Some(4), Some(2)),
-        Answer::Finds(Some((2, 4, 5))),
-    ),
+    (3, Call::Scan(None), Answer::Finds(Some((1, 3, 4)))),
+    (3, Call::Scan(Some(4)), Answer::Finds(Some((2, 4, 5)))),
+    (3, Call::Scan(Some(5)), Answer::Finds(None)),
+    // another ticket than that of the one found last
+    (3, Call::Scan(Some(4)), Answer::Finds(Some((2, 4, 5)))),
     (3, Call::Pass(4), Answer::Unable),
     (3, Call::Pass(1), Answer::Goes),
     (1, Call::Leave, Answer::Next(Some(4))),
@@ -67,7 +58,7 @@ static ACTIONS: [(u32, Call, Answer); 18] = [
         },
         Answer::Waits,
     ),
-    (2, Call::Scan(None, None), Answer::Finds(Some((4, 6, 15)))),
+    (2, Call::Scan(None), Answer::Finds(Some((4, 6, 15)))),
     (2, Call::Leave, Answer::Next(None)),
     (2, Call::Leave, Answer::Unable),
     (5, Call::Enter, Answer::Goes),
@@ -86,9 +77,9 @@ fn answer_to(world: &mut World, res: &mut Resources, p: u32, call: Call) -> Answ
     }
     match call {
         Call::Enter => entered(world, res, r),
-        Call::Scan(after, whose) => {
+        Call::Scan(after) => {
             world.rest(r);
-            found(world, after, whose)
+            found(world, after)
         }
         Call::Pass(to) => {
             world.rest(r);
@@ -103,8 +94,10 @@ fn answer_to(world: &mut World, res: &mut Resources, p: u32, call: Call) -> Answ
     }
 }
 
-fn found(world: &World, after: Option<u64>, whose: Option<u32>) -> Answer {
-    match scan_next(world, 0, after, whose) {
+fn found(world: &mut World, after: Option<u64>) -> Answer
+    ensures { world.new ≡ world.old }
+{
+    match scan_next(world, 0, after) {
         Some(barred) => Answer::Finds(Some((barred.process, barred.procedure, barred.ticket))),
         None => Answer::Finds(None),
     }

@@ -7,6 +7,7 @@
 #![tactic(auto)]
 
 mod answers;
+mod found;
 mod index;
 mod laws;
 mod lists;

@@ -14,6 +14,7 @@ ghost use Rattle.pfc_world.specs.Tables.{at, start_table, some_ready, some_creat
 ghost use Rattle.pfc_world.specs.Tickets.{AreTickets, IsNew};
 ghost use Rattle.pfc_world.specs.Transitions.{begun, rested, placed, blocked, is_released, released, ended, finished, all_started, ticked, IsCreation};
 
+use crate::found::Found;
 use crate::index::Index;
 use crate::lookups::{first_barred, first_of, first_offering, last_of};
 use crate::rows::Rows;
@@ -33,6 +34,7 @@ pub struct World {
     pub(crate) index: Index,
     /// who waits in selects, by alternatives
     offers: Alternatives,
+    found: Found,
 }
 
 impl Model for World {
@@ -51,7 +53,7 @@ impl World {
     /// idle, and the clock is at 0. Each kind of wait, and of alternatives, has as many lists as there are objects, but at
     /// least one and at most 262,144. Where all numbers of semaphores, channels, monitors, conditions and resources
     /// are below this, and n times the number of entries of a process is no more, no two objects share a list. The memory
-    /// of a list is 8 bytes, and each object counts for seventeen. Its only refusal is want of memory; no other call takes
+    /// of a list is 8 bytes, and each object counts for seventeen, and for 4 bytes more. Its only refusal is want of memory; no other call takes
     /// memory.
     pub fn with_processes(alloc: Global, n: u32, arms: u32, objects: u32) -> Result<World, Memory>
         requires some { 0 < n }
@@ -63,6 +65,7 @@ impl World {
             rows: Rows::with_processes(alloc, n, arms)?,
             index: Index::new(alloc, n, objects)?,
             offers: Alternatives::new(alloc, n, arms, objects)?,
+            found: Found::new(alloc, objects)?,
         })
     }
 
@@ -332,22 +335,28 @@ impl World {
     }
 
     /// The process of least ticket above `after` among those that are barred at the resource; any ticket
-    /// is above None. Told whose ticket `after` is, it looks behind that process, and else from the first
-    /// on: the answer is the same.
-    pub fn next_barred(&self, resource: u32, after: Option<u64>, whose: Option<u32>) -> Option<u32>
-        ensures first { result ≡ first (ticket_barred resource after) self.now.rows }
-        ensures found { MatchOption result (IsNobody (ticket_barred resource after) self.now.rows) (IsFirst (ticket_barred resource after) self.now.rows) }
-        ensures waits { IfSome result (λ p. IsWaiting (at self.now.rows p)) }
-        ensures within { IfSome result (λ p. p < length self.now.rows) }
+    /// is above None. Where the ticket is that of the process that was found last at the resource, it takes
+    /// the same steps however many are barred; else it looks from the first on.
+    pub fn next_barred(&mut self, resource: u32, after: Option<u64>) -> Option<u32>
+        ensures same { self.new ≡ self.old }
+        ensures first { result ≡ first (ticket_barred resource after) self.old.rows }
+        ensures found { MatchOption result (IsNobody (ticket_barred resource after) self.old.rows) (IsFirst (ticket_barred resource after) self.old.rows) }
+        ensures waits { IfSome result (λ p. IsWaiting (at self.old.rows p)) }
+        ensures within { IfSome result (λ p. p < length self.old.rows) }
     {
-        first_barred(
+        let whose = self.found.at(resource);
+        let next = first_barred(
             &self.rows,
             self.index.spread,
             &self.index.waits,
             resource,
             after,
             whose,
-        )
+        );
+        if let Some(p) = next {
+            self.found.note(resource, p);
+        }
+        next
     }
 }
 

@@ -5,7 +5,7 @@
 # waits twice, as a caller does, and where a partner is looked for as well, as for a message. There are 64 processes.
 # Then, with 64 and with 1,002, where all but three wait: a `resume` and a new `delay` at one condition, where all ranks
 # are equal and where they are drawn; two that sleep and wake, where the others sleep; and the two that look for a
-# partner, where the others wait at channels of their own.
+# partner, where the others wait at channels of their own. Last, a turn of a scan of all who are barred at one resource.
 # It works on a copy of the repository, to which it adds a small program; needs rt and valgrind.
 set -e
 top=$(cd "$(dirname "$0")/.." && pwd)
@@ -15,7 +15,7 @@ cp -r "$top/crates" "$top/crates.txt" "$copy"
 cd "$copy"
 git init -q .
 echo "pairs: pfc_base pfc_state pfc_world pfc_pass pfc_monitor pfc_meet" >> crates.txt
-mkdir -p crates/pairs/{src,specs,proofs/{create_all,repeat,delay_all,send_all,sleep_all}}
+mkdir -p crates/pairs/{src,specs,proofs/{create_all,repeat,delay_all,send_all,sleep_all,bar_all}}
 cd crates/pairs
 touch specs/Lib.antt proofs/Lib.antt
 cat > src/main.rt <<'PROGRAM'
@@ -357,6 +357,35 @@ fn sleep_all(world: &mut World)
     }
 }
 
+/// All but the first three are barred at one resource.
+fn bar_all(world: &mut World)
+    requires { world.old.acting ≡ None }
+    ensures { world.new.acting ≡ None }
+{
+    for p in 3..1002 {
+        if let Some(r) = next_action(world, p) {
+            let why = Why::Barred { resource: 0, procedure: 0 };
+            world.block(r, why);
+        }
+    }
+}
+
+/// A turn of a scan past a ticket: the ticket of who is barred next, or None behind the last.
+fn turn_of_scan(world: &mut World, after: Option<u64>) -> Option<u64> {
+    match world.next_barred(0, after) {
+        Some(p) => world.ticket(p),
+        None => None,
+    }
+}
+
+/// Scans of all who are barred, one behind the other.
+fn scan_all(world: &mut World) {
+    let mut after = None;
+    for _i in 0..PAIRS {
+        after = turn_of_scan(world, after);
+    }
+}
+
 fn pair(world: &mut World, sems: &mut Semaphores, mons: &mut Monitors, case: u32)
     requires { world.old.acting ≡ None }
     ensures { world.new.acting ≡ None }
@@ -398,7 +427,7 @@ fn main(rt: HostRuntime) -> ExitCode {
         None => 0,
     };
     let n = match case {
-        10 | 11 | 13 | 15 => 1_002,
+        10 | 11 | 13 | 15 | 17 => 1_002,
         _ => 64,
     };
     let Ok(mut world) = World::with_processes(rt.alloc(), n, 4, n) else {
@@ -417,13 +446,17 @@ fn main(rt: HostRuntime) -> ExitCode {
         13 | 14 => delay_all(&mut world, &mut mons, true),
         11 => send_all(&mut world),
         15 | 16 => sleep_all(&mut world),
+        17 | 18 => bar_all(&mut world),
         _ => {}
     }
-    repeat(&mut world, &mut sems, &mut mons, case);
+    match case {
+        17 | 18 => scan_all(&mut world),
+        _ => repeat(&mut world, &mut sems, &mut mons, case),
+    }
     ExitCode::from(0)
 }
 PROGRAM
-for loop in create_all:p repeat:i delay_all:p send_all:p sleep_all:p; do
+for loop in create_all:p repeat:i delay_all:p send_all:p sleep_all:p bar_all:p; do
     function=${loop%:*}
     variable=${loop#*:}
     cat > proofs/$function/Invariants.antt <<PROOF
@@ -454,3 +487,5 @@ counted "a resume and a new delay with drawn ranks, where 1,000 wait at one cond
 counted "two actions, one that sleeps and one that wakes it, where 60 sleep" 16
 counted "two actions, one that sleeps and one that wakes it, where 1,000 sleep" 15
 counted "two actions that look for a partner, one that waits and one that wakes it, where 1,000 wait at channels of their own" 11
+counted "a turn of a scan, where 60 are barred" 18
+counted "a turn of a scan, where 1,000 are barred" 17

@@ -20,7 +20,7 @@ use Rattle.pfc_standing_code.specs.Effects.{Arm, effect_of, CanPerform, onward, 
 use Rattle.pfc_standing_code.specs.Following.{Arrived, Follows, arrives, moves, DoesIn}
 use Rattle.pfc_following_source.proofs.structures.Left.{remainder_follows}
 use Rattle.pfc_following_source.proofs.awaits.Anywhere.{values_follow_anywhere}
-use Rattle.pfc_representation.specs.Levels.{Facts, program_in, LivingLevel}
+use Rattle.pfc_representation.specs.Levels.{Facts, program_in, LivingLevel, StandsOn, IsBeforeAction}
 use Rattle.pfc_representation.specs.Rooms.{own_address}
 use Rattle.pfc_representation.specs.Callers.{IsWithin}
 use Rattle.pfc_representation.specs.Trials.{TrialIs, HasTried, IsAtTurn}
@@ -40,7 +40,7 @@ use Rattle.pfc_arrivals.proofs.Steps.{StepsTo, Fails, one_step, another_fails}
 use Rattle.pfc_arrivals.proofs.Taken.{HasBegun, has_begun}
 
 -- the turn of a scan stands where the image has it
-scan_stands : (facts : Facts) (r a : ℕ) → slice_get (image_of facts.tree).scans r ≡ Some a → (k : ℕ) × (slice_get (image_of facts.tree).code a ≡ Some (SCAN k))
+pub scan_stands : (facts : Facts) (r a : ℕ) → slice_get (image_of facts.tree).scans r ≡ Some a → (k : ℕ) × (slice_get (image_of facts.tree).code a ≡ Some (SCAN k))
 scan_stands facts r a there =
     let whole : List Instr = (image_of facts.tree).code in
     scan_there whole (image_of facts.tree) r a (image_laid facts.tree)
@@ -62,21 +62,21 @@ module _ (g : Setting) (calm : IsCalm g.trial) (n : Action) where
       (none_armed to left more clear on)
 
 -- At the instruction of the action, behind so many quiet ones.
-record HasCome (facts : Facts) (c : Config) (p : ℕ) (base : LivingLevel) (n : Action) (m : Machine) (at : ℕ) : Type 0 where
-  more : List Arm
-  count : ℕ
-  before : Machine
-  run : QuietRun (image_of facts.tree) p count m before
-  few : (count ≡ 0) ⊎ (at + count ≤ length (image_of facts.tree).code)
-  acting : IsActing facts before c p (armed base more)
-  arrived : Arrived base.setting (stack_of before.stacks p).at (operands_of before.stacks p) more n
-  room : length (operands_of before.stacks p) ≤ base.setting.room
-  arms_fit : length more ≤ base.setting.arms
-  turned :
+pub record HasCome (facts : Facts) (c : Config) (p : ℕ) (base : LivingLevel) (n : Action) (m : Machine) (at : ℕ) : Type 0 where
+  pub more : List Arm
+  pub count : ℕ
+  pub before : Machine
+  pub run : QuietRun (image_of facts.tree) p count m before
+  pub few : (count ≡ 0) ⊎ (at + count ≤ length (image_of facts.tree).code)
+  pub acting : IsActing facts before c p (armed base more)
+  pub arrived : Arrived base.setting (stack_of before.stacks p).at (operands_of before.stacks p) more n
+  pub room : length (operands_of before.stacks p) ≤ base.setting.room
+  pub arms_fit : length more ≤ base.setting.arms
+  pub turned :
       HasTried base.setting.trial facts (stack_of before.stacks p) (armed base more) (activity_of (program_in facts) c p).activations
       (descriptor_of before.descriptors p)
       → IsAtTurn base.setting.trial (stack_of before.stacks p).at
-  within : IsWithin facts (armed base more) (own_address base.setting.trial (stack_of before.stacks p).at) (descriptor_of before.descriptors p).communications
+  pub within : IsWithin facts (armed base more) (own_address base.setting.trial (stack_of before.stacks p).at) (descriptor_of before.descriptors p).communications
 
 -- Where a process is: in its own code; before a turn of its scan; or in the guard of another.
 data Stance (g : Setting) (n : Action) (at : ℕ) : Type 0 where
@@ -250,7 +250,7 @@ module _ (facts : Facts) (m : Machine) (c : Config) (p : ℕ) (is : Represents f
   abbrev n : Action
   n = next_of (program_in facts) c p
 
-  few_in_all : (k a size : ℕ) → (k ≡ 0) ⊎ (a + k ≤ size) → k ≤ size
+  pub few_in_all : (k a size : ℕ) → (k ≡ 0) ⊎ (a + k ≤ size) → k ≤ size
   few_in_all k a size (inl none) = omega (arith, none)
   few_in_all k a size (inr few) = omega (arith, few)
 
@@ -261,43 +261,65 @@ module _ (facts : Facts) (m : Machine) (c : Config) (p : ℕ) (is : Represents f
     looking_of (of_turn scan back) trial = tt
     looking_of (of_another attempt) trial = trial.from
 
-    stance_of : (t : Trial) → b.level.setting.trial ≡ t → Stance b.level.setting n (stack_of m.stacks p).at
-    stance_of of_own same = in_own same
-    stance_of (of_turn scan back) same =
-        let does = b.does in
-        in_turn (subst (λ (t : Trial). IsCalm t) (sym same) tt)
-        (clear_at_turn b.level.setting scan back same does.2 (stack_of m.stacks p).at (stack_of m.stacks p).operands b.level.arms
-        (activity_of (program_in facts) c p).doing does.4)
-    stance_of (of_another attempt) same =
-        let does = b.does in
-        in_guard attempt same
-        (doing_ahead b.level.setting attempt same does.2 (stack_of m.stacks p).at (stack_of m.stacks p).operands b.level.arms
-        (activity_of (program_in facts) c p).doing does.4)
+    abbrev doing : Doing
+    doing = (activity_of (program_in facts) c p).doing
 
-    comes : ComesToAction facts m c p
-    comes =
-        let does = b.does in
-        let follows = does_follow b.level.setting does.2 (stack_of m.stacks p).at (stack_of m.stacks p).operands b.level.arms
-        (activity_of (program_in facts) c p).doing does.0 does.1 does.4 in
-        let end = come facts c p b.level n taking (stack_of m.stacks p).at (stack_of m.stacks p).operands b.level.arms b.acting refl refl b.within
-        (looking_of b.level.setting.trial b.trial) (stance_of b.level.setting.trial refl) does.0 does.1 follows in
-        record {
-          level = armed b.level end.more;
-          count = end.count;
-          before = end.before;
-          run = end.run;
-          few = few_in_all end.count (stack_of m.stacks p).at (length (image_of facts.tree).code) end.few;
-          acting = end.acting;
-          arrived = record {
-            next = refl;
-            number = about.number;
-            arrived = end.arrived;
-            room = end.room;
-            arms = end.arms_fit;
-            turned = end.turned;
-            within = end.within;
-          };
-        }
+    -- where it is to do what is left
+    module _ (stands : StandsOn b.level (stack_of m.stacks p).at (stack_of m.stacks p).operands doing) where
+      stance_of : (t : Trial) → b.level.setting.trial ≡ t → Stance b.level.setting n (stack_of m.stacks p).at
+      stance_of of_own same = in_own same
+      stance_of (of_turn scan back) same =
+          in_turn (subst (λ (t : Trial). IsCalm t) (sym same) tt)
+          (clear_at_turn b.level.setting scan back same stands.0 (stack_of m.stacks p).at (stack_of m.stacks p).operands b.level.arms doing stands.2)
+      stance_of (of_another attempt) same =
+          in_guard attempt same
+          (doing_ahead b.level.setting attempt same stands.0 (stack_of m.stacks p).at (stack_of m.stacks p).operands b.level.arms doing stands.2)
 
-  pub comes_to_action : ComesToAction facts m c p
-  comes_to_action = comes (has_begun facts m c p is about)
+      came_on : length (stack_of m.stacks p).operands ≤ b.level.setting.room → length b.level.arms ≤ b.level.setting.arms
+          → HasCome facts c p b.level n taking (stack_of m.stacks p).at
+      came_on room few =
+          come facts c p b.level n taking (stack_of m.stacks p).at (stack_of m.stacks p).operands b.level.arms b.acting refl refl b.within
+          (looking_of b.level.setting.trial b.trial) (stance_of b.level.setting.trial refl) room few
+          (does_follow b.level.setting stands.0 (stack_of m.stacks p).at (stack_of m.stacks p).operands b.level.arms doing room few stands.2)
+
+    -- where it is before its next action already
+    was_there : IsBeforeAction b.level (stack_of m.stacks p).at (stack_of m.stacks p).operands doing
+        → length (stack_of m.stacks p).operands ≤ b.level.setting.room → length b.level.arms ≤ b.level.setting.arms
+        → HasCome facts c p b.level n taking (stack_of m.stacks p).at
+    was_there there room few =
+        arrive facts c p b.level n taking (stack_of m.stacks p).at (stack_of m.stacks p).operands b.level.arms b.acting refl refl b.within
+        (λ tried. absurd (not_tried facts taking c p (armed b.level b.level.arms) b.acting b.level.setting.trial
+        (looking_of b.level.setting.trial b.trial) tried)) room few there
+
+    came_by : (StandsOn b.level (stack_of m.stacks p).at (stack_of m.stacks p).operands doing
+        ⊎ IsBeforeAction b.level (stack_of m.stacks p).at (stack_of m.stacks p).operands doing)
+        → length (stack_of m.stacks p).operands ≤ b.level.setting.room → length b.level.arms ≤ b.level.setting.arms
+        → HasCome facts c p b.level n taking (stack_of m.stacks p).at
+    came_by (inl stands) room few = came_on stands room few
+    came_by (inr there) room few = was_there there room few
+
+    has_come : HasCome facts c p b.level n taking (stack_of m.stacks p).at
+    has_come = let does = b.does in came_by does.2 does.0 does.1
+
+  -- the end of the way
+  pub came : HasCome facts c p (has_begun facts m c p is about).level n taking (stack_of m.stacks p).at
+  came = has_come (has_begun facts m c p is about)
+
+  unfoldable pub comes_to_action : ComesToAction facts m c p
+  comes_to_action = record {
+    level = armed (has_begun facts m c p is about).level came.more;
+    count = came.count;
+    before = came.before;
+    run = came.run;
+    few = few_in_all came.count (stack_of m.stacks p).at (length (image_of facts.tree).code) came.few;
+    acting = came.acting;
+    arrived = record {
+      next = refl;
+      number = about.number;
+      arrived = came.arrived;
+      room = came.room;
+      arms = came.arms_fit;
+      turned = came.turned;
+      within = came.within;
+    };
+  }

@@ -9,6 +9,7 @@ pub mod Within
 pub mod Remade
 pub mod Steps
 pub mod Arriving
+pub mod Refused
 pub mod Picked
 pub mod Evaluating
 pub mod Guards

@@ -1,5 +1,5 @@
 -- A process that begins to act: what it offered while it waited is gone.
-use Rattle.std.proofs.Common.{◌≡◌, ◌≢◌, ℕ, suc, ◌<◌, ℤ, true, false, List, [], ◌∷◌, length, refl, sym, ap, ◌∙◌, subst, inl}
+use Rattle.std.proofs.Common.{◌≡◌, ◌≢◌, ℕ, suc, ◌<◌, ℤ, true, false, List, [], ◌∷◌, length, refl, sym, ap, ◌∙◌, subst, inl, inr}
 use Rattle.std.proofs.lemmas.List.{get_or-set_same, get_or-set_other, length-set}
 use Rattle.pfc_state.specs.Stands.{Stand, Is_ready, Waits, is_unfinished}
 use Rattle.pfc_state.specs.declared.waits.Why.TheVariants.{Call}
@@ -27,7 +27,7 @@ use Rattle.pfc_representation.specs.Alternatives.{AreMade, none_made}
 use Rattle.pfc_representation.specs.Levels.{Facts, program_in, LivingLevel, DoesOn}
 use Rattle.pfc_representation.specs.Rooms.{process_count, own_address, MayMeet}
 use Rattle.pfc_representation.specs.Callers.{IsWithin}
-use Rattle.pfc_representation.specs.Hands.{goes_by_itself, HandIs}
+use Rattle.pfc_representation.specs.Hands.{shows_nothing, goes_by_itself, HandIs}
 use Rattle.pfc_representation.specs.Holding.{Holders, holders_in}
 use Rattle.pfc_representation.specs.Trials.{TrialIs}
 use Rattle.pfc_representation.specs.Processes.{IsAtLevel, IsUnderWay, ActivationsAre, RepresentsProcess}
@@ -44,6 +44,13 @@ as_many g s held behind [] [] is = refl
 as_many g s held behind [] (arm ∷ arms) is = absurd is
 as_many g s held behind (o ∷ opens) [] is = absurd is
 as_many g s held behind (o ∷ opens) (arm ∷ arms) is = ap suc (as_many g s held behind opens arms is.1)
+
+-- What is shown to the others, while the process is ready, at the level with other alternatives and anywhere in its code where this is still to do.
+abbrev pub ShowsStill : Facts → Table → ℕ → LivingLevel → Stand → Doing → Hand → Type 0
+ShowsStill facts table p level stand doing hand =
+    (homes : Homes) (entries : Entries) (arms : List Arm) (to : ℕ) (left : List ℤ) (d : Descriptor) → d.offered ≡ 0
+    → DoesOn (armed level arms) to left doing
+    → HandIs facts homes table entries p (armed level arms) to left d stand doing hand
 
 -- ## What is taken up
 
@@ -104,10 +111,25 @@ module _ (facts : Facts) (homes : Homes) (entries : Entries) (table : Table) (p 
   taken stand ready empty_hand is = as_it_was is.0 is.2
   taken stand ready (asking values) is = absurd (waits_not stand is.1.owner is.1.entry is.1.ticket ready is.1.waits)
   taken stand ready (barred_at bar) is = as_it_was is.0 is.1.behind
-  taken stand ready (offering x os k) is =
+  taken stand ready (offering x os k) (inr is) = as_it_was is.offered is.does
+  taken stand ready (offering x os k) (inl is) =
       let many = as_many level.setting (site_of level.setting is.block x) (length ops) (λ end. Performs level.setting is.block x.env end ops [] k) os
       level.arms is.open_ones in
       all_withdrawn (is.count ∙ many) (is.alone (ap goes_by_itself ready))
+
+  -- and before it acts it shows the same still, with nothing offered
+  still_shows : (stand : Stand) → stand ≡ Is_ready → (hand : Hand) → HandIs facts homes table entries p level at_now ops d stand doing hand
+      → ShowsStill facts table p level stand doing hand
+  still_shows stand ready empty_hand is homes' entries' arms to left d' none does = (none, ap shows_nothing ready, does)
+  still_shows stand ready (asking values) is homes' entries' arms to left d' none does =
+      absurd (waits_not stand is.1.owner is.1.entry is.1.ticket ready is.1.waits)
+  still_shows stand ready (barred_at bar) is homes' entries' arms to left d' none does =
+      let at_guard = is.1 in (
+        none,
+        record { own = at_guard.own; guard = at_guard.guard; names = at_guard.names; waits = inl ready; behind = does },
+      )
+  still_shows stand ready (offering x os k) is homes' entries' arms to left d' none does =
+      inr (record { offered = none; ready = ready; does = does })
 
 -- ## One that is ready
 
@@ -133,6 +155,8 @@ pub record HasBegun (facts : Facts) (m : Machine) (c : Config) (p : ℕ) : Type 
   pub trial :
       TrialIs level.setting.trial facts acting.homes acting.entries c.store m.stacks c.table p level (activity_of (program_in facts) c p).activations
       (descriptor_of (takes_up p (begins p m)).descriptors p)
+  pub shows :
+      ShowsStill facts c.table p level (at c.table.rows p) (activity_of (program_in facts) c p).doing (activity_of (program_in facts) c p).hand
 
 module _ (facts : Facts) (m : Machine) (c : Config) (p : ℕ) (is : Represents facts m c) (about : IsAboutToAct facts m c p) where
   abbrev a : Activity
@@ -239,6 +263,12 @@ module _ (facts : Facts) (m : Machine) (c : Config) (p : ℕ) (is : Represents f
     actor = actor_taken;
   }
 
+  shows_now : ShowsStill facts c.table p (armed level here.arms) (at c.table.rows p) a.doing a.hand
+  shows_now =
+      still_shows facts is.homes is.entries c.table p (length a.activations) level (stack_of m.stacks p).at (stack_of m.stacks p).operands d a.doing
+      way.stands.accepts
+      (at c.table.rows p) about.ready a.hand way.hand
+
   pub has_begun : HasBegun facts m c p
   unfolding acting_taken
   has_begun = record {
@@ -250,6 +280,7 @@ module _ (facts : Facts) (m : Machine) (c : Config) (p : ℕ) (is : Represents f
         (within_fewer facts level here.arms (own_address level.setting.trial (stack_of m.stacks p).at) d.communications here.alts here.ws here.fewer
         way.within);
     does = here.does;
+    shows = shows_now;
     trial =
         subst (λ (x : Descriptor). TrialIs level.setting.trial facts is.homes is.entries c.store m.stacks c.table p (armed level here.arms) a.activations x)
         (sym d_now) trial_now;

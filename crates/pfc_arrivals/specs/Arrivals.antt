@@ -1,6 +1,7 @@
 -- Where a process that is about to act comes to its next action.
-use Rattle.std.specs.Prelude.{List, ◌++◌, Result, Ok, Err, ℕ, ◌^◌, ◌≡◌, ◌≤◌, ◌<◌, length}
+use Rattle.std.specs.Prelude.{List, ◌++◌, Result, Ok, Err, Some, ℕ, ◌^◌, ◌≡◌, ◌≤◌, ◌<◌, true, length}
 use Rattle.pfc_base.specs.declared.memory_error.Memory.{Memory}
+use Rattle.pfc_code.specs.declared.instructions.Instr.{Instr}
 use Rattle.pfc_tree.specs.trees.Parts.{ProgramTree}
 use Rattle.pfc_state.specs.Stands.{Is_ready}
 use Rattle.pfc_world.specs.Tables.{at}
@@ -13,16 +14,17 @@ use Rattle.pfc_semantics.specs.Selects.{choices}
 use Rattle.pfc_semantics.specs.Steps.{effect, line_of, next_of}
 use Rattle.pfc_translation.specs.Images.{image_of}
 use Rattle.pfc_machines.specs.declared.machine.Machine.{Machine}
+use Rattle.pfc_machines.specs.Actions.{at_rest}
 use Rattle.pfc_select_actions.specs.Selects.{takes_up}
 use Rattle.pfc_machine_acts.specs.declared.acts.ActionEnd.{ActionEnd}
 use Rattle.pfc_machine_acts.specs.Acting.{MayAct, choice_among, comes_to, line_of as machine_line}
-use Rattle.pfc_machine_acts.specs.Performing.{acts_by, choices_for}
-use Rattle.pfc_machine_acts.specs.Quietly.{quietly}
+use Rattle.pfc_machine_acts.specs.Performing.{acts_by, choices_for, may_want_memory}
+use Rattle.pfc_machine_acts.specs.Quietly.{next_instr, quietly}
 use Rattle.pfc_machine_acts.specs.Running.{QuietRun}
 use Rattle.pfc_object_laws.specs.Objects.{number_at}
 use Rattle.pfc_run_rules.specs.Rules.{KeepsToRules}
 use Rattle.pfc_representation.specs.Levels.{Facts, program_in, LivingLevel}
-use Rattle.pfc_representation.specs.Machines.{Agrees}
+use Rattle.pfc_representation.specs.Machines.{Agrees, Represents}
 use Rattle.pfc_representation.specs.Acting.{IsActing, TakesNumber, HasArrived}
 use Rattle.pfc_representation.specs.Actions.{IsChoice, ComeToSame, IsKept}
 
@@ -46,6 +48,12 @@ pub record ComesToAction (facts : Facts) (m : Machine) (c : Config) (p : ℕ) : 
   pub few : count ≤ length (image_of facts.tree).code
   pub acting : IsActing facts before c p level
   pub arrived : HasArrived facts before c p level (next_of (program_in facts) c p)
+
+-- And where that action may want memory, the machine represents the same configuration there, with nobody acting.
+pub record ComesAndStays (facts : Facts) (m : Machine) (c : Config) (p : ℕ) : Type 0 where
+  pub come : ComesToAction facts m c p
+  pub stays : (i : Instr) → next_instr (image_of facts.tree) p come.before ≡ Some i → may_want_memory i ≡ true
+      → Represents facts (at_rest come.before) c
 
 -- Process p may act on the machine, and what its action comes to there and in the source text is the same, with the same choice.
 pub record ActsAsItsSource (facts : Facts) (m : Machine) (c : Config) (p : ℕ) (picking : Picking) : Type 0 where

@@ -16,7 +16,7 @@ ghost use Rattle.pfc_run_rules.specs.Rules.{KeepsToRules};
 ghost use Rattle.pfc_representation.specs.Acting.{IsActing, HasArrived};
 ghost use Rattle.pfc_representation.specs.Levels.{Facts, program_in, LivingLevel};
 ghost use Rattle.pfc_representation.specs.Machines.{Represents};
-ghost use Rattle.pfc_arrivals.specs.Arrivals.{IsAboutToAct, ComesToAction, ActsAsItsSource, HasAgreed, AreNumbered, IsNextKept};
+ghost use Rattle.pfc_arrivals.specs.Arrivals.{IsAboutToAct, ComesToAction, ComesAndStays, ActsAsItsSource, HasAgreed, AreNumbered, IsNextKept};
 ghost use Rattle.pfc_arrivals.specs.Wants.{MayWantMemory};
 
 /// Where the machine represents a configuration, the code of a process that is ready goes by quiet instructions to the action that comes next in its source
@@ -39,6 +39,12 @@ pub fn who_has_not_acted_may_act_again()
         → IsNextKept facts c p → AreNumbered facts → KeepsToRules (program_in facts) c p → IsActing facts m c p level
         → HasArrived facts m c p level (next_of (program_in facts) c p)
         → (acts : ActsAsItsSource facts (at_rest m) c p picking) × (acts.may.before ≡ m) }
+{}
+
+/// Where the action to which it comes may want memory, the machine represents the same configuration before that action. So where memory was refused
+/// whoever is ready may be picked next and act, the process itself or another.
+pub fn refused_memory_leaves_the_configuration()
+    ensures { (facts : Facts) (m : Machine) (c : Config) (p : ℕ) → Represents facts m c → IsAboutToAct facts m c p → ComesAndStays facts m c p }
 {}
 
 /// Behind the action of such a process the machine agrees with the configuration behind its step in the source text, and both have printed the same.

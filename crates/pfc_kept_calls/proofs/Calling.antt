@@ -1,7 +1,7 @@
 -- A call of a procedure or a function from inside its module.
 use Rattle.std.proofs.Common.{◌≡◌, ℕ, ◌+◌, ◌≤◌, ℤ, Bool, true, false, if◌then◌else◌, List, length}
 use Rattle.std.proofs.Common.{slice_get, get_or, Option, Some, Ok, Err, refl, sym, ap, ◌∙◌, subst}
-use Rattle.std.proofs.Common.{arith}
+use Rattle.std.proofs.Common.{arith, inl}
 use Rattle.std.proofs.lemmas.List.{append-nil}
 use Rattle.std.proofs.lemmas.Option.{get_or_from_slice_get}
 use Rattle.pfc_base.specs.declared.faults.RunFault.TheVariants.{Stack as Full}
@@ -213,12 +213,14 @@ procedures_kept facts m c p choice level (calls x (to_procedure scope k) given) 
       shorter (length below) (length (operands_of m.stacks p)) level.setting.room
           (is_short facts m c p choice level acting x b scope formals ByName given below checked alone.0 may sub held there arrived.within) arrived.room,
       arrived.arms,
-      b,
-      checked.beside,
-      (
-        checked_for level.setting b x.env k checked,
-        subst (λ (arms : List Arm). Performs level.setting b x.env
-            ((stack_of m.stacks p).at + 1) below arms k) (sym alone.1) behind,
+      inl (
+        b,
+        checked.beside,
+        (
+          checked_for level.setting b x.env k checked,
+          subst (λ (arms : List Arm). Performs level.setting b x.env
+              ((stack_of m.stacks p).at + 1) below arms k) (sym alone.1) behind,
+        ),
       ),
     )
     refl refl refl
@@ -237,6 +239,6 @@ functions_kept facts m c p choice level (calls x (to_function scope u) given) ma
     (ends_with_result (can facts m c p choice level acting x b scope formals InExpressions given below checked own may sub held there arrived.within).head
     (left_behind facts m c p choice level acting x b scope formals InExpressions given below checked own may sub held there arrived.within 1 leaves))
     refl
-    (λ n. (room, arrived.arms, b, checked.beside, (a_number, below, checked, (n, refl), refl, awaited)))
+    (λ n. (room, arrived.arms, inl (b, checked.beside, (a_number, below, checked, (n, refl), refl, awaited))))
     refl refl refl
 functions_kept facts m c p choice level n may acting arrived chosen = absurd may

@@ -316,9 +316,11 @@ module _ (facts : Facts) (m : Machine) (c : Config) (p : ℕ) (level : LivingLev
     does = (
       omega arith,
       omega arith,
-      callee,
-      same_block,
-      (checked_for inner callee callee.env (body_of callee) checked, subst (λ i. Performs inner callee callee.env i [] [] (body_of callee)) at_entry body),
+      inl (
+        callee,
+        same_block,
+        (checked_for inner callee callee.env (body_of callee) checked, subst (λ i. Performs inner callee callee.env i [] [] (body_of callee)) at_entry body),
+      ),
     )
 
     pub is_block : IsBlockAt q (image_of facts.tree).blocks k callee code

@@ -1,6 +1,6 @@
 -- The creation of a process.
 use Rattle.std.proofs.Common.{◌≡◌, ℕ, suc, ◌+◌, ◌-◌, ◌<◌, ◌≤◌, ℤ, pos, Bool, true, false, if◌then◌else◌, List, [], ◌∷◌, length, drop, slice_get, get_or, Option}
-use Rattle.std.proofs.Common.{Some, Ok, Err, refl, sym, ap, ap₂, ◌∙◌, subst, arith, append-nil, length-drop}
+use Rattle.std.proofs.Common.{Some, Ok, Err, refl, sym, ap, ap₂, ◌∙◌, subst, arith, append-nil, length-drop, inl}
 use Rattle.std.specs.Prelude.{nat_le}
 use Rattle.std.proofs.lemmas.List.{drop-drop, get_or-drop}
 use Rattle.std.proofs.lemmas.Option.{slice_get_within}
@@ -291,11 +291,13 @@ module _ (facts : Facts) (m : Machine) (c : Config) (p choice : ℕ) (level : Li
       let does : DoesOn level ((stack_of m.stacks p).at + 1) below (going x.env r) = (
         fits (length below) (length (operands_of m.stacks p)) level.setting.room few room,
         arms,
-        b,
-        checked.beside,
-        (
-          checked_for level.setting b x.env r checked,
-          subst (λ (l : List Arm). Performs level.setting b x.env ((stack_of m.stacks p).at + 1) below l r) (sym none) behind,
+        inl (
+          b,
+          checked.beside,
+          (
+            checked_for level.setting b x.env r checked,
+            subst (λ (l : List Arm). Performs level.setting b x.env ((stack_of m.stacks p).at + 1) below l r) (sym none) behind,
+          ),
         ),
       ) in
       let does_popped : DoesOn level ((stack_of m.stacks p).at + 1) (drop (can.code.params + 1) (operands_of m.stacks p)) (going x.env r) =

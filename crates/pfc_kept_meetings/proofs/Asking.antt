@@ -1,6 +1,6 @@
 -- A call of an entry: the fault where its owner is not active, and the wait where it does not wait to accept.
 use Rattle.std.proofs.Common.{◌≡◌, ℕ, suc, ◌+◌, ◌^◌, ◌<◌, ◌≤◌, ℤ, Bool, true, false, if◌then◌else◌, List, [], ◌∷◌, length, take, drop, reverse, Option, Some}
-use Rattle.std.proofs.Common.{None, Ok, Err, refl, sym, ap, ◌∙◌, subst, arith}
+use Rattle.std.proofs.Common.{None, Ok, Err, refl, sym, ap, ◌∙◌, subst, arith, inl}
 use Rattle.pfc_base.specs.declared.faults.RunFault.TheVariants.{NotActive}
 use Rattle.pfc_code.specs.declared.instructions.Instr.TheVariants.{ECALL}
 use Rattle.pfc_code.specs.Images.{PlainImage}
@@ -147,9 +147,11 @@ module _ (facts : Facts) (m : Machine) (c : Config) (p choice : ℕ) (level : Li
       does = (
         few_below,
         arrived.arms,
-        b,
-        checked.beside,
-        subst (λ (arms : List Arm). DoesIn level.setting b (here + 1) below arms doing) (sym none) (checked_for level.setting b x.env k checked, rest),
+        inl (
+          b,
+          checked.beside,
+          subst (λ (arms : List Arm). DoesIn level.setting b (here + 1) below arms doing) (sym none) (checked_for level.setting b x.env k checked, rest),
+        ),
       )
 
       own_within : IsWithin facts level here d.communications

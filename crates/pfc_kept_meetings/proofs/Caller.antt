@@ -85,7 +85,8 @@ module _ (facts : Facts) (homes : Homes) (entries : Entries) (store : Store) (st
   by_hand : (is : IsUnderWay facts homes entries store stacks table h q a d) (hand : Hand) → a.hand ≡ hand
       → HandIs facts homes table entries q is.level (stack_of stacks q).at (stack_of stacks q).operands d (at table.rows q) a.doing hand → IsAsking
   by_hand is empty_hand same shown = absurd (let no : false ≡ true = sym (ap shows_nothing calls) ∙ shown.1 in (let none : ⊥ = cc in none))
-  by_hand is (offering x os k) same shown = absurd (offers_no_call (at table.rows q) os _ p e t arms shown.offered calls)
+  by_hand is (offering x os k) same (inl shown) = absurd (offers_no_call (at table.rows q) os _ p e t arms shown.offered calls)
+  by_hand is (offering x os k) same (inr shown) = absurd (let no : Is_ready ≡ Waits (Call p e) t arms = sym shown.ready ∙ calls in cc)
   by_hand is (asking values) same shown = record { under_way = is; values = values; hand = same; offered = shown.0; asks = shown.1 }
   by_hand is (barred_at bar) same shown = absurd (by_waits shown.1.waits)
     where

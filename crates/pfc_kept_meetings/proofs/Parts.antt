@@ -1,5 +1,5 @@
 -- The end of an accept.
-use Rattle.std.proofs.Common.{◌≡◌, ℕ, ◌+◌, ℤ, List, [], ◌++◌, drop, slice_get, Option, Some, IfSome, Ok, refl, sym, ap, ◌∙◌, subst, arith}
+use Rattle.std.proofs.Common.{◌≡◌, ℕ, ◌+◌, ℤ, List, [], ◌++◌, drop, slice_get, Option, Some, IfSome, Ok, refl, sym, ap, ◌∙◌, subst, arith, inl}
 use Rattle.pfc_code.specs.declared.instructions.Instr.TheVariants.{EACC}
 use Rattle.pfc_code.specs.Images.{PlainImage}
 use Rattle.pfc_meet.specs.Meetings.{IsInMeeting}
@@ -71,9 +71,11 @@ module _ (facts : Facts) (m : Machine) (c : Config) (p choice : ℕ) (level : Li
     does = (
       arrived.room,
       arrived.arms,
-      b,
-      beside_then level level.setting.view (drop 1 level.setting.accepts) (drop 1 level.setting.meetings) level.setting.block b checked.beside,
-      subst (λ (arms : List Arm). DoesIn (parted level.setting) b (here + 1) ops arms doing) (sym none) (checked_then, rest),
+      inl (
+        b,
+        beside_then level level.setting.view (drop 1 level.setting.accepts) (drop 1 level.setting.meetings) level.setting.block b checked.beside,
+        subst (λ (arms : List Arm). DoesIn (parted level.setting) b (here + 1) ops arms doing) (sym none) (checked_then, rest),
+      ),
     )
 
     own_within : IsWithin facts level here d.communications

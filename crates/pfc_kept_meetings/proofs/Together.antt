@@ -387,21 +387,23 @@ module _ (facts : Facts) (m : Machine) (c : Config) (p : ℕ) (level : LivingLev
   does = (
     few,
     arms,
-    b,
-    beside_then level view' accepts' meetings' level.setting.block b checked.beside,
-    subst (λ (made : List Arm). DoesIn level'.setting b to ops made doing) (sym none) (begins.goes_then facts m c acting.homes acting.entries acting.alike p
-        level acting.actor.stands own acting.actor.process processes b x checked acc accepts typed runs of_block apart (meets.values facts m c p level acting
-        own b x checked acc accepts processes typed runs of_block apart q is_first to ops) (meets.words facts m c p level acting own b x checked acc accepts
-        processes typed runs of_block apart q is_first to ops) (meets.hold facts m c p level acting own b x checked acc accepts processes typed runs of_block
-        apart q is_first to ops) (meets.given facts m c p level acting own b x checked acc accepts processes typed runs of_block apart q is_first to ops)
-        (meets.stacks' facts m c p level acting own b x checked acc accepts processes typed runs of_block apart q is_first to ops) (meets.same facts m c p
-        level acting own b x checked acc accepts processes typed runs of_block apart q is_first to ops) (meets.size facts m c p level acting own b x checked
-        acc accepts processes typed runs of_block apart q is_first to ops) q (meets.lenders facts m c p level acting own b x checked acc accepts processes
-        typed runs of_block apart q is_first to ops) (meets.kept facts m c p level acting own b x checked acc accepts processes typed runs of_block apart q
-        is_first to ops) (meets.table' facts m c p level acting own b x checked acc accepts processes typed runs of_block apart q is_first to ops) (meets.stay
-        facts m c p level acting own b x checked acc accepts processes typed runs of_block apart q is_first to ops) (meets.met facts m c p level acting own b x
-        checked acc accepts processes typed runs of_block apart q is_first to ops) (meets.main facts m c p level acting own b x checked acc accepts processes
-        typed runs of_block apart q is_first to ops) k o to ops end rest behind).1,
+    inl (
+      b,
+      beside_then level view' accepts' meetings' level.setting.block b checked.beside,
+      subst (λ (made : List Arm). DoesIn level'.setting b to ops made doing) (sym none) (begins.goes_then facts m c acting.homes acting.entries acting.alike p
+          level acting.actor.stands own acting.actor.process processes b x checked acc accepts typed runs of_block apart (meets.values facts m c p level acting
+          own b x checked acc accepts processes typed runs of_block apart q is_first to ops) (meets.words facts m c p level acting own b x checked acc accepts
+          processes typed runs of_block apart q is_first to ops) (meets.hold facts m c p level acting own b x checked acc accepts processes typed runs of_block
+          apart q is_first to ops) (meets.given facts m c p level acting own b x checked acc accepts processes typed runs of_block apart q is_first to ops)
+          (meets.stacks' facts m c p level acting own b x checked acc accepts processes typed runs of_block apart q is_first to ops) (meets.same facts m c p
+          level acting own b x checked acc accepts processes typed runs of_block apart q is_first to ops) (meets.size facts m c p level acting own b x checked
+          acc accepts processes typed runs of_block apart q is_first to ops) q (meets.lenders facts m c p level acting own b x checked acc accepts processes
+          typed runs of_block apart q is_first to ops) (meets.kept facts m c p level acting own b x checked acc accepts processes typed runs of_block apart q
+          is_first to ops) (meets.table' facts m c p level acting own b x checked acc accepts processes typed runs of_block apart q is_first to ops) (meets.stay
+          facts m c p level acting own b x checked acc accepts processes typed runs of_block apart q is_first to ops) (meets.met facts m c p level acting own b x
+          checked acc accepts processes typed runs of_block apart q is_first to ops) (meets.main facts m c p level acting own b x checked acc accepts processes
+          typed runs of_block apart q is_first to ops) k o to ops end rest behind).1,
+    ),
   )
 
   under_way : IsUnderWay facts acting.homes acting.entries new_store stacks' table' h p a' d'

@@ -163,7 +163,8 @@ module _ (facts : Facts) (homes : Homes) (entries : Entries) (store : Store) (st
   by_hand : (is : IsUnderWay facts homes entries store stacks table h q a d) (hand : Hand) → a.hand ≡ hand
       → HandIs facts homes table entries q is.level (stack_of stacks q).at (stack_of stacks q).operands d (at table.rows q) a.doing hand → IsShowing
   by_hand is empty_hand same shown = absurd (let no : false ≡ true = sym (open_shows (at table.rows q) waits) ∙ shown.1 in cc)
-  by_hand is (offering x os k) same shown = record { under_way = is; context = x; opened = os; left = k; hand = same; offers = shown }
+  by_hand is (offering x os k) same (inl shown) = record { under_way = is; context = x; opened = os; left = k; hand = same; offers = shown }
+  by_hand is (offering x os k) same (inr shown) = absurd (open_not_ready (at table.rows q) waits shown.ready)
   by_hand is (asking values) same shown = absurd (let no : false ≡ true = ap is_open_stand (sym shown.1.waits) ∙ waits in cc)
   by_hand is (barred_at bar) same shown = absurd (by_waits shown.1.waits)
     where

@@ -1,6 +1,6 @@
 -- Sends.
 use Rattle.std.proofs.Common.{◌≡◌, ℕ, zero, suc, ◌+◌, ◌<◌, ◌≤◌, ◌==◌, ℤ, true, false, List, [], ◌∷◌, ◌++◌, length, reverse, take, drop, set, slice_get, Option}
-use Rattle.std.proofs.Common.{Some, None, IfSome, Ok, refl, sym, ap, ◌∙◌, subst, arith}
+use Rattle.std.proofs.Common.{Some, None, IfSome, Ok, refl, sym, ap, ◌∙◌, subst, arith, inl}
 use Rattle.std.specs.Prelude.{is_some}
 use Rattle.std.proofs.lemmas.List.{get_or-set_other, length-set}
 use Rattle.pfc_code.specs.declared.instructions.Instr.{Instr}
@@ -399,10 +399,12 @@ module _ (facts : Facts) (m : Machine) (c : Config) (p choice : ℕ) (level : Li
       does = (
         few,
         arrived.arms,
-        b,
-        checked.beside,
-        subst (λ (arms : List Arm). DoesIn level.setting b (here + 1) left arms doing) (sym none)
-            (subst (λ (r : Remainder). DoesIn level.setting b (here + 1) left [] (going x.env r)) (sym (plain_behind o k plain)) goes.1),
+        inl (
+          b,
+          checked.beside,
+          subst (λ (arms : List Arm). DoesIn level.setting b (here + 1) left arms doing) (sym none)
+              (subst (λ (r : Remainder). DoesIn level.setting b (here + 1) left [] (going x.env r)) (sym (plain_behind o k plain)) goes.1),
+        ),
       )
 
       goes_q : GoesOnAt level_q.setting block_q branch ops_q [] doing_q
@@ -415,7 +417,7 @@ module _ (facts : Facts) (m : Machine) (c : Config) (p choice : ℕ) (level : Li
       level_then = record level_q { arms = [] }
 
       does_q : DoesOn level_then branch ops_q doing_q
-      does_q = (goes_q.0, least level_q.setting.arms, block_q, its_showing.offers.checked.beside, goes_q.1)
+      does_q = (goes_q.0, least level_q.setting.arms, inl (block_q, its_showing.offers.checked.beside, goes_q.1))
         where
           least : (i : ℕ) → 0 ≤ i
           least i = grind arith

@@ -246,8 +246,8 @@ module _ (facts : Facts) (m : Machine) (c : Config) (p : ℕ) (level : LivingLev
               subst (λ (t : Trial). IsWithin facts level' (own_address t (stack_of stacks p).at) latest) (sym own)
               (subst (λ (s : Stack). IsWithin facts level' s.at latest) (sym moved_here) alone.within);
           hand =
-              subst (λ (s : Stand). Offers level' (stack_of stacks p).at (stack_of stacks p).operands d' s doing x (o ∷ []) k) (sym row_is)
-              (subst (λ (s : Stack). Offers level' s.at s.operands d' stand doing x (o ∷ []) k) (sym moved_here) offers);
+              inl (subst (λ (s : Stand). Offers level' (stack_of stacks p).at (stack_of stacks p).operands d' s doing x (o ∷ []) k) (sym row_is)
+              (subst (λ (s : Stack). Offers level' s.at s.operands d' stand doing x (o ∷ []) k) (sym moved_here) offers));
           trial = subst (λ (t : Trial). TrialIs t facts acting.homes acting.entries c.store stacks (ticked table) p level' a'.activations d') (sym own) at_own;
         }
 

@@ -1,5 +1,5 @@
 -- Where the end of a procedure that is called from outside its module goes back to: the statement behind the call, and from a resource a scan first.
-use Rattle.std.proofs.Common.{◌≡◌, ℕ, ◌<◌, ◌≤◌, ℤ, List, [], length, slice_get, get_or, true, Some, refl, sym, ap, subst, arith}
+use Rattle.std.proofs.Common.{◌≡◌, ℕ, ◌<◌, ◌≤◌, ℤ, List, [], length, slice_get, get_or, true, Some, refl, sym, ap, subst, arith, inl}
 use Rattle.std.proofs.lemmas.Option.{slice_get-get_or}
 use Rattle.pfc_types.specs.rules.Expressions.{Env}
 use Rattle.pfc_code.specs.declared.instructions.Instr.TheVariants.{SCAN}
@@ -39,9 +39,11 @@ module _ (facts : Facts) (level : LivingLevel) (b : Block) (env : Env) (back : �
   behind_monitor n = (
     is.fits,
     no_arms level.setting.arms,
-    b,
-    is.beside,
-    (checked_for level.setting b env k is.checked, subst (λ (xs : List Arm). Performs level.setting b env back below xs k) (sym is.none) is.performs),
+    inl (
+      b,
+      is.beside,
+      (checked_for level.setting b env k is.checked, subst (λ (xs : List Arm). Performs level.setting b env back below xs k) (sym is.none) is.performs),
+    ),
   )
 
   -- ## From a resource
@@ -102,13 +104,15 @@ module _ (facts : Facts) (level : LivingLevel) (b : Block) (env : Env) (back : �
           (
             is.fits,
             no_arms level.setting.arms,
-            b,
-            beside_turned level.setting.block b is.beside,
-            (
-              tt,
-              subst (λ (xs : List Arm). Performs turned.setting b env (get_or scans r 0) below xs (scan_on turn (in_names env k))) (sym is.none)
-                  (scanning (get_or scans r 0) (subst (λ (q : Program). IsAt level.setting (get_or scans r 0) (SCAN r)
-                  (get_or q.resource_ends r 0)) image.program there)),
+            inl (
+              b,
+              beside_turned level.setting.block b is.beside,
+              (
+                tt,
+                subst (λ (xs : List Arm). Performs turned.setting b env (get_or scans r 0) below xs (scan_on turn (in_names env k))) (sym is.none)
+                    (scanning (get_or scans r 0) (subst (λ (q : Program). IsAt level.setting (get_or scans r 0) (SCAN r)
+                    (get_or q.resource_ends r 0)) image.program there)),
+              ),
             ),
           ),
         )

@@ -337,7 +337,7 @@ module _ (facts : Facts) (m : Machine) (c : Config) (p : ℕ) (level : LivingLev
         (seen_in callee.env checked))
 
     does : DoesOn (inner_level facts m c p level acting o begins) code.entry below (going callee.env begins.body)
-    does = (omega arith, omega arith, callee, same_block, (checked_for inside callee callee.env begins.body checked, body))
+    does = (omega arith, omega arith, inl (callee, same_block, (checked_for inside callee callee.env begins.body checked, body)))
 
     -- ## All of it
 

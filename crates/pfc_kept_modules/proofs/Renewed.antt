@@ -230,7 +230,7 @@ module _ (facts : Facts) (m : Machine) (c : Config) (p : ℕ) (level : LivingLev
       (seen_in callee.env (checked_in callee.env is.can.known is.can.state)))
 
   pub does : DoesOn inside_level scan level.setting.under (going callee.env (scan_on turn (in_names callee.env (body_of callee))))
-  does = (omega arith, omega arith, callee, same_block, (tt, performs))
+  does = (omega arith, omega arith, inl (callee, same_block, (tt, performs)))
 
   -- ## What the new activation sees
 

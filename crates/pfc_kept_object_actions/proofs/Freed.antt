@@ -54,9 +54,10 @@ module _ (facts : Facts) (homes : Homes) (entries : Entries) (store : Store) (st
   hand_freed : (level : LivingLevel) (to : ℕ) (ops : List ℤ) (s : Stand) (doing : Doing) (hand : Hand) → shows_nothing s ≡ true
       → HandIs facts homes table entries q level to ops d s doing hand → HandIs facts homes table' entries q level to ops d Is_ready doing hand
   hand_freed level to ops s doing empty_hand shows is = (is.0, refl, is.2)
-  hand_freed level to ops s doing (offering x os k) shows is =
+  hand_freed level to ops s doing (offering x os k) shows (inl is) =
       let ready : s ≡ Is_ready = offers_ready s os _ is.offered shows in
-      subst (λ (y : Stand). HandIs facts homes table' entries q level to ops d y doing (offering x os k)) ready is
+      subst (λ (y : Stand). HandIs facts homes table' entries q level to ops d y doing (offering x os k)) ready (inl is)
+  hand_freed level to ops s doing (offering x os k) shows (inr is) = inr (record { offered = is.offered; ready = refl; does = is.does })
   hand_freed level to ops s doing (asking values) shows is =
       absurd (let no : false ≡ true = ap shows_nothing (sym is.1.waits) ∙ shows in cc)
   hand_freed level to ops s doing (barred_at bar) shows is = by_waits is.1.waits

@@ -46,7 +46,7 @@ use Rattle.pfc_kept_own_actions.proofs.Arrived.{has_setting, stack_there, acts_n
 pub does_on : (level : LivingLevel) (b : Block) (at : ℕ) (ops : List ℤ) (doing : Doing) → IsBeside level.setting level.setting.block b
     → length level.arms ≤ level.setting.arms
     → GoesOnAt level.setting b at ops level.arms doing → DoesOn level at ops doing
-does_on level b at ops doing beside few goes = (goes.0, few, b, beside, goes.1)
+does_on level b at ops doing beside few goes = (goes.0, few, inl (b, beside, goes.1))
 
 module _ (facts : Facts) (m : Machine) (c : Config) (p : ℕ) (level : LivingLevel) (acting : IsActing facts m c p level) where
   -- where nothing is read, drawn or printed

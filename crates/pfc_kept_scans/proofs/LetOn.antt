@@ -76,7 +76,8 @@ module _ (facts : Facts) (homes : Homes) (entries : Entries) (table : Table) (q 
       → HandIs facts homes table entries q level to ops d stand doing hand → stand ≡ Waits (Barred r k) t arms
       → ShowsGuard level to ops stand doing hand r k t arms
   shows_guard level to ops stand doing empty_hand r k t arms is waits = absurd (let no : false ≡ true = ap shows_nothing (sym waits) ∙ is.1 in cc)
-  shows_guard level to ops stand doing (offering x os left) r k t arms is waits = absurd (not_offered stand os _ r k t arms is.offered waits)
+  shows_guard level to ops stand doing (offering x os left) r k t arms (inl is) waits = absurd (not_offered stand os _ r k t arms is.offered waits)
+  shows_guard level to ops stand doing (offering x os left) r k t arms (inr is) waits = absurd (not_ready r k t arms (sym is.ready ∙ waits))
   shows_guard level to ops stand doing (asking values) r k t arms is waits =
       absurd (let no : Waits (Call is.1.owner is.1.entry) is.1.ticket [] ≡ Waits (Barred r k) t arms = sym is.1.waits ∙ waits in cc)
   shows_guard level to ops stand doing (barred_at bar) r k t arms is waits = by_wait level to ops stand doing bar r k t arms is.0 is.1 waits is.1.waits

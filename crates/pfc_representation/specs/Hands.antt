@@ -72,6 +72,12 @@ pub record Offers (level : LivingLevel) (at : ℕ) (ops : List ℤ) (d : Descrip
   pub few : length ops ≤ level.setting.room
   pub alone : goes_by_itself stand ≡ true → DoesOn (record level { arms = [] }) at ops doing
 
+-- What a process offered it has taken back, when it went on by itself; and it has not acted since, as where memory was refused for its action.
+pub record HasTakenBack (level : LivingLevel) (at : ℕ) (ops : List ℤ) (d : Descriptor) (stand : Stand) (doing : Doing) : Type 0 where
+  pub offered : d.offered ≡ 0
+  pub ready : stand ≡ Is_ready
+  pub does : DoesOn level at ops doing
+
 -- ## The arguments of a call of an entry
 
 -- a parameter as a variable
@@ -122,7 +128,8 @@ pub record IsBarred (level : LivingLevel) (at : ℕ) (ops : List ℤ) (stand : S
 
 abbrev pub HandIs : Facts → Homes → Table → Entries → ℕ → LivingLevel → ℕ → List ℤ → Descriptor → Stand → Doing → Hand → Type 0
 HandIs facts homes table entries p level at ops d stand doing empty_hand = (d.offered ≡ 0) × (shows_nothing stand ≡ true) × DoesOn level at ops doing
-HandIs facts homes table entries p level at ops d stand doing (offering x os k) = Offers level at ops d stand doing x os k
+HandIs facts homes table entries p level at ops d stand doing (offering x os k) =
+    Offers level at ops d stand doing x os k ⊎ HasTakenBack level at ops d stand doing
 HandIs facts homes table entries p level at ops d stand doing (asking values) =
     (d.offered ≡ 0) × Asks facts homes table entries p level at ops d.communications.callers stand doing values
 HandIs facts homes table entries p level at ops d stand doing (barred_at bar) = (d.offered ≡ 0) × IsBarred level at ops stand doing bar

@@ -12,7 +12,7 @@ use Rattle.pfc_world.specs.Tables.{Table, at}
 use Rattle.pfc_semantics.specs.Displays.{Display}
 use Rattle.pfc_semantics.specs.Objects.{Objects}
 use Rattle.pfc_semantics.specs.Programs.{Block, Program, program_of}
-use Rattle.pfc_semantics.specs.Rewriting.{Doing}
+use Rattle.pfc_semantics.specs.Rewriting.{Doing, next}
 use Rattle.pfc_semantics.specs.Store.{Store}
 use Rattle.pfc_translation.specs.Images.{image_of}
 use Rattle.pfc_cells.specs.Homes.{Homes}
@@ -20,7 +20,7 @@ use Rattle.pfc_cells.specs.Memory.{Entry, Entries, IsAmong}
 use Rattle.pfc_standing_code.specs.Settings.{View, Trial, Setting, IsBeside}
 use Rattle.pfc_standing_code.specs.Effects.{Arm}
 use Rattle.pfc_standing_code.specs.Performs.{own_view, own_accepts, own_block, own_room}
-use Rattle.pfc_standing_code.specs.Following.{DoesIn}
+use Rattle.pfc_standing_code.specs.Following.{Arrived, DoesIn}
 use Rattle.pfc_standing_images.specs.Images.{IsOfImage}
 use Rattle.pfc_stack_laws.specs.Standing.{AreTypes}
 use Rattle.pfc_views.specs.Views.{Sees}
@@ -85,11 +85,18 @@ pub record HasSetting (facts : Facts) (level : LivingLevel) : Type 0 where
   pub arms : level.setting.arms ≡ (image_of facts.tree).arms
   pub number : level.setting.number ≡ facts.number
 
--- A process at a level does this at an address with these operands, which fit, in the block of the setting or in one beside it.
+-- A process at a level is at an address with these operands where this is still to do, in the block of the setting or in one beside it.
+abbrev pub StandsOn : LivingLevel → ℕ → List ℤ → Doing → Type 0
+StandsOn level at ops doing = (b : Block) × IsBeside level.setting level.setting.block b × DoesIn level.setting b at ops level.arms doing
+
+-- It is at the action that comes next already, and has not done it, as where memory was refused for it.
+abbrev pub IsBeforeAction : LivingLevel → ℕ → List ℤ → Doing → Type 0
+IsBeforeAction level at ops doing = Arrived level.setting at ops level.arms (next doing)
+
+-- It does this, with operands and alternatives that fit.
 abbrev pub DoesOn : LivingLevel → ℕ → List ℤ → Doing → Type 0
 DoesOn level at ops doing =
-    (length ops ≤ level.setting.room) × (length level.arms ≤ level.setting.arms)
-    × (b : Block) × IsBeside level.setting level.setting.block b × DoesIn level.setting b at ops level.arms doing
+    (length ops ≤ level.setting.room) × (length level.arms ≤ level.setting.arms) × (StandsOn level at ops doing ⊎ IsBeforeAction level at ops doing)
 
 -- ## What an activation keeps
 

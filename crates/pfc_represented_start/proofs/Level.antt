@@ -1,6 +1,6 @@
 -- Main's level before the first action.
 use Rattle.std.proofs.Common.{◌≡◌, ℕ, zero, suc, ◌+◌, ◌^◌, ◌<◌, ◌≤◌, ◌==◌, nat_lt, not, cond, Bool, true, false, List, [], ◌∷◌, length, drop, get_or, slice_get}
-use Rattle.std.proofs.Common.{unwrap_or, position, Some, None, refl, sym, ap, ◌∙◌, subst, arith, inr}
+use Rattle.std.proofs.Common.{unwrap_or, position, Some, None, refl, sym, ap, ◌∙◌, subst, arith, inr, inl}
 use Rattle.std.specs.List.{position_or_len}
 use Rattle.std.proofs.lemmas.Bool.Decides.{nat_tests}
 use Rattle.std.proofs.lemmas.List.Elements.{All-nil, All-cons}
@@ -266,9 +266,11 @@ module _ (t : ProgramTree) (lawful : IsLawful (forget_program t)) (whole : broke
   does = (
     omega arith,
     omega arith,
-    g.main,
-    same_block,
-    (nothing_asked (λ (e : Env). IsChecked own_setting g.main e) g.main.env g.modules g.main.env (body_of g.main), main_does t lawful whole mains few small),
+    inl (
+      g.main,
+      same_block,
+      (nothing_asked (λ (e : Env). IsChecked own_setting g.main e) g.main.env g.modules g.main.env (body_of g.main), main_does t lawful whole mains few small),
+    ),
   )
 
   no_meeting : (table : Table) → AreMet table 0 []

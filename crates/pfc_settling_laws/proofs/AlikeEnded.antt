@@ -1,6 +1,6 @@
 -- All is represented still where the children that serve have finished.
 use Rattle.std.proofs.Common.{◌≡◌, ℕ, zero, suc, ◌<◌, ◌≤◌, ◌||◌, Bool, true, false, if◌then◌else◌, ℤ, List, [], ◌∷◌, length, get_or, Option, Some, None, refl}
-use Rattle.std.proofs.Common.{sym, ap, ◌∙◌, subst, arith}
+use Rattle.std.proofs.Common.{sym, ap, ◌∙◌, subst, arith, inl, inr}
 use Rattle.std.specs.Prelude.{pos}
 use Rattle.pfc_state.specs.Stands.{Stand, Waits, may_end}
 use Rattle.pfc_state.specs.declared.waits.Why.TheVariants.{Select}
@@ -94,7 +94,8 @@ module _ (facts : Facts) (homes : Homes) (entries : Entries) (store : Store) (st
       → HandIs facts homes table entries p level at ops d stand doing hand → may_end stand ≡ true
       → level.setting.trial ≡ of_own
   in_own_code level at ops stand doing empty_hand is serves = absurd (serves_shown stand serves is.1)
-  in_own_code level at ops stand doing (offering x os k) is serves = is.own
+  in_own_code level at ops stand doing (offering x os k) (inl is) serves = is.own
+  in_own_code level at ops stand doing (offering x os k) (inr is) serves = absurd (serves_shown stand serves (ap shows_nothing is.ready))
   in_own_code level at ops stand doing (asking values) is serves = (let asks = is.1 in asks.own)
   in_own_code level at ops stand doing (barred_at bar) is serves = (let barred = is.1 in barred.own)
 

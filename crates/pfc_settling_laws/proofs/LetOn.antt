@@ -145,8 +145,8 @@ module _ (facts : Facts) (homes : Homes) (entries : Entries) (store : Store) (st
     hand_on : (level : LivingLevel) (at : ℕ) (ops : List ℤ) (stand stand' : Stand) (doing : Doing) (hand : Hand) → IsSameOrLetOn stand stand'
         → HandIs facts homes table entries p level at ops d stand doing hand → HandIs facts homes table' entries p level at ops d stand' doing hand
     hand_on level at ops stand stand' doing empty_hand go is = (is.0, still_shows_nothing stand stand' go is.1, is.2)
-    hand_on level at ops stand stand' doing (offering x os k) go is =
-        record {
+    hand_on level at ops stand stand' doing (offering x os k) go (inl is) =
+        inl (record {
           own = is.own;
           block = is.block;
           beside = is.beside;
@@ -157,7 +157,9 @@ module _ (facts : Facts) (homes : Homes) (entries : Entries) (store : Store) (st
           offered = still_offered stand stand' os _ go is.offered;
           few = is.few;
           alone = λ goes. is.alone (went_by_itself stand stand' os _ go is.offered goes);
-        }
+        })
+    hand_on level at ops stand stand' doing (offering x os k) go (inr is) =
+        inr (record { offered = is.offered; ready = stays_at stand stand' Is_ready refl go is.ready; does = is.does })
     hand_on level at ops stand stand' doing (asking values) go is =
         let asks = is.1 in (
           is.0,

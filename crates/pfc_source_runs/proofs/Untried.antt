@@ -18,14 +18,19 @@ use Rattle.pfc_representation.specs.Levels.{Facts, program_in}
 use Rattle.pfc_representation.specs.Machines.{Represents}
 use Rattle.pfc_representation.specs.Actions.{IsKept}
 use Rattle.pfc_run_rules.specs.Rules.{KeepsToRules}
-use Rattle.pfc_arrivals.specs.Arrivals.{IsAboutToAct, ComesToAction, ActsAsItsSource}
+use Rattle.pfc_arrivals.specs.Arrivals.{IsAboutToAct, ComesToAction, ComesAndStays, ActsAsItsSource}
 use Rattle.pfc_arrivals.specs.Wants.{MayWantMemory}
-use Rattle.pfc_arrivals.proofs.Arriving.{comes_to_action}
+use Rattle.pfc_arrivals.proofs.Refused.{comes_and_stays}
+use Rattle.pfc_arrivals.proofs.Picked.{acts_alike}
 use Rattle.pfc_arrivals.proofs.Wanting.{may_want_there}
 use Rattle.pfc_arrivals.proofs.Again.{acts_again}
 use Rattle.pfc_sessions.specs.Stages as stages
 use Rattle.pfc_sessions.specs.Stages.{Stage}
 use Rattle.pfc_sessions.specs.Steps.{begins, before_action, may_want}
+use Rattle.pfc_sessions.specs.Runs.{IsPicked}
+use Rattle.pfc_sched.specs.Picks.{Picking, picked}
+use Rattle.pfc_sched.specs.declared.picking.Pick.TheVariants.{Process}
+use Rattle.pfc_world.specs.Tables.{Table}
 use Rattle.pfc_simulation.specs.Reached.{RunKeepsToRules, IsRunKept}
 use Rattle.pfc_simulation.proofs.Simulating.{represents, about, goes, next_kept, rules}
 use Rattle.pfc_simulation.proofs.Steps.{quiet_leads}
@@ -65,6 +70,12 @@ module _ (facts : Facts) (numbered : AreNumbered facts) (m : Machine) (c : Confi
   wanting None e = absurd cc
   wanting (Some i) e = (i, refl, e)
 
+  stays_there : ((i : Instr) → next_instr image p come.before ≡ Some i → may_want_memory i ≡ true → Represents facts (at_rest come.before) c)
+      → may_want (next_instr image p (before_action image p m)) ≡ true → Represents facts (at_rest come.before) c
+  stays_there stays wants =
+      let (i, is, so) = wanting (next_instr image p come.before) (subst (λ (x : Machine). may_want (next_instr image p x) ≡ true) stands_before wants) in
+      stays i is so
+
   wants_there : may_want (next_instr image p (before_action image p m)) ≡ true → MayWantMemory next
   wants_there wants =
       let (i, is, so) = wanting (next_instr image p come.before) (subst (λ (x : Machine). may_want (next_instr image p x) ≡ true) stands_before wants) in
@@ -93,8 +104,34 @@ module _ (facts : Facts) (c : Config) (kept : IsRunKept facts c) (numbered : Are
   to_rules : KeepsToRules (program_in facts) d is.process
   to_rules = rules facts c kept numbered numbers s.picking s.machine t.config is.process so.relates is.picked
 
-  untried_by : ComesToAction facts m d is.process → IsUntried facts new t
-  untried_by come =
+  -- ### Whoever is picked
+
+  module _ (represents_new : Represents facts new d) (q : ℕ) (picking : Picking) (picks : picked picking d.table.rows ≡ Process q) where
+    picked_there : IsPicked picking m q
+    picked_there = record {
+      goes = let old = is.picked in old.goes;
+      counts = let old = is.picked in old.counts;
+      picks = ap (λ (w : Table). picked picking w.rows) represented.world ∙ picks;
+    }
+
+    about_new : IsAboutToAct facts new d q
+    about_new =
+        let old = about facts c kept numbered numbers picking s.machine t.config q so.relates picked_there in
+        record { process = old.process; ready = old.ready; few = old.few; number = old.number }
+
+    acts_there : ActsAsItsSource facts new d q picking
+    acts_there =
+        acts_alike facts new d q picking (next_kept facts c kept numbered numbers picking s.machine t.config q so.relates picked_there) numbered
+        (rules facts c kept numbered numbers picking s.machine t.config q so.relates picked_there) represents_new about_new
+
+  represents_by : (come : ComesAndStays facts m d is.process) → Represents facts new d
+  represents_by both =
+      subst (λ (x : Machine). Represents facts x d) (sym (is.machine ∙ ap at_rest (stands_before facts numbered m d is.process all_kept to_rules both.come)))
+      (stays_there facts numbered m d is.process all_kept to_rules both.come both.stays is.wants)
+
+  untried_by : ComesAndStays facts m d is.process → IsUntried facts new t
+  untried_by both =
+      let come = both.come in
       let stands : new ≡ at_rest come.before = is.machine ∙ ap at_rest (stands_before facts numbered m d is.process all_kept to_rules come) in
       record {
         process = is.process;
@@ -106,10 +143,12 @@ module _ (facts : Facts) (c : Config) (kept : IsRunKept facts c) (numbered : Are
         arrived = come.arrived;
         machine = stands;
         wants = wants_there facts numbered m d is.process all_kept to_rules come is.wants;
+        represents = represents_by both;
         may_act_again = λ picking.
             subst (λ (x : Machine). (acts : ActsAsItsSource facts x d is.process picking) × (acts.may.before ≡ come.before)) (sym stands)
             (acts_again facts come.before d is.process come.level come.acting come.arrived picking all_kept numbered to_rules);
+        whoever_is_picked = λ q picking picks. acts_there (represents_by both) q picking picks;
       }
 
   pub is_untried : IsUntried facts new t
-  is_untried = untried_by (comes_to_action facts m d is.process represented ready)
+  is_untried = untried_by (comes_and_stays facts m d is.process represented ready)

@@ -14,7 +14,7 @@ use Rattle.pfc_machines.specs.declared.machine.Machine.{Machine}
 use Rattle.pfc_machines.specs.Actions.{at_rest}
 use Rattle.pfc_representation.specs.Levels.{Facts, LivingLevel, program_in}
 use Rattle.pfc_representation.specs.Rooms.{process_count}
-use Rattle.pfc_representation.specs.Machines.{Agrees}
+use Rattle.pfc_representation.specs.Machines.{Agrees, Represents}
 use Rattle.pfc_representation.specs.Acting.{IsActing, HasArrived}
 use Rattle.pfc_arrivals.specs.Arrivals.{ActsAsItsSource}
 use Rattle.pfc_arrivals.specs.Wants.{MayWantMemory}
@@ -22,8 +22,8 @@ use Rattle.pfc_source_runs.specs.Points.{Point, point_after, IsOnTheWay}
 
 -- ## A machine and a point
 
--- The machine stands for the settled configuration: who is picked there has gone through quiet instructions to its next action, which may want memory, and
--- has not acted. It may act again from there, and does then what its action does in the source text.
+-- The machine represents the settled configuration: who is picked there has gone through quiet instructions to its next action, which may want memory, and
+-- has not acted. It may act again from there, and does then what its action does in the source text; and so does whoever else is picked first.
 pub record IsUntried (facts : Facts) (m : Machine) (s : Point) : Type 0 where
   pub process : ℕ
   pub goes : ending_at (settled_config s.config) ≡ None
@@ -34,7 +34,10 @@ pub record IsUntried (facts : Facts) (m : Machine) (s : Point) : Type 0 where
   pub arrived : HasArrived facts before (settled_config s.config) process level (next_of (program_in facts) (settled_config s.config) process)
   pub machine : m ≡ at_rest before
   pub wants : MayWantMemory (next_of (program_in facts) (settled_config s.config) process)
+  pub represents : Represents facts m (settled_config s.config)
   pub may_act_again : (picking : Picking) → (acts : ActsAsItsSource facts m (settled_config s.config) process picking) × (acts.may.before ≡ before)
+  pub whoever_is_picked : (q : ℕ) (picking : Picking) → picked picking (settled_config s.config).table.rows ≡ Process q
+      → ActsAsItsSource facts m (settled_config s.config) q picking
 
 -- the machine stands for the configuration, for the settled one, or for that just before the next action
 pub data StandsFor (facts : Facts) (m : Machine) (s : Point) : Type 0 where

@@ -1,6 +1,6 @@
 -- A decision takes an alternative that receives: its message comes from a sender.
 use Rattle.std.proofs.Common.{◌≡◌, ℕ, ◌<◌, ◌≤◌, ◌==◌, ℤ, true, false, List, [], length, reverse, set, Option, Some, IfSome, Ok}
-use Rattle.std.proofs.Common.{refl, sym, ap, ◌∙◌, subst, arith}
+use Rattle.std.proofs.Common.{refl, sym, ap, ◌∙◌, subst, arith, inl}
 use Rattle.std.specs.Prelude.{is_some}
 use Rattle.std.proofs.lemmas.List.{get_or-set_same, same_from_push}
 use Rattle.pfc_code.specs.declared.instructions.Instr.{Instr}
@@ -277,7 +277,7 @@ module _ (facts : Facts) (m : Machine) (c : Config) (p choice : ℕ) (level : Li
   level_then = record level_q { arms = [] }
 
   does_q : DoesOn level_then branch_q ops_q doing_q
-  does_q = (goes_q.0, least level_q.setting.arms, block_q, its_showing.offers.checked.beside, goes_q.1)
+  does_q = (goes_q.0, least level_q.setting.arms, inl (block_q, its_showing.offers.checked.beside, goes_q.1))
     where
       least : (j : ℕ) → 0 ≤ j
       least j = grind arith

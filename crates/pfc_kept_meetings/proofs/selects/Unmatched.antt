@@ -1,6 +1,6 @@
 -- No alternative is matched: the process goes on elsewhere, or it waits.
 use Rattle.std.proofs.Common.{◌≡◌, ℕ, zero, suc, ◌+◌, ◌^◌, ◌<◌, ◌≤◌, ℤ, Bool, true, false, List, [], ◌∷◌, length, set, take}
-use Rattle.std.proofs.Common.{get_or, Option, Some, None, Ok, refl, sym, ap, ◌∙◌, subst, arith}
+use Rattle.std.proofs.Common.{get_or, Option, Some, None, Ok, refl, sym, ap, ◌∙◌, subst, arith, inl}
 use Rattle.std.specs.Prelude.{is_some}
 use Rattle.std.proofs.lemmas.List.{get_or-set_same, length-set}
 use Rattle.pfc_state.specs.Stands.{Stand, Waits, is_unfinished, ticket_of, due_of}
@@ -114,7 +114,7 @@ module _ (facts : Facts) (m : Machine) (c : Config) (p : ℕ) (level : LivingLev
 
   module _ (to : ℕ) (doing : Doing) (leads : IsInBlock facts its_branches.number to) (goes : GoesOnAt level.setting b to ops [] doing) where
     does : DoesOn (record level { arms = [] }) to ops doing
-    does = (goes.0, least level.setting.arms, b, checked.beside, goes.1)
+    does = (goes.0, least level.setting.arms, inl (b, checked.beside, goes.1))
       where
         least : (i : ℕ) → 0 ≤ i
         least i = grind arith
@@ -206,7 +206,7 @@ module _ (facts : Facts) (m : Machine) (c : Config) (p : ℕ) (level : LivingLev
           alone = λ by_itself.
               let found = goes_due due by_itself in
               let goes = alone found.0 found.1 in
-              (goes.0, none_fit level.setting.arms, b, checked.beside, goes.1);
+              (goes.0, none_fit level.setting.arms, inl (b, checked.beside, goes.1));
         }
       where
         none_fit : (i : ℕ) → 0 ≤ i
@@ -233,8 +233,8 @@ module _ (facts : Facts) (m : Machine) (c : Config) (p : ℕ) (level : LivingLev
           done = refl;
           moment = refl;
           within = goes_within;
-          shown = subst (λ (y : Stand). Offers level to ops (record d { line = x.line; communications = d.communications; offered = n }) y doing x os k)
-              (sym row_mine) offers_all;
+          shown = inl (subst (λ (y : Stand). Offers level to ops (record d { line = x.line; communications = d.communications; offered = n }) y doing x os k)
+              (sym row_mine) offers_all);
         }
 
     shown_so : set (set c.activities p (at_work a doing)) p (record (get_or (set c.activities p (at_work a doing)) p (nobody g)) { hand = hand })

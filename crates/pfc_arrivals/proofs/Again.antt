@@ -13,7 +13,8 @@ use Rattle.pfc_machines.specs.Offers.{without}
 use Rattle.pfc_run_rules.specs.Rules.{KeepsToRules}
 use Rattle.pfc_representation.specs.Levels.{Facts, program_in, LivingLevel}
 use Rattle.pfc_representation.specs.Acting.{IsActing, HasArrived}
-use Rattle.pfc_arrivals.specs.Arrivals.{begins, ActsAsItsSource, AreNumbered, ComesToAction, IsNextKept}
+use Rattle.pfc_representation.specs.Machines.{Represents}
+use Rattle.pfc_arrivals.specs.Arrivals.{begins, ActsAsItsSource, AreNumbered, ComesToAction, ComesAndStays, IsNextKept}
 use Rattle.pfc_arrivals.proofs.Picked.{acts_from}
 
 -- what offers nothing withdraws nothing
@@ -32,7 +33,7 @@ stays m p acts offers =
     (ap (λ (d : Descriptor). set m.descriptors p d) (withdraws_nothing (descriptor_of m.descriptors p) offers) ∙ set-get_or m.descriptors p (descriptor_by 0))
 
 module _ (facts : Facts) (m : Machine) (c : Config) (p : ℕ) (level : LivingLevel) (acting : IsActing facts m c p level)
-    (arrived : HasArrived facts m c p level (next_of (program_in facts) c p)) where
+    (arrived : HasArrived facts m c p level (next_of (program_in facts) c p)) (represents : Represents facts (at_rest m) c) where
   stays_here : takes_up p (begins p (at_rest m)) ≡ m
   stays_here = stays m p (ap (λ w. w.acting) acting.world) acting.actor.offered
 
@@ -47,10 +48,13 @@ module _ (facts : Facts) (m : Machine) (c : Config) (p : ℕ) (level : LivingLev
     arrived = arrived;
   }
 
+  abbrev stays_again : ComesAndStays facts (at_rest m) c p
+  stays_again = record { come = comes_again; stays = λ i is wants. represents }
+
   pub acts_again : (picking : Picking) → IsNextKept facts c p → AreNumbered facts → KeepsToRules (program_in facts) c p
       → (acts : ActsAsItsSource facts (at_rest m) c p picking) × (acts.may.before ≡ m)
   acts_again picking kept numbered rules = (
     acts_from facts (at_rest m) c p picking kept numbered rules acting.alike.program.short
-        (subst (λ size. p < size) (sym acting.alike.words.descriptors) acting.actor.process) comes_again,
+        (subst (λ size. p < size) (sym acting.alike.words.descriptors) acting.actor.process) stays_again,
     refl,
   )

@@ -40,7 +40,8 @@ use Rattle.pfc_arrivals.proofs.Steps.{StepsTo, Fails, one_step, another_fails}
 use Rattle.pfc_arrivals.proofs.Taken.{HasBegun, has_begun}
 
 -- the turn of a scan stands where the image has it
-pub scan_stands : (facts : Facts) (r a : ℕ) → slice_get (image_of facts.tree).scans r ≡ Some a → (k : ℕ) × (slice_get (image_of facts.tree).code a ≡ Some (SCAN k))
+pub scan_stands : (facts : Facts) (r a : ℕ) → slice_get (image_of facts.tree).scans r ≡ Some a
+    → (k : ℕ) × (slice_get (image_of facts.tree).code a ≡ Some (SCAN k))
 scan_stands facts r a there =
     let whole : List Instr = (image_of facts.tree).code in
     scan_there whole (image_of facts.tree) r a (image_laid facts.tree)
@@ -76,7 +77,8 @@ pub record HasCome (facts : Facts) (c : Config) (p : ℕ) (base : LivingLevel) (
       HasTried base.setting.trial facts (stack_of before.stacks p) (armed base more) (activity_of (program_in facts) c p).activations
       (descriptor_of before.descriptors p)
       → IsAtTurn base.setting.trial (stack_of before.stacks p).at
-  pub within : IsWithin facts (armed base more) (own_address base.setting.trial (stack_of before.stacks p).at) (descriptor_of before.descriptors p).communications
+  pub within :
+      IsWithin facts (armed base more) (own_address base.setting.trial (stack_of before.stacks p).at) (descriptor_of before.descriptors p).communications
 
 -- Where a process is: in its own code; before a turn of its scan; or in the guard of another.
 data Stance (g : Setting) (n : Action) (at : ℕ) : Type 0 where

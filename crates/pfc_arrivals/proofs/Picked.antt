@@ -21,8 +21,8 @@ use Rattle.pfc_run_rules.specs.Rules.{KeepsToRules}
 use Rattle.pfc_representation.specs.Levels.{Facts, program_in, LivingLevel, HasSetting}
 use Rattle.pfc_representation.specs.Machines.{Represents}
 use Rattle.pfc_representation.specs.Actions.{IsChoice, ComeToSame, IsKept}
-use Rattle.pfc_arrivals.specs.Arrivals.{IsAboutToAct, ComesToAction, ActsAsItsSource, AreNumbered, IsNumbered, IsNextKept}
-use Rattle.pfc_arrivals.proofs.Arriving.{comes_to_action}
+use Rattle.pfc_arrivals.specs.Arrivals.{IsAboutToAct, ComesToAction, ComesAndStays, ActsAsItsSource, AreNumbered, IsNumbered, IsNextKept}
+use Rattle.pfc_arrivals.proofs.Refused.{comes_and_stays}
 use Rattle.pfc_arrivals.proofs.Standing.{has_setting}
 
 at_most : (k n : ℕ) → k < suc n → k < max 1 (suc n)
@@ -43,7 +43,10 @@ numbered_at facts level numbered has = λ t same.
 -- who comes to its action may do it
 module _ (facts : Facts) (m : Machine) (c : Config) (p : ℕ) (picking : Picking) (kept : IsNextKept facts c p)
     (numbered : AreNumbered facts) (rules : KeepsToRules (program_in facts) c p) (short : length (image_of facts.tree).code < 4294967296)
-    (there : p < length m.descriptors) (come : ComesToAction facts m c p) where
+    (there : p < length m.descriptors) (both : ComesAndStays facts m c p) where
+  abbrev come : ComesToAction facts m c p
+  come = both.come
+
   abbrev n : Action
   n = next_of (program_in facts) c p
 
@@ -76,10 +79,11 @@ module _ (facts : Facts) (m : Machine) (c : Config) (p : ℕ) (picking : Picking
         subst (λ many. ComeToSame facts come.before c p (line_of n)
         (comes_to (quietly image here.instr p come.before) (acts_by image here.instr (choice_among picking many) p come.before))
         (effect (program_in facts) c p (choice_among picking many) n)) (sym here.choices) here.same;
+    stays = λ wants. both.stays here.instr here.is wants;
   }
 
 pub acts_alike : (facts : Facts) (m : Machine) (c : Config) (p : ℕ) (picking : Picking) → IsNextKept facts c p → AreNumbered facts
     → KeepsToRules (program_in facts) c p → Represents facts m c → IsAboutToAct facts m c p → ActsAsItsSource facts m c p picking
 acts_alike facts m c p picking kept numbered rules is about =
     acts_from facts m c p picking kept numbered rules is.alike.program.short (subst (λ size. p < size) (sym is.alike.words.descriptors) about.process)
-    (comes_to_action facts m c p is about)
+    (comes_and_stays facts m c p is about)

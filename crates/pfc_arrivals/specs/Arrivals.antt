@@ -7,7 +7,7 @@ use Rattle.pfc_state.specs.Stands.{Is_ready}
 use Rattle.pfc_world.specs.Tables.{at}
 use Rattle.pfc_world.specs.Transitions.{begun}
 use Rattle.pfc_sched.specs.Picks.{Picking}
-use Rattle.pfc_semantics.specs.Configurations.{Config}
+use Rattle.pfc_semantics.specs.Configurations.{Config, Effect}
 use Rattle.pfc_semantics.specs.Programs.{program_of}
 use Rattle.pfc_semantics.specs.Events.{step}
 use Rattle.pfc_semantics.specs.Selects.{choices}
@@ -17,6 +17,7 @@ use Rattle.pfc_machines.specs.declared.machine.Machine.{Machine}
 use Rattle.pfc_machines.specs.Actions.{at_rest}
 use Rattle.pfc_select_actions.specs.Selects.{takes_up}
 use Rattle.pfc_machine_acts.specs.declared.acts.ActionEnd.{ActionEnd}
+use Rattle.pfc_machine_acts.specs.declared.acts.ActionEnd.TheVariants.{Done, Faulted}
 use Rattle.pfc_machine_acts.specs.Acting.{MayAct, choice_among, comes_to, line_of as machine_line}
 use Rattle.pfc_machine_acts.specs.Performing.{acts_by, choices_for, may_want_memory}
 use Rattle.pfc_machine_acts.specs.Quietly.{next_instr, quietly}
@@ -55,7 +56,8 @@ pub record ComesAndStays (facts : Facts) (m : Machine) (c : Config) (p : ℕ) : 
   pub stays : (i : Instr) → next_instr (image_of facts.tree) p come.before ≡ Some i → may_want_memory i ≡ true
       → Represents facts (at_rest come.before) c
 
--- Process p may act on the machine, and what its action comes to there and in the source text is the same, with the same choice.
+-- Process p may act on the machine, and what its action comes to there and in the source text is the same, with the same choice. Where the action may want
+-- memory, the machine represents the same configuration before it.
 pub record ActsAsItsSource (facts : Facts) (m : Machine) (c : Config) (p : ℕ) (picking : Picking) : Type 0 where
   pub may : MayAct (image_of facts.tree) picking p (begins p m)
   pub line : machine_line (image_of facts.tree) p may.before ≡ line_of (next_of (program_in facts) c p)
@@ -65,14 +67,23 @@ pub record ActsAsItsSource (facts : Facts) (m : Machine) (c : Config) (p : ℕ) 
       ComeToSame facts may.before c p (line_of (next_of (program_in facts) c p))
       (comes_to (quietly (image_of facts.tree) may.instr p may.before) (acts_by (image_of facts.tree) may.instr choice p may.before))
       (effect (program_in facts) c p choice (next_of (program_in facts) c p))
+  pub stays : may_want_memory may.instr ≡ true → Represents facts (at_rest may.before) c
 
--- What an action has come to, of which this is the answer: the machine agrees with the configuration behind the step of the source text, and what the action
--- prints stands behind what was there on both sides. Want of memory is no action.
+-- The action has ended as in the source text: without a fault, or in the same fault, on this line.
+abbrev pub EndsAs : ActionEnd → ℕ → Effect → Type 0
+EndsAs Done line (Ok d) = Unit {0}
+EndsAs (Faulted at f) line (Err g) = (at ≡ line) × (f ≡ g)
+EndsAs end line e = ⊥
+
+-- What an action has come to, of which this is the answer: the machine agrees with the configuration behind the step of the source text, what the action
+-- prints stands behind what was there on both sides, and it has ended as the step. Want of memory is no action: the machine represents the same configuration
+-- still, and nothing is printed.
 abbrev pub HasAgreed : Facts → Config → ℕ → ℕ → Result ActionEnd Memory → List ℕ → List ℕ → Machine → Type 0
 HasAgreed facts c p choice (Ok end) out out' new =
     let behind = (step (program_in facts) c p choice).config in
     Agrees facts new behind × ((bytes : List ℕ) × (out' ≡ out ++ bytes) × (behind.output ≡ c.output ++ bytes))
-HasAgreed facts c p choice (Err memory) out out' new = Unit {0}
+    × EndsAs end (line_of (next_of (program_in facts) c p)) (effect (program_in facts) c p choice (next_of (program_in facts) c p))
+HasAgreed facts c p choice (Err memory) out out' new = Represents facts new c × (out' ≡ out)
 
 -- ## The numbers of objects
 

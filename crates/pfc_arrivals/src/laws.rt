@@ -33,21 +33,23 @@ pub fn who_is_picked_may_act()
         → ActsAsItsSource facts m c p picking }
 {}
 
-/// Whoever has come to its action and has not done it, as where memory was refused, may act again from there, and does then what it does in the source text.
+/// Whoever has come to its action and has not done it, where the machine represents the same configuration, may act again from there, and does then what it
+/// does in the source text.
 pub fn who_has_not_acted_may_act_again()
     ensures { (facts : Facts) (m : Machine) (c : Config) (p : ℕ) (level : LivingLevel) (picking : Picking)
         → IsNextKept facts c p → AreNumbered facts → KeepsToRules (program_in facts) c p → IsActing facts m c p level
-        → HasArrived facts m c p level (next_of (program_in facts) c p)
+        → HasArrived facts m c p level (next_of (program_in facts) c p) → Represents facts (at_rest m) c
         → (acts : ActsAsItsSource facts (at_rest m) c p picking) × (acts.may.before ≡ m) }
 {}
 
-/// Where the action to which it comes may want memory, the machine represents the same configuration before that action. So where memory was refused
-/// whoever is ready may be picked next and act, the process itself or another.
+/// Where the action to which it comes may want memory, the machine represents the same configuration before that action.
 pub fn refused_memory_leaves_the_configuration()
     ensures { (facts : Facts) (m : Machine) (c : Config) (p : ℕ) → Represents facts m c → IsAboutToAct facts m c p → ComesAndStays facts m c p }
 {}
 
-/// Behind the action of such a process the machine agrees with the configuration behind its step in the source text, and both have printed the same.
+/// Behind the action of such a process the machine agrees with the configuration behind its step in the source text, both have printed the same, and it
+/// ends in a fault exactly where the step does, in the same one and on its line. Where memory was refused the machine represents the same configuration
+/// still, so that whoever is ready may act next, and nothing is printed.
 pub fn actions_agree_with_their_steps()
     ensures { (facts : Facts) (m : Machine) (c : Config) (p : ℕ) (picking picking' : Picking) (acts : ActsAsItsSource facts m c p picking)
         (out out' : List ℕ) (result : Result ActionEnd Memory) (new : Machine)

@@ -29,7 +29,7 @@ pub fn stacks_hold_the_first_values()
         → AreObjects (program_of t) start_homes (start_entries t) (with_room [] 0 (program_of t).variables) (number_at (image_of t).objects) }
 {}
 
-/// Main is at its level: it sees its own variables, and its code performs the initialising bodies and its own body.
+/// Main is at its level: it sees its own variables, and its code does what the initialising bodies and its own body do.
 pub fn main_is_at_its_level()
     ensures { (t : ProgramTree) (input : List ℕ) (seed : ℕ) (h : Holders) → IsLawful (forget_program t) → broken t ≡ [] → AreOfMain (finished t)
         → length (image_of t).processes ≤ 1024 → 8 + (program_of t).main.cells < 2 ^ 32

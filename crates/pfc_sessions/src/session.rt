@@ -50,7 +50,7 @@ impl Session {
     /// One action of a process that is ready: its quiet instructions, and the action that comes next, which is counted. It does not settle the
     /// session first, as each action of `run` does. What it prints is put behind `out`, and a plain select that has something to choose among
     /// asks the picker. Its only refusal is want of memory, which comes only of a call, a requeue, a creation or output, and leaves the process
-    /// before that action, and the output and the picker as they were; whoever is ready may act next.
+    /// before that action, and the output and the picker as they were.
     pub fn act(
         &mut self,
         image: &Image,

@@ -146,7 +146,8 @@ module _ (facts : Facts) (c : Config) (kept : IsRunKept facts c) (numbered : Are
         represents = represents_by both;
         may_act_again = λ picking.
             subst (λ (x : Machine). (acts : ActsAsItsSource facts x d is.process picking) × (acts.may.before ≡ come.before)) (sym stands)
-            (acts_again facts come.before d is.process come.level come.acting come.arrived picking all_kept numbered to_rules);
+            (acts_again facts come.before d is.process come.level come.acting come.arrived
+            (stays_there facts numbered m d is.process all_kept to_rules come both.stays is.wants) picking all_kept numbered to_rules);
         whoever_is_picked = λ q picking picks. acts_there (represents_by both) q picking picks;
       }
 

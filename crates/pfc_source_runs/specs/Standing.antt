@@ -39,7 +39,7 @@ pub record IsUntried (facts : Facts) (m : Machine) (s : Point) : Type 0 where
   pub whoever_is_picked : (q : ℕ) (picking : Picking) → picked picking (settled_config s.config).table.rows ≡ Process q
       → ActsAsItsSource facts m (settled_config s.config) q picking
 
--- the machine stands for the configuration, for the settled one, or for that just before the next action
+-- The machine stands for the configuration, or for the settled one; that may be before an action for which memory was refused.
 pub data StandsFor (facts : Facts) (m : Machine) (s : Point) : Type 0 where
   behind_action : Agrees facts m s.config → StandsFor facts m s
   settled : Agrees facts m (settled_config s.config) → StandsFor facts m s

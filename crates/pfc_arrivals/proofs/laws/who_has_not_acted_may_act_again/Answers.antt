@@ -3,4 +3,5 @@ use Rattle.pfc_arrivals.proofs.laws.who_has_not_acted_may_act_again.Goals as goa
 
 pub returns : goal.returns
 returns c =
-    λ facts m config p level picking kept numbered rules acting arrived. acts_again facts m config p level acting arrived picking kept numbered rules
+    λ facts m config p level picking kept numbered rules acting arrived represents.
+    acts_again facts m config p level acting arrived represents picking kept numbered rules

@@ -1,5 +1,5 @@
 -- How a process's descriptor follows an activation that begins.
-use Rattle.std.proofs.Common.{◌≡◌, ℕ, ◌<◌, List, length, set, Err, ap, ap₂, ◌∙◌}
+use Rattle.std.proofs.Common.{◌≡◌, ℕ, ◌+◌, ◌<◌, max, List, length, set, Err, ap, ap₂, subst, ◌∙◌, arith}
 use Rattle.std.proofs.lemmas.List.{set-get_or}
 use Rattle.std.specs.Prelude.{Bool}
 use Rattle.pfc_stacks.specs.declared.instructed.CallFault.{CallFault}
@@ -9,7 +9,9 @@ use Rattle.pfc_stacks.specs.Stacks.{Stacks}
 use Rattle.pfc_machines.specs.declared.descriptors.Descriptor.{Descriptor}
 use Rattle.pfc_machines.specs.declared.machine.Machine.{Machine}
 use Rattle.pfc_machines.specs.declared.rooms.Room.{Room}
+use Rattle.pfc_machines.specs.Communications.{Communicating, IsRoomBetween, room_above}
 use Rattle.pfc_machines.specs.Descriptors.{descriptor_by, descriptor_of, roomier, entered}
+use Rattle.pfc_machines.specs.Rooms.{no_room}
 use Rattle.pfc_machines.proofs.Placing.{again}
 
 abbrev pub with_room : Room → Descriptor → Descriptor
@@ -39,3 +41,25 @@ refused_is placed old next there stacks ds Stack h e =
     (h.0, ap₂ (λ (ss : Stacks) (xs : List Descriptor). (let m : Machine = record old { stacks = ss; descriptors = xs } in m)) h.1 e)
 refused_is placed old next there stacks ds Memory h e =
     (h.0, ap₂ (λ (ss : Stacks) (xs : List Descriptor). (let m : Machine = record old { stacks = ss; descriptors = xs } in m)) h.1 e)
+
+abbrev room_by : ℕ → ℕ → ℕ → Room
+room_by alternatives words meetings = record { alternatives = alternatives; words = words; meetings = meetings }
+
+-- room above what there is, where none is taken, is the room that there was
+same_room : (e : Communicating) → IsRoomBetween e e.room → room_above e no_room ≡ e.room
+same_room e between =
+    let a = between.alternatives.0 in
+    let w = between.words.0 in
+    let m = between.meetings.0 in
+    let alternatives : max (length e.alternatives + 0) e.room.alternatives ≡ e.room.alternatives = omega arith in
+    let words : max (length e.words + 0) e.room.words ≡ e.room.words = omega arith in
+    let meetings : max (length e.callers + 0) e.room.meetings ≡ e.room.meetings = omega arith in
+    ap (λ (n : ℕ). room_by n (max (length e.words + 0) e.room.words) (max (length e.callers + 0) e.room.meetings)) alternatives
+    ∙ ap (λ (n : ℕ). room_by e.room.alternatives n (max (length e.callers + 0) e.room.meetings)) words
+    ∙ ap (λ (n : ℕ). room_by e.room.alternatives e.room.words n) meetings
+
+-- so nothing is changed where no room is taken
+pub unroomed : (d : Descriptor) (room held : Room) → room ≡ no_room → held ≡ d.communications.room → IsRoomBetween d.communications held → roomier d room ≡ d
+unroomed d room held none was between =
+    ap (roomier d) none ∙ ap (λ (r : Room). record d { communications = record d.communications { room = r } })
+    (same_room d.communications (subst (IsRoomBetween d.communications) was between))

@@ -4,6 +4,7 @@ pub mod Kept
 pub mod Lists
 pub mod Loads
 pub mod Marked
+pub mod Pushed
 pub mod Reckoning
 pub mod Undone
 pub mod Writes

@@ -1,6 +1,7 @@
 //! How activations of one process begin and end.
 ghost use Rattle.std.specs.Prelude.{◌≡◌, ◌≤◌, ◌<◌, ◌+◌, ◌^◌, nat_le, length, Option};
-ghost use Rattle.pfc_stacks.specs.Activations.{size_of, called, returned, returned_with, result_in, params_of, replaced, mark_in, caller_of, has_mark_at, has_mark};
+ghost use Rattle.pfc_stacks.specs.Activations.{size_of, called, returned, returned_with, result_in, params_of, replaced, mark_in, caller_of, has_mark_at};
+ghost use Rattle.pfc_stacks.specs.Activations.{has_mark};
 ghost use Rattle.pfc_stacks.specs.declared.marks.Mark.{Mark};
 ghost use Rattle.pfc_stacks.specs.Answers.{IsCalled};
 ghost use Rattle.pfc_stacks.specs.Stacks.{own_cells};
@@ -18,6 +19,7 @@ use pfc_code::Block;
 impl ProcessStack {
     /// Calls a block, by its number in the image, with its arguments on top, a static link and a mark. There may be so many
     /// cells. All memory is taken before anything is changed.
+    #[inline(always)]
     pub(crate) fn call(
         &mut self,
         number: u32,

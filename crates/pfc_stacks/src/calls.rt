@@ -5,7 +5,8 @@ ghost use Rattle.pfc_code.specs.declared.images.Block.{Block};
 ghost use Rattle.pfc_code.specs.declared.instructions.Instr.{Instr};
 ghost use Rattle.pfc_stacks.specs.declared.instructed.Performed.{Performed};
 ghost use Rattle.pfc_stacks.specs.declared.marks.Mark.{Mark};
-ghost use Rattle.pfc_stacks.specs.Activations.{has_place, most_cells, returned, returned_with, result_in, params_of, arguments, entered, mark_in, has_mark, main_link};
+ghost use Rattle.pfc_stacks.specs.Activations.{has_place, most_cells, returned, returned_with, result_in, params_of, arguments, entered, mark_in, has_mark};
+ghost use Rattle.pfc_stacks.specs.Activations.{main_link};
 ghost use Rattle.pfc_stacks.specs.Answers.{IsCallBy, IsCreatedBy, IsReplacedBy, IsDone};
 ghost use Rattle.pfc_stacks.specs.Effects.{effect, last_block};
 ghost use Rattle.pfc_stacks.specs.Stacks.{stack_of, operands_of, in_view};
@@ -41,6 +42,7 @@ impl Stacks {
     /// procedure or a function that is called from where it is in view. The arguments are the last operands. It goes on at the
     /// block's entry, and its caller behind the instruction at which the process is. All memory is taken before anything is
     /// changed.
+    #[inline(always)]
     pub fn call_inside(
         &mut self,
         image: &Image,
@@ -156,6 +158,7 @@ impl Stacks {
 }
 
 impl Stacks {
+    #[inline(always)]
     pub(crate) fn call_block(
         &mut self,
         p: u32,

@@ -1,5 +1,5 @@
 //! The cells of a new activation.
-ghost use Rattle.std.specs.Prelude.{◌≡◌, ◌≤◌, ◌<◌, ◌+◌, ◌-◌, ◌^◌, ◌++◌, pos, length, nat_le, get_or, set, vec_capacity};
+ghost use Rattle.std.specs.Prelude.{◌≡◌, ◌≤◌, ◌<◌, ◌+◌, ◌-◌, ◌^◌, ◌++◌, [], ◌∷◌, pos, length, nat_le, get_or, set, replicate, vec_capacity};
 ghost use Rattle.pfc_stacks.specs.Activations.{own_words, block_cells, size_of};
 
 use crate::Mark;
@@ -69,34 +69,83 @@ pub(crate) fn has_place(below: usize, size: usize, most: u32) -> bool
     size <= most && below <= most - size
 }
 
-/// Puts the own cells of an activation behind these cells, which have room for them.
+/// The word of an address.
+fn word_of_address(address: u64) -> i64
+    requires { address ≤ 2 ^ 32 }
+    ensures { result ≡ pos address }
+{
+    address as i64
+}
+
+/// Puts one cell behind these, which have room for it.
+#[inline(always)]
+fn push_word(cells: &mut Vec<i64>, w: i64)
+    requires { length cells.old.items < vec_capacity cells.old }
+    ensures items { cells.new.items ≡ cells.old.items ++ w ∷ [] }
+    ensures count { length cells.new.items ≡ length cells.old.items + 1 }
+    ensures capacity { vec_capacity cells.new ≡ vec_capacity cells.old }
+{
+    cells.push_reserved(w);
+}
+
+/// Puts the own cells of an activation behind these cells, which have room for them. One by one they cost less than a slice of
+/// them.
+#[inline(always)]
 pub(crate) fn push_own(cells: &mut Vec<i64>, own: Own)
     requires address { own.address ≤ 2 ^ 32 }
     requires room { length cells.old.items + 8 ≤ vec_capacity cells.old }
     ensures items { cells.new.items ≡ cells.old.items ++ own_words own }
     ensures capacity { vec_capacity cells.old ≤ vec_capacity cells.new }
 {
-    let words = [
-        own.address as i64,
-        i64::from(own.block),
-        own.mark.word(),
-        own.link,
-        i64::from(own.caller),
-        i64::from(own.under),
-        0,
-        0,
-    ];
-    cells.extend_from_slice(&words).unwrap();
+    push_word(cells, word_of_address(own.address));
+    push_word(cells, i64::from(own.block));
+    push_word(cells, own.mark.word());
+    push_word(cells, own.link);
+    push_word(cells, i64::from(own.caller));
+    push_word(cells, i64::from(own.under));
+    push_word(cells, 0);
+    push_word(cells, 0);
+}
+
+/// Puts the arguments of a block behind these cells, which have room for them. Most blocks have none or one, for which no slice
+/// is copied.
+#[inline(always)]
+fn push_arguments(cells: &mut Vec<i64>, args: &[i64])
+    requires { length cells.old.items + length args.now ≤ vec_capacity cells.old }
+    ensures items { cells.new.items ≡ cells.old.items ++ args.now }
+    ensures capacity { vec_capacity cells.old ≤ vec_capacity cells.new }
+{
+    match args.len() {
+        0 => {}
+        1 => push_word(cells, args[0]),
+        _ => cells.extend_from_slice(args).unwrap(),
+    }
+}
+
+/// Puts so many cells that are 0 behind these cells, which have room for them: most often none, or a function's result.
+#[inline(always)]
+fn push_zeros(cells: &mut Vec<i64>, others: usize)
+    requires { length cells.old.items + others ≤ vec_capacity cells.old }
+    ensures { cells.new.items ≡ cells.old.items ++ replicate others (pos 0) }
+{
+    match others {
+        0 => {}
+        1 => push_word(cells, 0),
+        _ => {
+            let all = cells.len() + others;
+            cells.resize(all, 0).unwrap();
+        }
+    }
 }
 
 /// Puts the cells of a block behind these cells, which have room for them: its arguments, and so many others.
+#[inline(always)]
 pub(crate) fn push_block(cells: &mut Vec<i64>, args: &[i64], others: usize)
     requires { length cells.old.items + length args.now + others ≤ vec_capacity cells.old }
     ensures { cells.new.items ≡ cells.old.items ++ block_cells args.now others }
 {
-    cells.extend_from_slice(args).unwrap();
-    let all = cells.len() + others;
-    cells.resize(all, 0).unwrap();
+    push_arguments(cells, args);
+    push_zeros(cells, others);
 }
 
 /// The word at a place, from 0.

@@ -1,5 +1,6 @@
 //! The stacks of all processes.
-ghost use Rattle.std.specs.Prelude.{◌≡◌, ◌≤◌, ◌<◌, ◌+◌, ◌-◌, ◌^◌, ℕ, ℤ, pos, max, Some, ◌∷◌, ◌++◌, length, take, drop, set, get_or, reverse, IfOk, IfSome, Option};
+ghost use Rattle.std.specs.Prelude.{◌≡◌, ◌≤◌, ◌<◌, ◌+◌, ◌-◌, ◌^◌, ℕ, ℤ, pos, max, Some, ◌∷◌, ◌++◌, length, take, drop, set, get_or, reverse, IfOk, IfSome};
+ghost use Rattle.std.specs.Prelude.{Option};
 ghost use Rattle.pfc_code.specs.Images.{plain_image};
 ghost use Rattle.pfc_stacks.specs.Answers.{IsDone};
 ghost use Rattle.pfc_stacks.specs.Conditions.{AreLive};

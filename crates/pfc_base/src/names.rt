@@ -9,6 +9,7 @@ ghost use Rattle.std.proofs.Common.{rules};
 ghost use Rattle.pfc_base.specs.Names.{IsName, IsLowerName};
 
 use crate::Memory;
+use smallvec::SmallVec;
 use std::alloc::Global;
 use std::hash::{Hash, Hasher};
 use std::marker::Model;
@@ -17,7 +18,7 @@ use std::marker::Model;
 /// A contract sees it as the list of its 1 to 63 bytes.
 #[derive(Drop)]
 pub struct Name {
-    text: Vec<u8>,
+    text: SmallVec<u8, 16>,
 }
 
 impl Model for Name {
@@ -47,22 +48,23 @@ impl Name {
         ensures value { result.now ≡ self.now }
         ensures name { IsLowerName result.now }
     {
-        &self.text
+        self.text.as_slice()
     }
 
     /// An equal name of its own. Its only refusal is want of memory.
     pub fn copy(&self, alloc: Global) -> Result<Name, Memory>
         ensures { IfOk result (λ n. n ≡ self.now) }
     {
-        let text = Vec::from_slice(alloc, &self.text)?;
+        let text = SmallVec::from_slice(alloc, self.text.as_slice())?;
         Ok(Name { text })
     }
 }
 
-fn lower_case(alloc: Global, text: &[u8]) -> Result<Vec<u8>, Memory>
+fn lower_case(alloc: Global, text: &[u8]) -> Result<SmallVec<u8, 16>, Memory>
     ensures { IfOk result (λ lower. lower.items ≡ str_to_ascii_lowercase text.now) }
 {
-    let lower = text.iter().map(|b| b.to_ascii_lowercase()).collect(alloc)?;
+    let mut lower = SmallVec::from_slice(alloc, text)?;
+    lower.as_mut_slice().make_ascii_lowercase();
     Ok(lower)
 }
 

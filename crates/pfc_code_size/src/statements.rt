@@ -138,11 +138,12 @@ fn labels(all: &[CaseArm], count: u32) -> Result<u32, Full>
 }
 
 /// With what stands behind the statements of a `repeat`.
-fn turned(until: &Option<Expr>, env: Env, from: Reached) -> Result<Reached, CountFault>
-    ensures count { IfOk result (λ r. r.count ≡ from.count + sizes.until_size env.entry.scopes.now (env_view env.entry) (option_map expr_view until.now)) }
+fn turned(until: &Option<Box<Expr>>, env: Env, from: Reached) -> Result<Reached, CountFault>
+    ensures count { IfOk result (λ r. r.count ≡
+        from.count + sizes.until_size env.entry.scopes.now (env_view env.entry) (option_map (λ e. expr_view e.value) until.now)) }
     ensures next { IfOk result (λ r. r.next ≡ from.next) }
     ensures large { IfErr result (λ f. f ≡ TooLarge →
-        200000 < from.count + sizes.until_size env.entry.scopes.now (env_view env.entry) (option_map expr_view until.now)) }
+        200000 < from.count + sizes.until_size env.entry.scopes.now (env_view env.entry) (option_map (λ e. expr_view e.value) until.now)) }
 {
     let count = match until {
         Some(e) => more(expr(e, env, from.count)?, 3)?,

@@ -67,6 +67,21 @@ pub fn expr(levels: u8, tokens: &[Token], alloc: Global) -> Result<(Expr, &[Toke
     }
 }
 
+/// An expression in a box, where so many levels are left, of which it takes one.
+#[cycle(exprs)]
+#[inline(never)]
+pub fn boxed_expr(
+    levels: u8,
+    tokens: &[Token],
+    alloc: Global,
+) -> Result<(Box<Expr>, &[Token]), Halt>
+    ensures gives { Gives (λ r. (expr_view r.0.value, r.1.now)) result (expr_at levels tokens.now) }
+    ensures kept { IfOk result (λ r. length r.1.now < length tokens.now) }
+{
+    let (e, rest) = expr(levels, tokens, alloc)?;
+    Ok((Box::new(alloc, e)?, rest))
+}
+
 /// `simple [("=" | "<>" | "<" | "<=" | ">" | ">=") simple]`, where so many levels are left for the factors in it
 #[cycle(exprs)]
 #[inline(always)]
@@ -104,7 +119,7 @@ fn related(
     ensures kept { IfOk result (λ r. length r.1.now < length tokens.now) }
 {
     let (right, rest) = simple(levels, tokens, alloc)?;
-    let right = Some((op, right));
+    let right = Some((op, Box::new(alloc, right)?));
     Ok((Expr { left, right, place }, rest))
 }
 
@@ -307,9 +322,9 @@ fn paren_behind(
     ensures gives { Gives (λ r. (factor_view r.0, r.1.now)) result (paren_behind (expr_at levels) place tokens.now) }
     ensures kept { IfOk result (λ r. length r.1.now ≤ length tokens.now) }
 {
-    let (inner, rest) = expr(levels, tokens, alloc)?;
+    let (inner, rest) = boxed_expr(levels, tokens, alloc)?;
     let (_, rest) = expect_sign(rest, sign::CLOSE_PAREN)?;
-    Ok((Factor::Paren(Box::new(alloc, inner)?, place), rest))
+    Ok((Factor::Paren(inner, place), rest))
 }
 
 /// `desig [actuals]`, behind its name, which stands at `place`
@@ -496,7 +511,7 @@ fn wide(
     ensures kept { IfOk result (λ r. length r.1.now < length tokens.now) }
 {
     let (width, rest) = expr(levels, tokens, alloc)?;
-    let width = Some(width);
+    let width = Some(Box::new(alloc, width)?);
     Ok((Actual { value, width }, rest))
 }
 

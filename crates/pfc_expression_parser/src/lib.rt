@@ -6,4 +6,4 @@
 
 mod exprs;
 
-pub use exprs::{actuals, desig, desig_behind, expr};
+pub use exprs::{actuals, boxed_expr, desig, desig_behind, expr};

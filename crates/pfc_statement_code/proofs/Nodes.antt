@@ -28,21 +28,23 @@ pub alt_view-out : (a : Alt) → alt_view a ≡ alt (out-Alt a).spread (option_m
     (comm_view (out-Alt a).comm) (stmts_view (out-Alt a).rest.items)
 alt_view-out a = fold_out-Alt CommTree StmtTree AcceptTree AltTree BodyTree ArmTree comm_step stmt_step accept_step alt_step body_step arm_step a
 
-choice : (e : Expr) (then o : Box Stmt Global) (p : Place) →
-    stmt_view (If e then (Some o) p) ≡ if_then_else (expr_view e) (stmt_view then.value) (stmt_view o.value) p
+choice : (e : Box Expr Global) (then o : Box Stmt Global) (p : Place) →
+    stmt_view (If e then (Some o) p) ≡ if_then_else (expr_view e.value) (stmt_view then.value) (stmt_view o.value) p
 unfolding tree.out-Stmt denote.Hole.Carrier.out
 choice e then o p =
     fold_out-Stmt CommTree StmtTree AcceptTree AltTree BodyTree ArmTree comm_step stmt_step accept_step alt_step body_step arm_step (If e then (Some o) p)
 
 -- a choice of two statements
 pub stmt_view-choice :
-    (s : Stmt) (e : Expr) (then : Box Stmt Global) (other : Option (Box Stmt Global)) (o : Box Stmt Global) (p : Place) (one two : Stmt)
-    → s ≡ If e then other p → other ≡ Some o → one ≡ then.value → two ≡ o.value
-    → stmt_view s ≡ if_then_else (expr_view e) (stmt_view one) (stmt_view two) p
-stmt_view-choice s e then other o p one two is some first second =
+    (s : Stmt) (e : Box Expr Global) (then : Box Stmt Global) (other : Option (Box Stmt Global)) (o : Box Stmt Global) (p : Place) (test : Expr)
+    (one two : Stmt)
+    → s ≡ If e then other p → other ≡ Some o → test ≡ e.value → one ≡ then.value → two ≡ o.value
+    → stmt_view s ≡ if_then_else (expr_view test) (stmt_view one) (stmt_view two) p
+stmt_view-choice s e then other o p test one two is some tested first second =
     ap stmt_view (is ∙ ap (λ (x : Option (Box Stmt Global)). If e then x p) some)
     ∙ choice e then o p
-    ∙ ap₂ (λ (x y : Stmt). if_then_else (expr_view e) (stmt_view x) (stmt_view y) p) (sym first) (sym second)
+    ∙ ap (λ (x : Expr). if_then_else (expr_view x) (stmt_view then.value) (stmt_view o.value) p) (sym tested)
+    ∙ ap₂ (λ (x y : Stmt). if_then_else (expr_view test) (stmt_view x) (stmt_view y) p) (sym first) (sym second)
 
 else_view :
     (pri : Bool) (alts : Vec Alt Global) (o : Vec Stmt Global × Place) (p q : Place)
@@ -53,8 +55,8 @@ else_view pri alts o p q =
     (layer.Select pri alts (Some o) p q)
 
 for_view :
-    (x : Text) (a : Expr) (down : Bool) (b : Expr) (r : Box Stmt Global) (p q : Place)
-    → stmt_view (For x a down b r p q) ≡ for_do x (expr_view a) down (expr_view b) (stmt_view r.value) p q
+    (x : Text) (a : Box Expr Global) (down : Bool) (b : Box Expr Global) (r : Box Stmt Global) (p q : Place)
+    → stmt_view (For x a down b r p q) ≡ for_do x (expr_view a.value) down (expr_view b.value) (stmt_view r.value) p q
 for_view x a down b r p q =
     ap stmt_view (sym (rolls-For x a down b r p q))
     ∙ fold-roll-Stmt CommTree StmtTree AcceptTree AltTree BodyTree ArmTree comm_step stmt_step accept_step alt_step body_step arm_step
@@ -62,10 +64,13 @@ for_view x a down b r p q =
 
 -- a `for`
 pub stmt_view-for :
-    (s : Stmt) (x : Text) (a : Expr) (down : Bool) (b : Expr) (r : Box Stmt Global) (p q : Place) (one : Stmt)
-    → s ≡ For x a down b r p q → one ≡ r.value → stmt_view s ≡ for_do x (expr_view a) down (expr_view b) (stmt_view one) p q
-stmt_view-for s x a down b r p q one is first =
-    ap stmt_view is ∙ for_view x a down b r p q ∙ ap (λ (y : Stmt). for_do x (expr_view a) down (expr_view b) (stmt_view y) p q) (sym first)
+    (s : Stmt) (x : Text) (a : Box Expr Global) (down : Bool) (b : Box Expr Global) (r : Box Stmt Global) (p q : Place) (low high : Expr) (one : Stmt)
+    → s ≡ For x a down b r p q → low ≡ a.value → high ≡ b.value → one ≡ r.value
+    → stmt_view s ≡ for_do x (expr_view low) down (expr_view high) (stmt_view one) p q
+stmt_view-for s x a down b r p q low high one is first last inner =
+    ap stmt_view is ∙ for_view x a down b r p q
+    ∙ ap₂ (λ (y z : Expr). for_do x (expr_view y) down (expr_view z) (stmt_view r.value) p q) (sym first) (sym last)
+    ∙ ap (λ (y : Stmt). for_do x (expr_view low) down (expr_view high) (stmt_view y) p q) (sym inner)
 
 accepting_view : (a : Accept) (p : Place) → stmt_view (tree.Accept a p) ≡ accepting (accept_view a) p
 accepting_view a p =

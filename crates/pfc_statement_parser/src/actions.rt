@@ -12,7 +12,7 @@ ghost use Rattle.pfc_grammar.specs.placed.Stmts as reader;
 ghost use Rattle.pfc_token_parser.specs.Giving.{Gives};
 
 use pfc_base::{Name, Place, Token, sign, word};
-use pfc_expression_parser::{actuals, desig, desig_behind, expr};
+use pfc_expression_parser::{actuals, boxed_expr, desig, desig_behind, expr};
 use pfc_token_parser::{Halt, expect_name, expect_sign, name, sign, word};
 use pfc_tree::{Comm, Desig, Stmt};
 use std::alloc::Global;
@@ -49,7 +49,7 @@ pub(crate) fn action_behind<'a>(
     let copy = x.copy(alloc)?;
     let (target, rest) = desig_behind(levels, (copy, first), tokens, alloc)?;
     if let Some((place, behind)) = sign(rest, sign::BECOMES) {
-        let (value, rest) = expr(levels, behind, alloc)?;
+        let (value, rest) = boxed_expr(levels, behind, alloc)?;
         return Ok((Stmt::Assign(target, value, first, place), rest));
     }
     message_or_call(levels, target, first, rest, alloc)
@@ -73,12 +73,15 @@ fn message_or_call(
     ensures kept { IfOk result (λ r. length r.1.now ≤ length tokens.now) }
 {
     if let Some((place, behind)) = sign(tokens, sign::SEND) {
-        let (value, rest) = expr(levels, behind, alloc)?;
+        let (value, rest) = boxed_expr(levels, behind, alloc)?;
         return Ok((Stmt::Send(target, value, first, place), rest));
     }
     if let Some((place, behind)) = sign(tokens, sign::RECEIVE) {
         let (variable, rest) = desig(levels, behind, alloc)?;
-        return Ok((Stmt::Receive(target, variable, first, place), rest));
+        return Ok((
+            Stmt::Receive(target, Box::new(alloc, variable)?, first, place),
+            rest,
+        ));
     }
     let (args, rest) = actuals(levels, tokens, alloc)?;
     Ok((Stmt::Call(target, args, first), rest))

@@ -16,7 +16,7 @@ ghost use Rattle.pfc_token_parser.specs.Giving.{Gives, sees};
 ghost use Rattle.pfc_grammar.specs.Heads.{begins_stmt};
 
 use pfc_base::{Kind, Name, Place, Token, sign, word};
-use pfc_expression_parser::expr;
+use pfc_expression_parser::{boxed_expr, expr};
 use pfc_token_parser::{Halt, direction, expect_name, expect_sign, expect_word, name, sign, word};
 use pfc_tree::{Accept, Alt, Comm, Constant, Expr, Group, Spread, Stmt};
 use pfc_type_parser::{constant, formals};
@@ -26,15 +26,15 @@ use std::alloc::Global;
 #[derive(Drop)]
 pub(crate) struct ForHead {
     variable: (Name, Place),
-    from: Expr,
+    from: Box<Expr>,
     down: bool,
-    to: Expr,
+    to: Box<Expr>,
 }
 
 impl ForHead {
     /// The `for` at `place` with the statement that it repeats.
     pub(crate) fn repeating(self, repeated: Box<Stmt>, place: Place) -> Stmt
-        ensures { stmt_view result ≡ for_do self.variable.0 (expr_view self.from) self.down (expr_view self.to)
+        ensures { stmt_view result ≡ for_do self.variable.0 (expr_view self.from.value) self.down (expr_view self.to.value)
             (stmt_view repeated.value) place self.variable.1 }
     {
         let (name, at) = self.variable;
@@ -155,11 +155,11 @@ pub(crate) fn test_before(
     w: u8,
     tokens: &[Token],
     alloc: Global,
-) -> Result<(Expr, &[Token]), Halt>
-    ensures gives { Gives (λ r. (expr_view r.0, r.1.now)) result (reader.test_before (expr_at levels) w tokens.now) }
+) -> Result<(Box<Expr>, &[Token]), Halt>
+    ensures gives { Gives (λ r. (expr_view r.0.value, r.1.now)) result (reader.test_before (expr_at levels) w tokens.now) }
     ensures kept { IfOk result (λ r. length r.1.now ≤ length tokens.now) }
 {
-    let (test, rest) = expr(levels, tokens, alloc)?;
+    let (test, rest) = boxed_expr(levels, tokens, alloc)?;
     let (_, rest) = expect_word(rest, w)?;
     Ok((test, rest))
 }
@@ -180,15 +180,15 @@ pub(crate) fn for_head(
     tokens: &[Token],
     alloc: Global,
 ) -> Result<(ForHead, &[Token]), Halt>
-    ensures gives { Gives (λ r. ((r.0.variable, expr_view r.0.from, r.0.down, expr_view r.0.to), r.1.now)) result
+    ensures gives { Gives (λ r. ((r.0.variable, expr_view r.0.from.value, r.0.down, expr_view r.0.to.value), r.1.now)) result
         (reader.for_head (expr_at levels) tokens.now) }
     ensures kept { IfOk result (λ r. length r.1.now ≤ length tokens.now) }
 {
     let (variable, rest) = expect_name(tokens, alloc)?;
     let (_, rest) = expect_sign(rest, sign::BECOMES)?;
-    let (from, rest) = expr(levels, rest, alloc)?;
+    let (from, rest) = boxed_expr(levels, rest, alloc)?;
     let ((down, _), rest) = expect_direction(rest)?;
-    let (to, rest) = expr(levels, rest, alloc)?;
+    let (to, rest) = boxed_expr(levels, rest, alloc)?;
     let (_, rest) = expect_word(rest, word::DO)?;
     let head = ForHead {
         variable,

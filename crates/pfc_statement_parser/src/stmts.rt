@@ -12,7 +12,7 @@ ghost use Rattle.pfc_token_parser.specs.Giving.{Gives};
 use crate::actions::{action_behind, action_or_nothing, comm_plain, requeue_behind};
 use crate::heads::{accept_head, alt_head, for_head, labels, no_stmt, test_before};
 use pfc_base::{Place, Token, sign, word};
-use pfc_expression_parser::expr;
+use pfc_expression_parser::boxed_expr;
 use pfc_token_parser::{Halt, expect_word, is_word, name, sign, word};
 use pfc_tree::{Accept, Alt, Body, CaseArm, Comm, Stmt};
 use std::alloc::Global;
@@ -278,7 +278,7 @@ fn repeat_behind(
 {
     let (stmts, rest) = stmts(levels, tokens, alloc)?;
     if let Some((_, behind)) = word(rest, word::UNTIL) {
-        let (test, rest) = expr(levels, behind, alloc)?;
+        let (test, rest) = boxed_expr(levels, behind, alloc)?;
         return Ok((Stmt::Repeat(stmts, Some(test), place), rest));
     }
     let (_, rest) = expect_word(rest, word::FOREVER)?;

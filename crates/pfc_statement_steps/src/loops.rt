@@ -65,11 +65,11 @@ pub(crate) fn begin_repeat<'t>(
     n: u32,
     s: OneStmt<'t>,
     ss: &'t Vec<Stmt>,
-    test: &'t Option<Expr>,
+    test: &'t Option<Box<Expr>>,
     place: Place,
 ) -> Begun<'t>
-    ensures { (t : Tables) (env : Known) (w : Waiting) → stmt_at s.entry ≡ repeat_of (stmts_view ss.now.items) (option_map expr_view test.now) place →
-        begun_ahead t env w result ≡ from_stmt env n (repeat_of (stmts_view ss.now.items) (option_map expr_view test.now) place) (remainder_of w)
+    ensures { (t : Tables) (env : Known) (w : Waiting) → stmt_at s.entry ≡ repeat_of (stmts_view ss.now.items) (option_map (λ e. expr_view e.value) test.now) place →
+        begun_ahead t env w result ≡ from_stmt env n (repeat_of (stmts_view ss.now.items) (option_map (λ e. expr_view e.value) test.now) place) (remainder_of w)
         (from_remainder env (remainder_of w)) }
 {
     match test {

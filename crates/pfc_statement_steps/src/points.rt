@@ -297,8 +297,8 @@ fn until<'t>(n: u32, s: OneStmt<'t>, found: Option<&'t Stmt>) -> Begun<'t>
 
 /// The test of a `repeat`, which belongs to it and has its line; without one there is nothing.
 #[tactic(auto, using(crate::proofs::Repeats::tests))]
-fn test_again<'t>(n: u32, s: OneStmt<'t>, test: &'t Option<Expr>, place: Place) -> Begun<'t>
-    ensures { (t : Tables) (env : Known) (w : Waiting) (ss : StmtTrees) → repeat_of ss (option_map expr_view test.now) place ≡ stmt_at s.entry →
+fn test_again<'t>(n: u32, s: OneStmt<'t>, test: &'t Option<Box<Expr>>, place: Place) -> Begun<'t>
+    ensures { (t : Tables) (env : Known) (w : Waiting) (ss : StmtTrees) → repeat_of ss (option_map (λ e. expr_view e.value) test.now) place ≡ stmt_at s.entry →
         begun_ahead t env w result ≡ from_remainder env (until_of n (stmt_at s.entry) (remainder_of w)) }
 {
     match test {

@@ -189,16 +189,16 @@ pub enum Stmt {
     /// `begin x := 1 end`
     Block(Body, Place),
     /// `if b then x := 1 else x := 2`
-    If(Expr, Box<Stmt>, Option<Box<Stmt>>, Place),
+    If(Box<Expr>, Box<Stmt>, Option<Box<Stmt>>, Place),
     /// `case n of 1, 2: x := 1; 3: x := 2; end`, with whether a last `;` stands before `end`
-    Case(Expr, Vec<CaseArm>, bool, Place),
+    Case(Box<Expr>, Vec<CaseArm>, bool, Place),
     /// `while b do x := 1`
-    While(Expr, Box<Stmt>, Place),
+    While(Box<Expr>, Box<Stmt>, Place),
     /// `repeat x := 1 until b`, or `repeat x := 1 forever`
-    Repeat(Vec<Stmt>, Option<Expr>, Place),
+    Repeat(Vec<Stmt>, Option<Box<Expr>>, Place),
     /// `for i := 1 to 9 do x := 1`, or with `downto`, where the flag says so. Its last field is the place of the
     /// variable.
-    For(Name, Expr, bool, Expr, Box<Stmt>, Place, Place),
+    For(Name, Box<Expr>, bool, Box<Expr>, Box<Stmt>, Place, Place),
     /// `cobegin p; q coend`, with the place of `coend` before its own
     Cobegin(Vec<Stmt>, Place, Place),
     /// `accept e (n: integer) do x := n`
@@ -209,11 +209,11 @@ pub enum Stmt {
     /// `else`. Its last field is the place of `select`.
     Select(bool, Vec<Alt>, Option<(Vec<Stmt>, Place)>, Place, Place),
     /// `x := 1`. Its last field is the place of `:=`.
-    Assign(Desig, Expr, Place, Place),
+    Assign(Desig, Box<Expr>, Place, Place),
     /// `c ! 1`. Its last field is the place of `!`.
-    Send(Desig, Expr, Place, Place),
+    Send(Desig, Box<Expr>, Place, Place),
     /// `c ? x`. Its last field is the place of `?`.
-    Receive(Desig, Desig, Place, Place),
+    Receive(Desig, Box<Desig>, Place, Place),
     /// `p (1, 2)`
     Call(Desig, Vec<Actual>, Place),
 }
@@ -277,7 +277,7 @@ pub enum Comm {
 #[cycle(exprs)]
 pub struct Expr {
     pub left: Simple,
-    pub right: Option<((Relation, Place), Simple)>,
+    pub right: Option<((Relation, Place), Box<Simple>)>,
     pub place: Place,
 }
 
@@ -366,5 +366,5 @@ pub enum Selector {
 #[cycle(exprs)]
 pub struct Actual {
     pub value: Expr,
-    pub width: Option<Expr>,
+    pub width: Option<Box<Expr>>,
 }

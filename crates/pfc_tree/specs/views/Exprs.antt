@@ -1,5 +1,5 @@
 -- The program's expressions read as plain trees: each list of the program as a list, each box as its content.
-use Rattle.std.specs.Prelude.{Option, Some, None, List, [], ◌∷◌, map}
+use Rattle.std.specs.Prelude.{Option, Some, None, List, [], ◌∷◌, map, option_map}
 use Rattle.pfc_base.specs.declared.places.Place.{Place}
 use Rattle.pfc_tree.specs.declared.tree.Relation.{Relation}
 use Rattle.pfc_tree.specs.declared.tree.AddOp.{AddOp}
@@ -59,13 +59,13 @@ selector_step (layer.Index es p) = index (exprs_of es.items) p
 selector_step (layer.Field x p) = field x p
 
 abbrev pub actual_step : Actual-F FactorTree SelectorTree ActualTree DesigTree ExprTree SimpleTree TermTree → ActualTree
-actual_step a = actual_of a.value a.width
+actual_step a = actual_of a.value (option_map (λ width. width.value) a.width)
 
 abbrev pub desig_step : Desig-F FactorTree SelectorTree ActualTree DesigTree ExprTree SimpleTree TermTree → DesigTree
 desig_step d = desig d.name (selectors_of d.selectors.items) d.place
 
 abbrev pub expr_step : Expr-F FactorTree SelectorTree ActualTree DesigTree ExprTree SimpleTree TermTree → ExprTree
-expr_step e = expr_of e.left e.right e.place
+expr_step e = expr_of e.left (option_map (λ r. (r.0, r.1.value)) e.right) e.place
 
 abbrev pub simple_step : Simple-F FactorTree SelectorTree ActualTree DesigTree ExprTree SimpleTree TermTree → SimpleTree
 simple_step s = sum s.sign s.first (summands_of s.rest.items)

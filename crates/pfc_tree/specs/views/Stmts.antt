@@ -62,18 +62,18 @@ abbrev pub stmt_step : Stmt-F CommTree StmtTree AcceptTree AltTree BodyTree ArmT
 stmt_step layer.Empty = empty
 stmt_step (layer.Null p) = null p
 stmt_step (layer.Block b p) = block b p
-stmt_step (layer.If e s other p) = if_of (expr_view e) s.value other p
-stmt_step (layer.Case e arms last p) = case_of (expr_view e) (arms_of arms.items) last p
-stmt_step (layer.While e s p) = while_do (expr_view e) s.value p
-stmt_step (layer.Repeat ss e p) = repeat_of (stmts_of ss.items) (option_map expr_view e) p
-stmt_step (layer.For x from down to s p q) = for_do x (expr_view from) down (expr_view to) s.value p q
+stmt_step (layer.If e s other p) = if_of (expr_view e.value) s.value other p
+stmt_step (layer.Case e arms last p) = case_of (expr_view e.value) (arms_of arms.items) last p
+stmt_step (layer.While e s p) = while_do (expr_view e.value) s.value p
+stmt_step (layer.Repeat ss e p) = repeat_of (stmts_of ss.items) (option_map (λ test. expr_view test.value) e) p
+stmt_step (layer.For x from down to s p q) = for_do x (expr_view from.value) down (expr_view to.value) s.value p q
 stmt_step (layer.Cobegin ss last p) = cobegin (stmts_of ss.items) last p
 stmt_step (layer.Stmt::Accept a p) = accepting a p
 stmt_step (layer.Requeue x args p) = requeue x (actuals_view args.items) p
 stmt_step (layer.Select pri alts other p q) = select_of pri (alts_of alts.items) other p q
-stmt_step (layer.Assign d e p q) = assign (desig_view d) (expr_view e) p q
-stmt_step (layer.Stmt::Send d e p q) = send (desig_view d) (expr_view e) p q
-stmt_step (layer.Stmt::Receive d v p q) = receive (desig_view d) (desig_view v) p q
+stmt_step (layer.Assign d e p q) = assign (desig_view d) (expr_view e.value) p q
+stmt_step (layer.Stmt::Send d e p q) = send (desig_view d) (expr_view e.value) p q
+stmt_step (layer.Stmt::Receive d v p q) = receive (desig_view d) (desig_view v.value) p q
 stmt_step (layer.Call d args p) = call (desig_view d) (actuals_view args.items) p
 
 abbrev pub accept_step : Accept-F CommTree StmtTree AcceptTree AltTree BodyTree ArmTree → AcceptTree

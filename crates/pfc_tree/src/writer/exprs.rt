@@ -1,8 +1,10 @@
 //! The writing of expressions.
 ghost use Rattle.std.specs.Prelude.{◌≡◌, List, [], ◌∷◌, ◌++◌, OnOk};
 ghost use Rattle.pfc_tree.specs.Symbols.{Adds};
-ghost use Rattle.pfc_tree.specs.tokens.Exprs.{sign_symbol, relation_symbol, add_symbol, mul_symbol, expr_tokens, simple_tokens, term_tokens, factor_tokens, desig_tokens, selector_tokens, exprs_tokens, actuals_tokens, actual_tokens};
-ghost use Rattle.pfc_tree.specs.Readings.{expr_shape, simple_shape, term_shape, factor_shape, desig_shape, selector_shape, exprs_shape, actuals_shape, actual_shape};
+ghost use Rattle.pfc_tree.specs.tokens.Exprs.{sign_symbol, relation_symbol, add_symbol, mul_symbol, expr_tokens, simple_tokens, term_tokens, factor_tokens};
+ghost use Rattle.pfc_tree.specs.tokens.Exprs.{desig_tokens, selector_tokens, exprs_tokens, actuals_tokens, actual_tokens};
+ghost use Rattle.pfc_tree.specs.Readings.{expr_shape, simple_shape, term_shape, factor_shape, desig_shape, selector_shape, exprs_shape, actuals_shape};
+ghost use Rattle.pfc_tree.specs.Readings.{actual_shape};
 
 use crate::tree::{
     Actual, AddOp, Desig, Expr, Factor, MulOp, Relation, Selector, Sign, Simple, Term,

@@ -4,8 +4,10 @@ ghost use Rattle.pfc_base.specs.declared.tokens.Kind.TheVariants as token;
 ghost use Rattle.pfc_base.specs.declared.word.TheConstants as words;
 ghost use Rattle.pfc_tree.specs.Symbols.{Adds};
 ghost use Rattle.pfc_tree.specs.forget.Types.{bare};
-ghost use Rattle.pfc_tree.specs.tokens.Parts.{exports_tokens, entries_tokens, many_tokens, heading_tokens, part_tokens, parts_tokens, sub_tokens, module_tokens, process_tokens, params_tokens, tokens_of};
-ghost use Rattle.pfc_tree.specs.Readings.{groups_shape, kind_shape, exports_shape, entries_shape, part_shape, parts_shape, sub_shape, module_shape, process_shape, tree_shape};
+ghost use Rattle.pfc_tree.specs.tokens.Parts.{exports_tokens, entries_tokens, many_tokens, heading_tokens, part_tokens, parts_tokens, sub_tokens};
+ghost use Rattle.pfc_tree.specs.tokens.Parts.{module_tokens, process_tokens, params_tokens, tokens_of};
+ghost use Rattle.pfc_tree.specs.Readings.{groups_shape, kind_shape, exports_shape, entries_shape, part_shape, parts_shape, sub_shape, module_shape};
+ghost use Rattle.pfc_tree.specs.Readings.{process_shape, tree_shape};
 
 use crate::tree::{Entry, Group, Module, Part, Process, Sub, SubKind, Tree};
 use crate::writer::Writer;

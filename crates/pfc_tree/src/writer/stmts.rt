@@ -6,8 +6,10 @@ ghost use Rattle.pfc_base.specs.declared.sign.TheConstants as signs;
 ghost use Rattle.pfc_tree.specs.Symbols.{Adds};
 ghost use Rattle.pfc_tree.specs.forget.Stmts.{forget_spread};
 ghost use Rattle.pfc_tree.specs.tokens.Exprs.{expr_tokens, desig_tokens, actuals_tokens};
-ghost use Rattle.pfc_tree.specs.tokens.Stmts.{direction_symbol, pri_tokens, spread_tokens, stmt_tokens, stmts_tokens, body_tokens, arm_tokens, arms_tokens, accept_tokens, alt_tokens, comm_tokens, alts_tokens};
-ghost use Rattle.pfc_tree.specs.Readings.{expr_shape, desig_shape, actuals_shape, stmt_shape, stmts_shape, body_shape, arm_shape, arms_shape, accept_shape, alt_shape, comm_shape, alts_shape};
+ghost use Rattle.pfc_tree.specs.tokens.Stmts.{direction_symbol, pri_tokens, spread_tokens, stmt_tokens, stmts_tokens, body_tokens, arm_tokens, arms_tokens};
+ghost use Rattle.pfc_tree.specs.tokens.Stmts.{accept_tokens, alt_tokens, comm_tokens, alts_tokens};
+ghost use Rattle.pfc_tree.specs.Readings.{expr_shape, desig_shape, actuals_shape, stmt_shape, stmts_shape, body_shape, arm_shape, arms_shape, accept_shape};
+ghost use Rattle.pfc_tree.specs.Readings.{alt_shape, comm_shape, alts_shape};
 
 use crate::tree::{Accept, Actual, Alt, Body, CaseArm, Comm, Desig, Expr, Spread, Stmt};
 use crate::writer::Writer;

@@ -2,7 +2,9 @@
 ghost use Rattle.std.specs.Prelude.{◌≡◌, List, [], ◌∷◌, ◌++◌, map, OnOk};
 ghost use Rattle.pfc_tree.specs.Symbols.{Adds};
 ghost use Rattle.pfc_tree.specs.forget.Types.{bare, forget_constant, forget_range, forget_const_item};
-ghost use Rattle.pfc_tree.specs.tokens.Types.{comma_names_tokens, names_tokens, constant_tokens, constants_tokens, range_tokens, ranges_tokens, last_tokens, type_tokens, var_tokens, fields_tokens, vars_tokens, const_items_tokens, type_items_tokens, group_tokens, formals_tokens};
+ghost use Rattle.pfc_tree.specs.tokens.Types.{comma_names_tokens, names_tokens, constant_tokens, constants_tokens, range_tokens, ranges_tokens};
+ghost use Rattle.pfc_tree.specs.tokens.Types.{last_tokens, type_tokens, var_tokens, fields_tokens, vars_tokens, const_items_tokens, type_items_tokens};
+ghost use Rattle.pfc_tree.specs.tokens.Types.{group_tokens, formals_tokens};
 ghost use Rattle.pfc_tree.specs.Readings.{type_shape, var_shape, vars_shape, type_items_shape, group_shape, groups_shape};
 
 use crate::tree::{ConstItem, Constant, Group, Range, TypeItem, TypeNode, VarItem};

@@ -12,6 +12,9 @@ use Rattle.pfc_expression_parser.proofs.exprs.+exprs.Given as goal
 abbrev pub decreases-expr : goal.decreases-expr
 decreases-expr l = 40 * l.levels
 
+abbrev pub decreases-boxed_expr : goal.decreases-boxed_expr
+decreases-boxed_expr l = 40 * l.levels + 1
+
 abbrev pub decreases-relating : goal.decreases-relating
 decreases-relating l = 40 * l.levels + 35
 

@@ -313,11 +313,11 @@ stmt-returns-in_err-next-in-Some-clause-large t c =
     let s = site_view c.args.from.site in
     let n = c.args.from.next in
     let p = c.in-If.place in
-    let e = expr_view c.in-If.e in
+    let e = expr_view c.deref-in-Some-2.result.now in
     let one = stmt_view c.deref-in-Some.result.now in
     let two = stmt_view c.in-Some.other.value in
-    let seen = stmt_view-choice c.args.s.now c.in-If.e c.in-If.then c.in-If.other c.in-Some.other p c.deref-in-Some.result.now c.in-Some.other.value
-    c.in-If.is c.in-Some.is c.deref-in-Some.ensures refl in
+    let seen = stmt_view-choice c.args.s.now c.in-If.e c.in-If.then c.in-If.other c.in-Some.other p c.deref-in-Some-2.result.now c.deref-in-Some.result.now
+    c.in-Some.other.value c.in-If.is c.in-Some.is c.deref-in-Some-2.ensures c.deref-in-Some.ensures refl in
     refused c.from_residual.result c.in_err-next-in-Some.field-0.0 (stmt_code s n (stmt_view c.args.s.now)) c.args.code.now c.from_residual.ensures.1
     (λ full. subst (λ v. IsTooLarge (stmt_code s n v) c.args.code.now) (sym seen)
     (choice_refused (at_line s p.line) e one two n c.args.code.now
@@ -331,11 +331,11 @@ stmt-returns-in_ok-next-in-Some-clause-code t c =
     let n = c.args.from.next in
     let p = c.in-If.place in
     let q = at_line s p.line in
-    let e = expr_view c.in-If.e in
+    let e = expr_view c.deref-in-Some-2.result.now in
     let one = stmt_view c.deref-in-Some.result.now in
-    let two = stmt_view c.deref-in-Some-2.result.now in
-    let seen = stmt_view-choice c.args.s.now c.in-If.e c.in-If.then c.in-If.other c.in-Some.other p c.deref-in-Some.result.now c.deref-in-Some-2.result.now
-    c.in-If.is c.in-Some.is c.deref-in-Some.ensures c.deref-in-Some-2.ensures in
+    let two = stmt_view c.deref-in-Some-3.result.now in
+    let seen = stmt_view-choice c.args.s.now c.in-If.e c.in-If.then c.in-If.other c.in-Some.other p c.deref-in-Some-2.result.now c.deref-in-Some.result.now
+    c.deref-in-Some-3.result.now c.in-If.is c.in-Some.is c.deref-in-Some-2.ensures c.deref-in-Some.ensures c.deref-in-Some-3.ensures in
     let x = c.args.code.now in
     let y = c.first_choice.new.code in
     let z = c.otherwise.new.code in
@@ -353,11 +353,11 @@ stmt-returns-in_ok-next-in-Some-clause-large t c =
     let n = c.args.from.next in
     let p = c.in-If.place in
     let q = at_line s p.line in
-    let e = expr_view c.in-If.e in
+    let e = expr_view c.deref-in-Some-2.result.now in
     let one = stmt_view c.deref-in-Some.result.now in
-    let two = stmt_view c.deref-in-Some-2.result.now in
-    let seen = stmt_view-choice c.args.s.now c.in-If.e c.in-If.then c.in-If.other c.in-Some.other p c.deref-in-Some.result.now c.deref-in-Some-2.result.now
-    c.in-If.is c.in-Some.is c.deref-in-Some.ensures c.deref-in-Some-2.ensures in
+    let two = stmt_view c.deref-in-Some-3.result.now in
+    let seen = stmt_view-choice c.args.s.now c.in-If.e c.in-If.then c.in-If.other c.in-Some.other p c.deref-in-Some-2.result.now c.deref-in-Some.result.now
+    c.deref-in-Some-3.result.now c.in-If.is c.in-Some.is c.deref-in-Some-2.ensures c.deref-in-Some.ensures c.deref-in-Some-3.ensures in
     let x = c.args.code.now in
     let y = c.first_choice.new.code in
     let first = subst (λ k. IsMade (forms.first_choice q e (stmt_code q k one)) x y) c.at-from.ensures.next
@@ -374,9 +374,10 @@ pub stmt-returns-in_ok-next-in-Some-clause-next : goal.stmt-returns-in_ok-next-i
 stmt-returns-in_ok-next-in-Some-clause-next t c =
     let n = c.args.from.next in
     let one = stmt_view c.deref-in-Some.result.now in
-    let two = stmt_view c.deref-in-Some-2.result.now in
-    let seen = stmt_view-choice c.args.s.now c.in-If.e c.in-If.then c.in-If.other c.in-Some.other c.in-If.place c.deref-in-Some.result.now
-    c.deref-in-Some-2.result.now c.in-If.is c.in-Some.is c.deref-in-Some.ensures c.deref-in-Some-2.ensures in
+    let two = stmt_view c.deref-in-Some-3.result.now in
+    let seen = stmt_view-choice c.args.s.now c.in-If.e c.in-If.then c.in-If.other c.in-Some.other c.in-If.place c.deref-in-Some-2.result.now
+    c.deref-in-Some.result.now c.deref-in-Some-3.result.now c.in-If.is c.in-Some.is c.deref-in-Some-2.ensures c.deref-in-Some.ensures
+    c.deref-in-Some-3.ensures in
     let scope = c.in_ok-next-in-Some.ensures.next ∙ ap (λ k. k + scopes_in one) c.at-from.ensures.next in
     subst (λ v. IfOk c.otherwise.result (λ m. m ≡ n + scopes_in v)) (sym seen)
     (choice_next c.otherwise.result n (scopes_in one) (scopes_in two) c.in_ok-next-in-Some.next scope c.otherwise.ensures.next)
@@ -386,13 +387,13 @@ stmt-returns-in-For-clause-code t c =
     let s = site_view c.args.from.site in
     let n = c.args.from.next in
     let p = c.in-For.place in
-    let a = expr_view c.in-For.low in
-    let b = expr_view c.in-For.high in
+    let a = expr_view c.deref-in-For-2.result.now in
+    let b = expr_view c.deref-in-For-3.result.now in
     let one = stmt_view c.deref-in-For.result.now in
     let x = c.args.code.now in
     let z = c.for_do.new.code in
-    let seen = stmt_view-for c.args.s.now c.in-For.name c.in-For.low c.in-For.down c.in-For.high c.in-For.repeated p _ c.deref-in-For.result.now c.in-For.is
-    c.deref-in-For.ensures in
+    let seen = stmt_view-for c.args.s.now c.in-For.name c.in-For.low c.in-For.down c.in-For.high c.in-For.repeated p _ c.deref-in-For-2.result.now
+    c.deref-in-For-3.result.now c.deref-in-For.result.now c.in-For.is c.deref-in-For-2.ensures c.deref-in-For-3.ensures c.deref-in-For.ensures in
     subst (λ v. OnOk c.for_do.result (IsMade (stmt_code s n v) x z)) (sym seen)
     (subst (λ k. OnOk c.for_do.result (IsMade (forms.for_do (at_line s p.line) c.in-For.name a c.in-For.down b (stmt_code (at_line s p.line) k one)) x z))
     c.at-in-For.ensures.next

@@ -32,7 +32,8 @@ OpenSo t q l x k o =
     t.does q l (going x.env (behind_open o k))
     × ((a : Accepting) → o.offer ≡ to_accept a → (caller : ℕ) → t.does q l (going x.env (meeting_of x a o caller k)))
 
--- It stays so whatever a process does next and whatever its line is, when it shows nothing more, when it ends or begins, and behind calls, returns and requeues.
+-- It stays so whatever a process does next and whatever its line is, when it shows nothing more, when it ends or
+-- begins, and behind calls, returns and requeues.
 pub record IsTold (t : Told) : Type 0 where
   pub works : (q : ℕ) (a : Activity) (doing : Doing) → t.does q a.activations doing → t.so q a → t.so q (at_work a doing)
   pub lined : (q : ℕ) (a : Activity) (line : ℕ) → t.so q a → t.so q (record a { line = line })

@@ -1,6 +1,7 @@
 -- Where accepts stand in a process: each is one of its block, and nothing that is in view where it stands, or is left behind it, has its parameters in view.
 --
--- Scopes are numbered in the order of the text. So wherever statements stand, whose next scope has some number, all names in view are of scopes before that, and
+-- Scopes are numbered in the order of the text. So wherever statements stand, whose next scope has some number, all
+-- names in view are of scopes before that, and
 -- so are those in view in what is left behind them.
 use Rattle.std.specs.Prelude.{ℕ, ◌≡◌, ◌≤◌, ◌<◌, ◌+◌, ◌==◌, true, List, Option, Some, None}
 use Rattle.std.specs.List.{list_any, AllByRecursion}

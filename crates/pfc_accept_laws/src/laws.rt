@@ -29,7 +29,8 @@ pub fn first_displays_come_back()
         → (activity_of g c q).display ≡ first_display g a.number (process_block g q) }
 {}
 
-/// Alternatives that a process shows behind a step it showed before, or it has just gone to offer them, in this step. While it settles nobody begins to show any,
+/// Alternatives that a process shows behind a step it showed before, or it has just gone to offer them, in this step.
+/// While it settles nobody begins to show any,
 /// and nobody shows any at the start.
 pub fn hands_show_what_was_offered()
     ensures start { (g : Program) (input : List ℕ) (seed q : ℕ) (x : Context) (os : List Open) (k : Remainder)
@@ -40,7 +41,8 @@ pub fn hands_show_what_was_offered()
         → ShowsOpen g (step g c p choice).config q x os k → ShowsOpen g c q x os k ⊎ ((q ≡ p) × IsToOffer g c p x os k) }
 {}
 
-/// Arguments that a process shows while it waits for an entry it showed before, waiting for it already, or it has just called the entry with them, in this step.
+/// Arguments that a process shows while it waits for an entry it showed before, waiting for it already, or it has
+/// just called the entry with them, in this step.
 /// While it settles nobody begins to show any, and nobody shows any at the start.
 pub fn hands_show_what_was_asked()
     ensures start { (g : Program) (input : List ℕ) (seed q owner entry ticket : ℕ) (values : List Value)
@@ -52,7 +54,8 @@ pub fn hands_show_what_was_asked()
         → ShowsArguments g c q owner entry ticket values ⊎ ((q ≡ p) × IsToAsk g c p owner entry values) }
 {}
 
-/// So what callers that wait for an entry pass by reference is a location, where that is so of each call when it is made. It is so where variables are given for
+/// So what callers that wait for an entry pass by reference is a location, where that is so of each call when it is
+/// made. It is so where variables are given for
 /// what the entry takes by reference.
 pub fn callers_pass_locations()
     ensures given { (g : Program) (c : Config) (p q entry : ℕ) (given : List Argument) → TakesVariables g q entry given
@@ -62,8 +65,10 @@ pub fn callers_pass_locations()
     ensures steps { (g : Program) (c : Config) (p choice : ℕ) → AllPass g c → Passes g c p → AllPass g (step g c p choice).config }
 {}
 
-/// What a process has still to do is placed where its statements stand before the scopes that they declare, and all that is left behind them has no such scope in
-/// view. So a process begins, so is its next action, and so is what it goes on with behind what it has offered; and an accept that comes is one of the block, and
+/// What a process has still to do is placed where its statements stand before the scopes that they declare, and all
+/// that is left behind them has no such scope in
+/// view. So a process begins, so is its next action, and so is what it goes on with behind what it has offered; and
+/// an accept that comes is one of the block, and
 /// its parameters are in view neither there nor in what is left behind it.
 pub fn accepts_stand_once()
     ensures begins { (b : Block) → IsBefore b.next b.env → stmts_scopes b.stmts ≡ b.accepts → PlacesRemainder b b.env (body_of b) }

@@ -19,7 +19,7 @@ use Rattle.pfc_semantics.specs.Store.{Store}
 use Rattle.pfc_semantics.specs.Displays.{Display}
 use Rattle.pfc_semantics.specs.Programs.{Program}
 use Rattle.pfc_semantics.specs.Remainders as remainders
-use Rattle.pfc_semantics.specs.Remainders.{Context, Remainder, Action, by_value, by_reference, to_accept}
+use Rattle.pfc_semantics.specs.Remainders.{Context, Remainder, Action, to_accept}
 use Rattle.pfc_semantics.specs.Alternatives.{context}
 use Rattle.pfc_semantics.specs.Channels.{Side, side_of}
 use Rattle.pfc_semantics.specs.Rendezvous.{called_at, met_by, enters}

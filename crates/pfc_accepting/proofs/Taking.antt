@@ -18,7 +18,7 @@ use Rattle.pfc_semantics.specs.Values.{Value}
 use Rattle.pfc_semantics.specs.Store.{Store, values_in, with_values}
 use Rattle.pfc_semantics.specs.Displays.{Frame, Display, frame_of}
 use Rattle.pfc_semantics.specs.Remainders as remainders
-use Rattle.pfc_semantics.specs.Remainders.{Context, Remainder, Action, perform, in_names, part_from}
+use Rattle.pfc_semantics.specs.Remainders.{Context, Remainder, perform, in_names, part_from}
 use Rattle.pfc_semantics.specs.Alternatives.{context}
 use Rattle.pfc_semantics.specs.Rewriting.{Doing, going, next, from_remainder}
 use Rattle.pfc_semantics.specs.Channels.{behind_replica}

@@ -1,5 +1,5 @@
 -- A process before an action, on both sides.
-use Rattle.std.proofs.Common.{◌≡◌, ℕ, ◌<◌, ◌*◌, ◌^◌, List, [], ◌∷◌, length, map, set, get_or, refl, sym, ap, ◌∙◌, subst, arith}
+use Rattle.std.proofs.Common.{◌≡◌, ℕ, ◌<◌, ◌*◌, ◌^◌, List, [], ◌∷◌, length, map, set, get_or, sym, ap, ◌∙◌, subst, arith}
 use Rattle.std.proofs.lemmas.List.{map-set, set-set, get_or-set_same, get_or_default, length-set}
 use Rattle.pfc_program.specs.declared.tables.Tables.{Tables}
 use Rattle.pfc_program.specs.declared.names.Names.{Names}
@@ -11,10 +11,8 @@ use Rattle.pfc_program.specs.Views.{names_view}
 use Rattle.pfc_sched.specs.Picks.{Picking}
 use Rattle.pfc_store.specs.Views.{store_view}
 use Rattle.pfc_semantics.specs.Alternatives.{context}
-use Rattle.pfc_semantics.specs.Programs.{Program}
 use Rattle.pfc_semantics.specs.Remainders.{Action}
 use Rattle.pfc_semantics.specs.Configurations.{Config, Hand}
-use Rattle.pfc_semantics.specs.Steps.{next_of}
 use Rattle.pfc_world.specs.Tables.{Table, at}
 use Rattle.pfc_world.specs.Tickets.{IsNew}
 use Rattle.pfc_activities.specs.declared.activities.Activity.{Activity}
@@ -22,7 +20,6 @@ use Rattle.pfc_activities.specs.declared.activities.Doing.{Doing}
 use Rattle.pfc_activities.specs.declared.changes.Done.{Done}
 use Rattle.pfc_activities.specs.declared.source.Source.{Source}
 use Rattle.pfc_activities.specs.declared.state.State.{State}
-use Rattle.pfc_activities.specs.Programs.{IsProgram}
 use Rattle.pfc_activities.specs.Shown.{Shown, activity_shown, activities_shown}
 use Rattle.pfc_activities.specs.Views.{doing_ahead, deed_of, hand_view}
 use Rattle.pfc_activities.specs.Relation.{Agrees, Stands, IsIn, shown_before, IsAt, MayAct, StaysAt, IsSameDoing}

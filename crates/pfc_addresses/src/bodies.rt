@@ -24,7 +24,8 @@ pub struct Body<'t, 'e> {
     ghost linked_held: { linked.items ≡ translation.linked addresses.now.program.now.tables.scopes.now block.now.names.view },
     ghost few_linked: { length linked.items < 2 ^ 32 },
     ghost cells_held: { cells ≡ cells_from addresses.now.program.now.tables.types.now 0 block.now.layout.items },
-    ghost accepts_held: { accepts ≡ accepts_from addresses.now.program.now.tables.scopes.now.scopes (length (laid_names (scope_at addresses.now.program.now.tables.scopes.now.scopes block.now.scope))) block.now.next block.now.accepts },
+    ghost accepts_held: { accepts ≡ accepts_from addresses.now.program.now.tables.scopes.now.scopes
+        (length (laid_names (scope_at addresses.now.program.now.tables.scopes.now.scopes block.now.scope))) block.now.next block.now.accepts },
     ghost few_accepts: { block.now.next + block.now.accepts < 2 ^ 32 },
 }
 

@@ -15,10 +15,9 @@ use Rattle.pfc_semantics.specs.Objects.{of_kind}
 use Rattle.pfc_semantics.specs.Programs.{Program}
 use Rattle.pfc_semantics.specs.Configurations as configurations
 use Rattle.pfc_semantics.specs.Configurations.{most_alternatives, main_activity, idle_activity, start}
-use Rattle.pfc_activities.specs.declared.activities.Activity.{Activity}
 use Rattle.pfc_activities.specs.declared.source.Source.{Source}
 use Rattle.pfc_activities.specs.declared.state.State.{State}
-use Rattle.pfc_activities.specs.Shown.{Shown, shown, activity_shown, activities_shown}
+use Rattle.pfc_activities.specs.Shown.{shown, activity_shown, activities_shown}
 use Rattle.pfc_activities.specs.Relation.{Stands}
 use Rattle.pfc_beginning.specs.Beginnings.{program_with}
 

@@ -3,7 +3,7 @@ use Rattle.std.proofs.Common.{◌≡◌, ◌≢◌, ℕ, zero, suc, ◌+◌, ◌
 use Rattle.std.proofs.Common.{subst}
 use Rattle.std.specs.Prelude.{nat_le, if◌then◌else◌}
 use Rattle.std.proofs.lemmas.Bool.{false≢true}
-use Rattle.std.proofs.lemmas.List.{append-nil, map-set, set-get_or, get_or-map, get_or-set_other, length-set, length-map}
+use Rattle.std.proofs.lemmas.List.{append-nil, map-set, set-get_or, get_or-map, get_or-set_other, length-set}
 use Rattle.pfc_base.specs.declared.faults.RunFault.TheVariants.{Active, Stack}
 use Rattle.pfc_types.specs.Blocks.{Blocks}
 use Rattle.pfc_types.specs.Scopes.{scope_at}
@@ -29,7 +29,6 @@ use Rattle.pfc_semantics.specs.Rewriting.{from_remainder, going}
 use Rattle.pfc_semantics.specs.Configurations as configurations
 use Rattle.pfc_semantics.specs.Configurations.{Config, Effect, plain, of_nobody, empty_hand, nobody, activity_of, all_passed, goes_on, number_for, body_of}
 use Rattle.pfc_semantics.specs.Calls.{new_number, new_values, new_activation, cells_above, most_cells, unless_full}
-use Rattle.pfc_semantics.specs.Steps.{effect}
 use Rattle.pfc_pending.specs.declared.at_hand.At.TheVariants as at
 use Rattle.pfc_pending.specs.declared.pending.Argument.{Argument}
 use Rattle.pfc_pending.specs.Waiting.{remainder_of, given_view}
@@ -40,7 +39,7 @@ use Rattle.pfc_activities.specs.declared.changes.Done.{Done}
 use Rattle.pfc_activities.specs.declared.source.Source.{Source}
 use Rattle.pfc_activities.specs.declared.state.State.{State}
 use Rattle.pfc_activities.specs.Programs.{IsProgram}
-use Rattle.pfc_activities.specs.Relation.{IsIn, IsBefore, IsAt, IsFault, StaysAt, shown_before}
+use Rattle.pfc_activities.specs.Relation.{IsBefore, IsFault, StaysAt, shown_before}
 use Rattle.pfc_activities.specs.Shown.{Shown, shown, activity_shown, activities_shown}
 use Rattle.pfc_activities.specs.Views.{context_of, pending_of, doing_ahead, activations_view}
 use Rattle.pfc_activities.proofs.Acting.{as_many, display_is}

@@ -18,7 +18,7 @@ use Rattle.pfc_program.specs.Views.{names_view}
 use Rattle.pfc_store.specs.Views.{store_view}
 use Rattle.pfc_semantics.specs.Programs.{Program}
 use Rattle.pfc_semantics.specs.Remainders as remainders
-use Rattle.pfc_semantics.specs.Remainders.{Context, Remainder, Action}
+use Rattle.pfc_semantics.specs.Remainders.{Context, Remainder}
 use Rattle.pfc_semantics.specs.Alternatives.{context}
 use Rattle.pfc_semantics.specs.Selects.{latest, open_timeout, may_terminate_at, waits_until, waits_or_closed, times_out, goes_otherwise}
 use Rattle.pfc_semantics.specs.Configurations as configurations

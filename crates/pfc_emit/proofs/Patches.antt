@@ -1,5 +1,5 @@
 -- What a patch changes, what it leaves, and where it may be made.
-use Rattle.std.proofs.Common.{◌≡◌, ◌<◌, ◌+◌, ℕ, zero, suc, true, List, [], ◌∷◌, ◌++◌, length, map, refl, ap, ◌∙◌, sym, arith, append_assoc, length-append}
+use Rattle.std.proofs.Common.{◌≡◌, ◌<◌, ◌+◌, ℕ, zero, suc, true, [], ◌∷◌, ◌++◌, length, map, refl, ap, ◌∙◌, sym, arith, append_assoc, length-append}
 use Rattle.pfc_code.specs.declared.instructions.Instr.{Instr}
 use Rattle.pfc_code.specs.declared.instructions.Instr.TheVariants.{JMP, JF, TURN, FORB, FORT, CEQ, ARMS, ARMR, ARMA, ARMT, SEL}
 use Rattle.pfc_emit.specs.Addresses.{has_address, retargeted}

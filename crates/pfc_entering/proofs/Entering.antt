@@ -1,9 +1,9 @@
 -- Calls of exported procedures from outside, on both sides.
-use Rattle.std.proofs.Common.{◌≡◌, ℕ, Bool, true, false, List, [], ◌++◌, length, Option, None, Ok, Err, refl, sym, ap, ◌∙◌, subst}
+use Rattle.std.proofs.Common.{◌≡◌, ℕ, Bool, true, false, List, [], ◌++◌, length, Option, sym, ap, ◌∙◌, subst}
 use Rattle.std.specs.Prelude.{nat_le, ◌==◌, if◌then◌else◌, position, unwrap_or}
 use Rattle.std.proofs.lemmas.List.{append-nil}
 use Rattle.pfc_base.specs.declared.faults.RunFault.TheVariants.{Stack}
-use Rattle.pfc_types.specs.Blocks.{Blocks, module_at}
+use Rattle.pfc_types.specs.Blocks.{module_at}
 use Rattle.pfc_program.specs.declared.tables.Tables.{Tables}
 use Rattle.pfc_program.specs.declared.blocks.Block.{Block as HeldBlock}
 use Rattle.pfc_program.specs.Views.{block_view, blocks_view}
@@ -17,12 +17,11 @@ use Rattle.pfc_semantics.specs.Programs.{Block, Program, found_block, block_at, 
 use Rattle.pfc_semantics.specs.Monitors.{enters_monitor}
 use Rattle.pfc_semantics.specs.Resources.{enters_resource, guarded_body}
 use Rattle.pfc_semantics.specs.Remainders as remainders
-use Rattle.pfc_semantics.specs.Remainders.{Action, Remainder}
 use Rattle.pfc_semantics.specs.Rewriting.{from_remainder}
 use Rattle.pfc_semantics.specs.Configurations as configurations
 use Rattle.pfc_semantics.specs.Configurations.{Config, Effect, of_monitor, of_resource, monitors_held, with_monitors, resources_held, with_resources, body_of}
 use Rattle.pfc_semantics.specs.Calls.{most_cells, activated}
-use Rattle.pfc_semantics.specs.Steps.{effect, enters_module}
+use Rattle.pfc_semantics.specs.Steps.{enters_module}
 use Rattle.pfc_pending.specs.declared.pending.Argument.{Argument}
 use Rattle.pfc_pending.specs.Waiting.{given_view}
 use Rattle.pfc_activities.specs.declared.activities.Activity.{Activity}
@@ -32,7 +31,7 @@ use Rattle.pfc_activities.specs.declared.changes.Done.{Done}
 use Rattle.pfc_activities.specs.declared.source.Source.{Source}
 use Rattle.pfc_activities.specs.declared.state.State.{State}
 use Rattle.pfc_activities.specs.Programs.{IsProgram}
-use Rattle.pfc_activities.specs.Relation.{IsIn, IsAt, IsFault, Mirrors}
+use Rattle.pfc_activities.specs.Relation.{IsIn, IsFault, Mirrors}
 use Rattle.pfc_activities.specs.Shown.{activities_shown}
 use Rattle.pfc_activities.specs.Views.{doing_ahead}
 use Rattle.pfc_waiting.specs.Waiting.{HasActed}

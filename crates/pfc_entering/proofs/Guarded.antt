@@ -5,7 +5,7 @@ use Rattle.std.proofs.lemmas.Bool.{false≢true}
 use Rattle.pfc_tree.specs.declared.tree.Stmt.{Stmt}
 use Rattle.pfc_tree.specs.views.Stmts.{stmts_view}
 use Rattle.pfc_semantics.specs.Programs.{Guard, Block, Program, block_number}
-use Rattle.pfc_semantics.specs.Remainders.{Remainder, Way, perform}
+use Rattle.pfc_semantics.specs.Remainders.{Remainder, perform}
 use Rattle.pfc_semantics.specs.Statements.{behind}
 use Rattle.pfc_semantics.specs.Resources.{guarded_body, way_to}
 use Rattle.pfc_entering.specs.Guards.{way_in, guarded_in}

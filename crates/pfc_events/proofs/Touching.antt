@@ -13,7 +13,6 @@ use Rattle.pfc_types.specs.declared.types.TypeId.{TypeId}
 use Rattle.pfc_semantics.specs.Values.{Location}
 use Rattle.pfc_semantics.specs.Displays.{located}
 use Rattle.pfc_semantics.specs.Remainders as remainders
-use Rattle.pfc_semantics.specs.Remainders.{Action, Context, Remainder}
 use Rattle.pfc_semantics.specs.Statements.{plain_open}
 use Rattle.pfc_semantics.specs.Events.{call_writes, open_writes}
 use Rattle.pfc_races.specs.Seen.{accesses_seen}

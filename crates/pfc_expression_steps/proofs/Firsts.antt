@@ -1,23 +1,22 @@
 -- Nodes and lists of nodes, of which the first part is read.
-use Rattle.std.proofs.Common.{◌≡◌, ℕ, ◌-◌, ◌<◌, ◌≤◌, ℤ, List, [], ◌∷◌, length, get_or, take, drop, Option, Some, None, option_map, refl, sym, ap, ◌∙◌, arith}
+use Rattle.std.proofs.Common.{◌≡◌, ◌-◌, ◌<◌, ◌≤◌, List, [], ◌∷◌, length, get_or, take, drop, Option, None, refl, sym, ap, ◌∙◌, arith}
 use Rattle.std.proofs.lemmas.List.{take_all}
 use Rattle.pfc_base.specs.declared.places.Place.{Place}
 use Rattle.pfc_tree.specs.declared.tree.AddOp.{AddOp}
 use Rattle.pfc_tree.specs.declared.tree.MulOp.{MulOp}
-use Rattle.pfc_tree.specs.declared.tree.Relation.{Relation}
 use Rattle.pfc_tree.specs.declared.tree.Sign.{Sign}
-use Rattle.pfc_tree.specs.declared.tree.Expr.{Expr, out-Expr, fold_out-Expr}
+use Rattle.pfc_tree.specs.declared.tree.Expr.{Expr}
 use Rattle.pfc_tree.specs.declared.tree.Factor.{Factor}
 use Rattle.pfc_tree.specs.declared.tree.Selector.{Selector}
 use Rattle.pfc_tree.specs.declared.tree.Simple.{Simple, out-Simple}
 use Rattle.pfc_tree.specs.declared.tree.Term.{Term, out-Term}
-use Rattle.pfc_tree.specs.trees.Exprs.{FactorTree, SelectorTree, ActualTree, DesigTree, ExprTree, SimpleTree, TermTree, related, sum, product, more_summands}
+use Rattle.pfc_tree.specs.trees.Exprs.{FactorTree, SimpleTree, TermTree, sum, product, more_summands}
 use Rattle.pfc_tree.specs.trees.Exprs.{more_multipliers, more_exprs, more_selectors}
 use Rattle.pfc_tree.specs.views.Exprs.{expr_view, simple_view, term_view, factor_view, selector_view, summands_view, multipliers_view, exprs_view}
-use Rattle.pfc_tree.specs.views.Exprs.{selectors_view, expr_of, factor_step, selector_step, actual_step, desig_step, expr_step, simple_step, term_step}
-use Rattle.pfc_semantics.specs.Values.{Value, ordinal, ordinal_of}
+use Rattle.pfc_tree.specs.views.Exprs.{selectors_view}
+use Rattle.pfc_semantics.specs.Values.{Value}
 use Rattle.pfc_semantics.specs.Remainders.{Context, AwaitsValue, begin_sum, begin_product}
-use Rattle.pfc_semantics.specs.Expressions.{from_expr, from_simple, from_term, from_factor, from_summands, from_multipliers}
+use Rattle.pfc_semantics.specs.Expressions.{from_simple, from_term, from_factor}
 use Rattle.pfc_semantics.specs.Rewriting.{from_value}
 use Rattle.pfc_expression_steps.proofs.Nodes.{simple_view-out, term_view-out}
 

@@ -12,7 +12,7 @@ use Rattle.pfc_tree.specs.declared.tree.Sign.{Sign}
 use Rattle.pfc_tree.specs.declared.tree.Actual.{Actual}
 use Rattle.pfc_tree.specs.views.Exprs.{actual_view, actuals_view}
 use Rattle.pfc_tree.specs.trees.Exprs.{ExprTree, SimpleTree, TermTree, SummandTrees, FactorTree, MultiplierTrees, DesigTree, SelectorTrees, ExprTrees}
-use Rattle.pfc_tree.specs.trees.Exprs.{ActualTree, ActualTrees, related, sum, more_summands, more_multipliers, more_exprs, no_actuals, more_actuals}
+use Rattle.pfc_tree.specs.trees.Exprs.{ActualTree, ActualTrees, related, sum, more_summands, more_multipliers, more_exprs, more_actuals}
 use Rattle.pfc_types.specs.declared.types.TypeId.{TypeId}
 use Rattle.pfc_types.specs.declared.heads.Formal.{Formal}
 use Rattle.pfc_types.specs.rules.Expressions.{first_type}
@@ -20,15 +20,15 @@ use Rattle.pfc_values.specs.Numbers.{Outcome}
 use Rattle.pfc_semantics.specs.Values.{Value, ordinal, ordinal_of}
 use Rattle.pfc_semantics.specs.Displays.{Spot, TypedSpot}
 use Rattle.pfc_semantics.specs.Predeclared.{Function, abs, sqr, odd, ord, chr, succ, pred, eof, eoln, empty, clock, random, no_function}
-use Rattle.pfc_semantics.specs.Remainders.{Context, Remainder, AwaitsValue, AwaitsLocation, Argument, Call, Action, by_value, compare_with, compare_to}
+use Rattle.pfc_semantics.specs.Remainders.{Context, Remainder, AwaitsValue, AwaitsLocation, Argument, Call, Action, compare_with, compare_to}
 use Rattle.pfc_semantics.specs.Remainders.{begin_sum, add_to, multiply_by, apply, index_into, pass_value, pass_variable, read_for, ask_empty, show_wide, pad}
 use Rattle.pfc_semantics.specs.Remainders.{store_at, assign_to, set_count, initial_to, delay_with, delay_at, send_on, send_to, receive_from, receive_into}
 use Rattle.pfc_semantics.specs.Remainders.{reads, faults}
-use Rattle.pfc_semantics.specs.Operators.{signed, added, multiplied}
+use Rattle.pfc_semantics.specs.Operators.{signed}
 use Rattle.pfc_semantics.specs.Expressions.{with_number, with_element, element_spot, from_expr, from_simple, from_term, from_factor, from_summands}
 use Rattle.pfc_semantics.specs.Expressions.{from_multipliers, from_selectors, from_indices, from_argument, from_reference, from_desig, from_lent, from_actual}
 use Rattle.pfc_semantics.specs.Expressions.{from_args}
-use Rattle.pfc_semantics.specs.Statements.{item_of, from_width, shown_as}
+use Rattle.pfc_semantics.specs.Statements.{item_of, shown_as}
 use Rattle.pfc_semantics.specs.Rewriting.{from_value, from_location}
 use Rattle.pfc_facts.specs.Views.{function_view}
 use Rattle.pfc_facts.specs.declared.routines.Function.{Function as HeldFunction}

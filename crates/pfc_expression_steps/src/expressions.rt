@@ -153,7 +153,8 @@ fn multiply<'a>(
     rest: &'a [((MulOp, Place), Factor)],
 ) -> Step<'a>
     ensures { (t : Tables) (c : Context) (w : Waiting) → step_ahead t c w result
-        ≡ from_multipliers c (value_view product) (trees.more_multipliers op (factor_view factor.now) (multipliers_view rest.now)) (awaits_of w) (from_value c (awaits_of w)) }
+        ≡ from_multipliers c (value_view product) (trees.more_multipliers op (factor_view factor.now) (multipliers_view rest.now)) (awaits_of w)
+        (from_value c (awaits_of w)) }
 {
     Step::Under(
         Pending::MultiplyBy(product.ordinal(), op.0, rest),

@@ -2,7 +2,9 @@
 ghost use Rattle.pfc_semantics.specs.Programs.{Block};
 ghost use Rattle.pfc_semantics.specs.Remainders.{Context};
 ghost use Rattle.pfc_standing_code.specs.Settings.{Setting};
-ghost use Rattle.pfc_following_statements.specs.Phrases.{AssignmentFollows, SendFollows, ReceiveFollows, WriteFollows, ReadFollows, CallFollows, ModuleCallFollows, RequeueFollows, ProcedureFollows, ActivationFollows, EntryCallFollows, EveryCallFollows};
+ghost use Rattle.pfc_following_statements.specs.Phrases.{AssignmentFollows, SendFollows, ReceiveFollows, WriteFollows, ReadFollows, CallFollows};
+ghost use Rattle.pfc_following_statements.specs.Phrases.{ModuleCallFollows, RequeueFollows, ProcedureFollows, ActivationFollows, EntryCallFollows};
+ghost use Rattle.pfc_following_statements.specs.Phrases.{EveryCallFollows};
 
 /// The code of an assignment follows its next action: of a number, or of a whole array or record.
 pub fn assignments_follow()

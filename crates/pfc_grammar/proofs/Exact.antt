@@ -14,7 +14,7 @@ use Rattle.pfc_tree.specs.Grammar.{deep}
 use Rattle.pfc_tree.proofs.depths.Parts.{program_even}
 use Rattle.pfc_grammar.specs.Outcomes.{IsRead}
 use Rattle.pfc_grammar.specs.Reading as reading
-use Rattle.pfc_grammar.specs.Reading.{Halt, bad, Outcome, Reader, then_read, bind, finish}
+use Rattle.pfc_grammar.specs.Reading.{Halt, bad, Outcome, then_read, bind, finish}
 use Rattle.pfc_grammar.specs.grammar.Parts.{program_at, whole_at, read_program}
 use Rattle.pfc_grammar.proofs.Lists.{Each, apart_none}
 use Rattle.pfc_grammar.proofs.Sound.{When, Took, HaltsAt, HaltsBehind, Halts, Goes, here}

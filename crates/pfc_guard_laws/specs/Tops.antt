@@ -19,7 +19,8 @@ abbrev pub ComesBefore : Mark → ℕ → ℕ → Type 0
 ComesBefore plain i j = i ≤ j
 ComesBefore mark i j = i < j
 
--- The activations of a process, innermost first, stand ever later in the text. So they do in a checked program: a body sees what was declared before the part of
+-- The activations of a process, innermost first, stand ever later in the text. So they do in a checked program: a
+-- body sees what was declared before the part of
 -- the program in which it stands, and a module does not see itself.
 abbrev pub AreOrdered : Tops → List Activation → Type 0
 AreOrdered tops [] = Unit {0}

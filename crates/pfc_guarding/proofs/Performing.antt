@@ -9,7 +9,7 @@ use Rattle.pfc_world.specs.Resources.{given_up, barred, passed_to, requeued}
 use Rattle.pfc_world.specs.Tables.{Table, at}
 use Rattle.pfc_semantics.specs.Programs.{Program}
 use Rattle.pfc_semantics.specs.Remainders as remainders
-use Rattle.pfc_semantics.specs.Remainders.{Context, Remainder, Way, Action}
+use Rattle.pfc_semantics.specs.Remainders.{Remainder, Action}
 use Rattle.pfc_semantics.specs.Rewriting.{going}
 use Rattle.pfc_semantics.specs.Configurations.{Config, Effect}
 use Rattle.pfc_semantics.specs.Resources.{scanned_all, scanned_to, passed_by}

@@ -30,7 +30,6 @@ use Rattle.pfc_translation.specs.Calls.{procedure_code, exported_code, module_co
 use Rattle.pfc_translation.specs.Calls.{called_variable, called_process, called_code, found_code, call_code}
 use Rattle.pfc_translation.specs.Selects.{message_code, receiver_code, send_code, receive_code, replica_code}
 use Rattle.pfc_translation.specs.Statements.{assign_code}
-use Rattle.pfc_image_laws.proofs.Phrases.{IsAlone, LeadsOn, LeadsBack}
 use Rattle.pfc_image_laws.proofs.Phrases as phrases
 
 abbrev pub Few : Code → Type 0

@@ -1,5 +1,6 @@
 //! A sink in memory: it tells its bytes, and fails where it is told to.
-ghost use Rattle.std.specs.Prelude.{◌≡◌, ℕ, ◌+◌, ◌-◌, ◌<◌, ◌≤◌, ◌++◌, ◌↔◌, ◌⊎◌, [], min, length, take, Some, IsErr, IfOk, OnErr, is_err, if◌then◌else◌, Contains};
+ghost use Rattle.std.specs.Prelude.{◌≡◌, ℕ, ◌+◌, ◌-◌, ◌<◌, ◌≤◌, ◌++◌, ◌↔◌, ◌⊎◌, [], min, length, take, Some, IsErr, IfOk, OnErr, is_err, if◌then◌else◌};
+ghost use Rattle.std.specs.Prelude.{Contains};
 ghost use Rattle.std.specs.Vec.{vec_capacity};
 ghost use Rattle.pfc_io.specs.Counts.{greatest};
 

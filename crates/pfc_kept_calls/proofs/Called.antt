@@ -258,7 +258,11 @@ module _ (facts : Facts) (m : Machine) (c : Config) (p : ℕ) (level : LivingLev
       inl (
         callee,
         same_block,
-        (checked_for inside callee callee.env (body_of callee) checked, subst (λ i. Performs inside callee callee.env i below [] (body_of callee)) at_entry body),
+        (
+          checked_for inside callee callee.env (body_of callee) checked,
+          subst (λ i. Performs inside callee callee.env i below []
+              (body_of callee)) at_entry body,
+        ),
       ),
     )
 

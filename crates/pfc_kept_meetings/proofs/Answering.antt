@@ -41,7 +41,6 @@ use Rattle.pfc_kept_meetings.specs.Waiting.{KeepsOffers}
 use Rattle.pfc_kept_meetings.proofs.Giving as giving
 use Rattle.pfc_kept_meetings.proofs.Waiting as waiting
 use Rattle.pfc_kept_meetings.proofs.Granted as granted
-use Rattle.pfc_kept_meetings.proofs.Granted.{no_holder}
 use Rattle.pfc_kept_meetings.proofs.Granting as granting
 
 module _ (facts : Facts) (m : Machine) (c : Config) (p : ℕ) (level : LivingLevel) (acting : IsActing facts m c p level) (own : level.setting.trial ≡ of_own)

@@ -52,7 +52,7 @@ use Rattle.pfc_kept_messages.proofs.Stacks.{changed_cells}
 use Rattle.pfc_kept_meetings.specs.Owners.{HasTypedEntries}
 use Rattle.pfc_kept_meetings.specs.Accepts.{HasProcesses, KeepsAccepts}
 use Rattle.pfc_kept_meetings.proofs.Owner as owner
-use Rattle.pfc_kept_meetings.proofs.Owner.{known, only, first, child, of_process, process_is, formals_are, scopes, own_not_mains, own_known, in_blocks}
+use Rattle.pfc_kept_meetings.proofs.Owner.{known, only, first, child, of_process, process_is, formals_are, scopes, own_known, in_blocks}
 use Rattle.pfc_kept_meetings.proofs.Owner.{links_own, its_layout, living, block_is}
 use Rattle.pfc_kept_meetings.proofs.Parameters.{names_laid, names_cells}
 

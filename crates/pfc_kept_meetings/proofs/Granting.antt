@@ -448,12 +448,14 @@ module _ (facts : Facts) (m : Machine) (c : Config) (p : ℕ) (level : LivingLev
       beside_then level0 view' accepts' meetings' its_level.setting.block b shows.offers.beside,
       (begins.goes_then facts m c acting.homes acting.entries acting.alike q its_level shows.under_way.stands shows.offers.own inside processes b x
           shows.offers.checked a accepts_so typed runs of_block_so apart_so values words hold given stacks' (granted.same facts m c p level acting own q entry
-          ticket processes typed runs offers values words hold given kept to ops below doing_p does_p within_p line) (granted.size facts m c p level acting own q
+          ticket processes typed runs offers values words hold given kept to ops below doing_p does_p within_p line)
+          (granted.size facts m c p level acting own q
           entry ticket processes typed runs offers values words hold given kept to ops below doing_p does_p within_p line) p lenders kept table' (granted.stay
           facts m c p level acting own q entry ticket processes typed runs offers values words hold given kept to ops below doing_p does_p within_p line)
           (granted.met facts m c p level acting own q entry ticket processes typed runs offers values words hold given kept to ops below doing_p does_p within_p
           line) (granted.main facts m c p level acting own q entry ticket processes typed runs offers values words hold given kept to ops below doing_p does_p
-          within_p line) shows.left (waiting.met facts m c p level acting own q entry ticket processes typed runs offers).o branch (stack_of m.stacks q).operands
+          within_p line) shows.left (waiting.met facts m c p level acting own q entry ticket processes typed runs offers).o branch
+          (stack_of m.stacks q).operands
           (waiting.ends facts m c p level acting own q entry ticket processes typed runs offers).0 (waiting.ends facts m c p level acting own q entry ticket
           processes typed runs offers).1 (waiting.behind facts m c p level acting own q entry ticket processes typed runs offers)).1,
     ),

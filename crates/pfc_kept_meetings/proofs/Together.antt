@@ -400,7 +400,8 @@ module _ (facts : Facts) (m : Machine) (c : Config) (p : ℕ) (level : LivingLev
           acc accepts processes typed runs of_block apart q is_first to ops) q (meets.lenders facts m c p level acting own b x checked acc accepts processes
           typed runs of_block apart q is_first to ops) (meets.kept facts m c p level acting own b x checked acc accepts processes typed runs of_block apart q
           is_first to ops) (meets.table' facts m c p level acting own b x checked acc accepts processes typed runs of_block apart q is_first to ops) (meets.stay
-          facts m c p level acting own b x checked acc accepts processes typed runs of_block apart q is_first to ops) (meets.met facts m c p level acting own b x
+          facts m c p level acting own b x checked acc accepts processes typed runs of_block apart q is_first to ops)
+          (meets.met facts m c p level acting own b x
           checked acc accepts processes typed runs of_block apart q is_first to ops) (meets.main facts m c p level acting own b x checked acc accepts processes
           typed runs of_block apart q is_first to ops) k o to ops end rest behind).1,
     ),

@@ -29,7 +29,7 @@ use Rattle.pfc_semantics.specs.Statements.{from_reads, expr_of, behind_first, fr
 use Rattle.pfc_semantics.specs.Statements.{name_in_process, process_of_type, from_process, from_field, from_called_variable, from_called_process, from_exported}
 use Rattle.pfc_semantics.specs.Statements.{from_module, from_called, from_call, from_requeue, from_sent, from_received, from_bounds, from_pass, counting}
 use Rattle.pfc_semantics.specs.Statements.{from_until, from_stmt, from_stmts, from_arms}
-use Rattle.pfc_kept_scans.proofs.Nexts.{IsOther, Comes}
+use Rattle.pfc_kept_scans.proofs.Nexts.{IsOther}
 use Rattle.pfc_kept_scans.proofs.Nexts as next
 
 module _ (P : Action → Type 0) (other : (n : Action) → IsOther n → P n) where

@@ -1,12 +1,12 @@
 -- The labels of the processes in a variable of each type.
 use Rattle.std.proofs.Common.{◌≡◌, ◌≢◌, ℕ, zero, suc, ◌+◌, ◌-◌, ◌*◌, Bool, true, false, nat_lt, length-append, ◌<◌, ◌≤◌, ℤ, pos, List, [], ◌∷◌, ◌++◌, length}
-use Rattle.std.proofs.Common.{map, take, drop, get_or, min, fold, Option, Some, None, refl, sym, ap, ap₂, ◌∙◌, subst, arith}
+use Rattle.std.proofs.Common.{map, take, drop, get_or, min, fold, Option, Some, None, refl, sym, ap, ap₂, ◌∙◌, arith}
 use Rattle.std.specs.Prelude.{◌+ℤ◌}
 use Rattle.std.proofs.lemmas.Bool.Decides.{nat_tests}
 use Rattle.std.proofs.lemmas.List.{append_assoc, append-nil, map-append, drop_more, get_or_past, get_or_append_left, get_or-append_right, length-take-le}
 use Rattle.pfc_tree.specs.Symbols.{Text}
-use Rattle.pfc_types.specs.Types.{Forms, form_of, held_of, all_held, held_next, held_before, held_form, held_with, held_times, fields_held, nothing_held}
-use Rattle.pfc_types.specs.Types.{one_cell, extent, most_processes}
+use Rattle.pfc_types.specs.Types.{Forms, form_of, held_of, held_next, held_before, held_form, held_with, nothing_held}
+use Rattle.pfc_types.specs.Types.{one_cell, extent}
 use Rattle.pfc_types.specs.Fields.{FieldList}
 use Rattle.pfc_types.specs.Scopes.{Names}
 use Rattle.pfc_types.specs.declared.table.Held.{Held}

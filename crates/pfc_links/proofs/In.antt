@@ -1,9 +1,9 @@
 -- A process is put at the end of a list.
-use Rattle.std.proofs.Common.{◌≡◌, ◌≢◌, ℕ, ◌+◌, ◌<◌, ◌≤◌, ◌^◌, ◌⊎◌, inl, inr, Option, None, Some, List, length, get_or, set, arith, refl, sym, ap, ◌∙◌, subst}
+use Rattle.std.proofs.Common.{◌≡◌, ◌≢◌, ℕ, ◌+◌, ◌<◌, ◌≤◌, ◌^◌, ◌⊎◌, inl, inr, Option, None, List, length, get_or, set, arith, refl, sym, ap, ◌∙◌, subst}
 use Rattle.std.proofs.lemmas.List.{length-set, get_or-set_same, get_or-set_other, get_or_read}
-use Rattle.std.proofs.lemmas.Bool.{cases_eq, cases_lt}
+use Rattle.std.proofs.lemmas.Bool.{cases_eq}
 use Rattle.pfc_links.specs.declared.links.Member.{Member}
-use Rattle.pfc_links.specs.Members.{member_at, in_list, IsNext, IsNobodyAbove, IsPrevious, IsNobodyBelow, latest}
+use Rattle.pfc_links.specs.Members.{member_at, in_list, latest}
 use Rattle.pfc_links.specs.Linked.{AreLinked, IsFrom, IsBackFrom, IsBehind, IsBefore}
 use Rattle.pfc_links.proofs.Members.{within, same-list, same-ticket, none-apart, Whose, whose}
 use Rattle.pfc_links.proofs.Out.{before-within}

@@ -1,9 +1,9 @@
 -- A process is taken out of its list, and those before and behind it are linked: what is behind each.
-use Rattle.std.proofs.Common.{◌≡◌, ◌≢◌, ℕ, ◌+◌, ◌<◌, ◌≤◌, ◌⊎◌, inl, inr, Option, None, Some, List, length, get_or, set, arith, refl, sym, ap, ◌∙◌, subst}
+use Rattle.std.proofs.Common.{◌≡◌, ◌≢◌, ℕ, ◌+◌, ◌<◌, ◌≤◌, ◌⊎◌, inl, inr, Option, None, List, length, get_or, set, arith, sym, ap, ◌∙◌, subst}
 use Rattle.std.proofs.lemmas.List.{length-set, get_or-set_same, get_or-set_other}
 use Rattle.std.proofs.lemmas.Bool.{cases_eq, cases_lt}
 use Rattle.pfc_links.specs.declared.links.Member.{Member}
-use Rattle.pfc_links.specs.Members.{member_at, in_list, IsNext, IsNobodyAbove, IsPrevious, IsNobodyBelow, latest}
+use Rattle.pfc_links.specs.Members.{member_at, in_list, IsNext, IsNobodyAbove, latest}
 use Rattle.pfc_links.specs.Linked.{AreLinked, IsFrom, IsBackFrom, IsBehind, IsBefore}
 use Rattle.pfc_links.proofs.Members.{within, same-list, same-ticket, IsOther, other}
 

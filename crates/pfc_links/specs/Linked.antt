@@ -1,5 +1,5 @@
 -- How the links are tied to who is in which list.
-use Rattle.std.specs.Prelude.{ℕ, ◌+◌, ◌<◌, ◌≤◌, ◌^◌, ◌≡◌, Option, None, Some, List, length, slice_index_or}
+use Rattle.std.specs.Prelude.{ℕ, ◌+◌, ◌<◌, ◌≤◌, ◌^◌, ◌≡◌, Option, List, length, slice_index_or}
 use Rattle.pfc_links.specs.declared.links.Member.{Member}
 use Rattle.pfc_links.specs.Members.{member_at, in_list, IsNext, IsNobodyAbove, IsPrevious, IsNobodyBelow, latest}
 

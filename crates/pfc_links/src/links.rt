@@ -1,5 +1,6 @@
 //! Lists of processes, linked both ways.
-ghost use Rattle.std.specs.Prelude.{◌≡◌, ◌<◌, ◌≤◌, ◌+◌, ◌^◌, ℕ, true, false, None, Some, if◌then◌else◌, length, nat_lt, set, replicate, slice_index_or, is_some, IfOk, MatchOption};
+ghost use Rattle.std.specs.Prelude.{◌≡◌, ◌<◌, ◌≤◌, ◌+◌, ◌^◌, ℕ, true, false, None, Some, if◌then◌else◌, length, nat_lt, set, replicate, slice_index_or};
+ghost use Rattle.std.specs.Prelude.{is_some, IfOk, MatchOption};
 ghost use Rattle.pfc_links.specs.Members.{member_at, in_list, IsFirst, IsLast, IsEmpty, IsNext, IsNobodyAbove, IsPrevious, IsNobodyBelow};
 
 use pfc_base::Memory;

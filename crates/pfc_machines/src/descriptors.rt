@@ -2,7 +2,8 @@
 ghost use Rattle.std.specs.Prelude.{◌≡◌, ◌≤◌, ◌<◌, ◌+◌, ◌^◌, [], length, take, set, IfOk, OnOk, OnErr};
 ghost use Rattle.pfc_stacks.specs.Stacks.{operands_of};
 ghost use Rattle.pfc_machines.specs.Communications.{IsRoomBetween};
-ghost use Rattle.pfc_machines.specs.Descriptors.{descriptor_by, descriptor_of, roomier, entered, left, begun_in, keeping, with_made, offering, withdrawn, forgetting, meeting, met, line_of_block, declared_descriptors, start_descriptors};
+ghost use Rattle.pfc_machines.specs.Descriptors.{descriptor_by, descriptor_of, roomier, entered, left, begun_in, keeping, with_made, offering, withdrawn};
+ghost use Rattle.pfc_machines.specs.Descriptors.{forgetting, meeting, met, line_of_block, declared_descriptors, start_descriptors};
 
 use crate::{Alternative, Communications, Room};
 use pfc_base::Memory;

@@ -1,5 +1,5 @@
 -- After the third step of settling nobody is left to terminate.
-use Rattle.std.proofs.Common.{◌≡◌, ℕ, Bool, true, false, not, ◌&&◌, ◌||◌, List, [], ◌∷◌, map, drop, refl, sym, ap, ◌∙◌, cond}
+use Rattle.std.proofs.Common.{◌≡◌, Bool, true, false, not, ◌&&◌, ◌||◌, List, [], ◌∷◌, map, drop, refl, ap, ◌∙◌, cond}
 use Rattle.std.specs.Prelude.{is_none}
 use Rattle.std.specs.List.{list_any, list_all}
 use Rattle.pfc_state.specs.Stands.{Stand, Is_ready, Is_done, is_unfinished, may_end}

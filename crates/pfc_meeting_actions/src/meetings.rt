@@ -12,7 +12,8 @@ ghost use Rattle.pfc_machines.specs.Actions.{Acts, IsActed};
 ghost use Rattle.pfc_machines.specs.Descriptors.{descriptor_of};
 ghost use Rattle.pfc_machines.specs.Partners.{open_to};
 ghost use Rattle.pfc_machines.specs.Quiet.{left_by, CanGo};
-ghost use Rattle.pfc_meeting_actions.specs.Meetings.{parameter_cell, arguments_taken, begins_meeting, called_by, cell_of, called_into, calls_entry, accepts, last_caller, parts, CanMeet, CanBeCalled};
+ghost use Rattle.pfc_meeting_actions.specs.Meetings.{parameter_cell, arguments_taken, begins_meeting, called_by, cell_of, called_into, calls_entry};
+ghost use Rattle.pfc_meeting_actions.specs.Meetings.{accepts, last_caller, parts, CanMeet, CanBeCalled};
 
 use pfc_base::RunFault;
 use pfc_machines::{KeptAlternative, Machine, Offer, leave, number_in};

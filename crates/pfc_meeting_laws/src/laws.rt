@@ -1,5 +1,6 @@
 //! The laws. The functions do nothing: their contracts are the laws.
-ghost use Rattle.std.specs.Prelude.{◌≡◌, ℕ, ◌+◌, ◌-◌, ◌<◌, ◌≤◌, ◌^◌, ◌==◌, ℤ, pos, Bool, true, false, List, [], ◌∷◌, length, take, drop, get_or, set, reverse, Some};
+ghost use Rattle.std.specs.Prelude.{◌≡◌, ℕ, ◌+◌, ◌-◌, ◌<◌, ◌≤◌, ◌^◌, ◌==◌, ℤ, pos, Bool, true, false, List, [], ◌∷◌, length, take, drop, get_or, set};
+ghost use Rattle.std.specs.Prelude.{reverse, Some};
 ghost use Rattle.std.specs.List.{slice_get, list_any};
 ghost use Rattle.pfc_types.specs.Scopes.{scope_at};
 ghost use Rattle.pfc_types.specs.declared.types.TypeId.{TypeId};

@@ -13,7 +13,8 @@ ghost use Rattle.pfc_machines.specs.Actions.{Acts};
 ghost use Rattle.pfc_machines.specs.Descriptors.{descriptor_of};
 ghost use Rattle.pfc_machines.specs.Partners.{open_to};
 ghost use Rattle.pfc_machines.specs.Quiet.{CanGo};
-ghost use Rattle.pfc_message_actions.specs.Messages.{channel_under, channel_for, target_for, target_of, sent_out, sent_into, sent_to, sends, handed_over, received_out, receives, CanTake, CanGive, CanHandOver};
+ghost use Rattle.pfc_message_actions.specs.Messages.{channel_under, channel_for, target_for, target_of, sent_out, sent_into, sent_to, sends, handed_over};
+ghost use Rattle.pfc_message_actions.specs.Messages.{received_out, receives, CanTake, CanGive, CanHandOver};
 
 use pfc_machines::{KeptAlternative, Machine, Offer, leave, number_in};
 use pfc_pass::Passed;

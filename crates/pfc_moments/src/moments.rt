@@ -1,5 +1,6 @@
 //! Due moments of processes, and who is due in the order of the moments.
-ghost use Rattle.std.specs.Prelude.{◌≡◌, ◌<◌, ◌≤◌, ℕ, Bool, true, false, None, Some, length, set, replicate, slice_index_or, is_some, option_map, IfOk, MatchOption};
+ghost use Rattle.std.specs.Prelude.{◌≡◌, ◌<◌, ◌≤◌, ℕ, Bool, true, false, None, Some, length, set, replicate, slice_index_or, is_some, option_map, IfOk};
+ghost use Rattle.std.specs.Prelude.{MatchOption};
 ghost use Rattle.pfc_sorted.specs.Sorted.{passes, IsParted, IsPlace, AreSorted};
 ghost use Rattle.pfc_moments.specs.Moments.{moment_at, is_sooner, IsFirst, IsNobody};
 ghost use Rattle.pfc_moments.specs.Sorted.{due, comes_first};
@@ -46,7 +47,8 @@ impl Model for Moments {
 
     ghost view = { λ m. m.moments.items };
 
-    ghost invariant = { λ m. AreSorted comes_first m.sorted.items m.moments.items × (length m.moments.items ≤ deque_capacity m.sorted) × (length m.moments.items ≤ 1024) };
+    ghost invariant = { λ m. AreSorted comes_first m.sorted.items m.moments.items
+        × (length m.moments.items ≤ deque_capacity m.sorted) × (length m.moments.items ≤ 1024) };
 }
 
 impl Moments {

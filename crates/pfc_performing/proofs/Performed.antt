@@ -1,6 +1,6 @@
 -- Actions without output and without a choice.
 use Rattle.std.proofs.Common.{◌≡◌, ◌≢◌, ℕ, false, List, [], ◌++◌, Result, Ok, Err, refl, sym, ap, ◌∙◌, subst}
-use Rattle.std.specs.Prelude.{IfOk, IfErr, OnErr}
+use Rattle.std.specs.Prelude.{IfOk, OnErr}
 use Rattle.std.proofs.lemmas.List.{append-nil}
 use Rattle.pfc_base.specs.declared.faults.RunFault.{RunFault}
 use Rattle.pfc_program.specs.declared.tables.Tables.{Tables}
@@ -14,14 +14,13 @@ use Rattle.pfc_semantics.specs.Statements.{from_piece}
 use Rattle.pfc_semantics.specs.Configurations.{Config}
 use Rattle.pfc_semantics.specs.Selects.{choices}
 use Rattle.pfc_semantics.specs.Runs.{choice_among, behind_choice}
-use Rattle.pfc_activities.specs.declared.activities.Activity.{Activity}
 use Rattle.pfc_activities.specs.declared.activities.Doing.{Doing}
 use Rattle.pfc_activities.specs.declared.changes.Done.{Done}
 use Rattle.pfc_activities.specs.declared.source.Source.{Source}
 use Rattle.pfc_activities.specs.declared.state.State.{State}
 use Rattle.pfc_activities.specs.Views.{deed_of}
-use Rattle.pfc_activities.specs.Relation.{IsAt, Performs, StaysAt, Ends}
-use Rattle.pfc_performing.specs.Performing.{is_choosing, IsTried, IsAction, IsDone}
+use Rattle.pfc_activities.specs.Relation.{IsAt, Performs, StaysAt}
+use Rattle.pfc_performing.specs.Performing.{is_choosing, IsTried, IsDone}
 
 -- ## What is given back
 

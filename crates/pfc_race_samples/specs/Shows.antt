@@ -1,5 +1,5 @@
 -- What the race report of the run of a text shows.
-use Rattle.std.specs.Prelude.{ℕ, List, Option, Some, None, option_map}
+use Rattle.std.specs.Prelude.{ℕ, List, Option, None, option_map}
 use Rattle.std.specs.Fmt.{digits}
 use Rattle.pfc_sched.specs.Picks.{Picking}
 use Rattle.pfc_sched.specs.Words.{stream, word, after_word}

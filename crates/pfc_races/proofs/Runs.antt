@@ -7,14 +7,12 @@ use Rattle.pfc_state.specs.declared.endings.Ending.TheVariants.{Limit}
 use Rattle.pfc_sched.specs.Picks.{Picking, picked, after_pick}
 use Rattle.pfc_sched.specs.declared.picking.Pick.{Pick}
 use Rattle.pfc_sched.specs.declared.picking.Pick.TheVariants.{Process, Nobody, NotReady, NoProcess, ScriptEnd}
-use Rattle.pfc_semantics.specs.Programs.{Program}
 use Rattle.pfc_semantics.specs.Configurations.{Config, FaultAt}
 use Rattle.pfc_semantics.specs.Time.{settled_config}
 use Rattle.pfc_semantics.specs.Selects.{choices}
 use Rattle.pfc_semantics.specs.Steps.{next_of}
 use Rattle.pfc_semantics.specs.Events.{Event, Step, step}
 use Rattle.pfc_semantics.specs.Runs.{Run, ending_at, ended_with, behind_event, choice_among, behind_choice, by_pick, unless_ended, run_from}
-use Rattle.std.specs.Prelude.{fold}
 use Rattle.pfc_races.specs.Laws.{AreFew, AreItsActions, AreKept, what_it_was}
 use Rattle.pfc_races.specs.Ordered.{Kept, event_behind, kept_behind, ordered, unless_fault, waited_behind}
 use Rattle.pfc_races.specs.RunSteps.{of_process, steps_behind, steps_from, unless_over}

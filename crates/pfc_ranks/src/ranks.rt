@@ -1,5 +1,6 @@
 //! Delays of processes, and who is delayed in the order of the delays.
-ghost use Rattle.std.specs.Prelude.{◌≡◌, ◌≢◌, ◌==◌, ◌<◌, ◌≤◌, ℕ, Bool, true, false, None, Some, length, nat_lt, set, replicate, slice_index_or, is_some, IfOk, MatchOption};
+ghost use Rattle.std.specs.Prelude.{◌≡◌, ◌≢◌, ◌==◌, ◌<◌, ◌≤◌, ℕ, Bool, true, false, None, Some, length, nat_lt, set, replicate, slice_index_or, is_some};
+ghost use Rattle.std.specs.Prelude.{IfOk, MatchOption};
 ghost use Rattle.pfc_sorted.specs.Sorted.{passes, IsParted, IsPlace, AreSorted};
 ghost use Rattle.pfc_ranks.specs.declared.ranks.Delay.{Delay};
 ghost use Rattle.pfc_ranks.specs.Delays.{delay_at, is_before, IsFirst, IsNobody};
@@ -56,7 +57,8 @@ impl Model for Ranks {
 
     ghost view = { λ r. r.delays.items };
 
-    ghost invariant = { λ r. AreSorted comes_first r.sorted.items r.delays.items × (length r.delays.items ≤ deque_capacity r.sorted) × (length r.delays.items ≤ 1024) };
+    ghost invariant = { λ r. AreSorted comes_first r.sorted.items r.delays.items
+        × (length r.delays.items ≤ deque_capacity r.sorted) × (length r.delays.items ≤ 1024) };
 }
 
 impl Ranks {

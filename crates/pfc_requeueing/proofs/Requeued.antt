@@ -2,7 +2,7 @@
 use Rattle.std.proofs.Common.{◌≡◌, ℕ, ◌+◌, ◌<◌, Bool, true, false, List, [], ◌∷◌, ◌++◌, length, map, reverse, drop, set, get_or, Option, Some, None, IfSome, Ok}
 use Rattle.std.proofs.Common.{Err, arith, length-append, refl, sym, ap, ◌∙◌, subst}
 use Rattle.std.specs.Prelude.{nat_le, ◌-◌, ◌==◌, if◌then◌else◌, position, unwrap_or}
-use Rattle.std.proofs.lemmas.List.{append-nil, map-append, reverse-append, set-set, set-get_or, get_or-set_same, length-set}
+use Rattle.std.proofs.lemmas.List.{append-nil, map-append, reverse-append, set-get_or, get_or-set_same, length-set}
 use Rattle.std.proofs.Math.Seq.{get_or-append_seam, set-append_seam}
 use Rattle.pfc_base.specs.declared.faults.RunFault.TheVariants.{Stack}
 use Rattle.pfc_program.specs.declared.tables.Tables.{Tables}
@@ -31,7 +31,6 @@ use Rattle.pfc_activities.specs.declared.activities.Doing.{Doing}
 use Rattle.pfc_activities.specs.declared.changes.Done.{Done}
 use Rattle.pfc_activities.specs.declared.source.Source.{Source}
 use Rattle.pfc_activities.specs.declared.state.State.{State}
-use Rattle.pfc_activities.specs.Programs.{IsProgram}
 use Rattle.pfc_activities.specs.Relation.{IsIn, IsBefore, IsAt, IsFault, Mirrors, StaysAt, shown_before}
 use Rattle.pfc_activities.specs.Shown.{Shown, shown, activity_shown, activities_shown}
 use Rattle.pfc_activities.specs.Views.{doing_ahead, activation_view, activations_view, mark_view}
@@ -41,7 +40,7 @@ use Rattle.pfc_activating.specs.Entering.{values_in}
 use Rattle.pfc_activating.specs.Passing.{passed_in}
 use Rattle.pfc_activating.proofs.Activated.{block_is, values_are, stays_with_room}
 use Rattle.pfc_entering.specs.Guards.{way_in}
-use Rattle.pfc_requeueing.specs.Requeueing.{IsInnermost, IsInnermostOf, instead, HasCellsInstead, IsFullInstead, instead_of, GivesWay, Requeues}
+use Rattle.pfc_requeueing.specs.Requeueing.{IsInnermost, IsInnermostOf, instead, HasCellsInstead, IsFullInstead, GivesWay, Requeues}
 use Rattle.pfc_entering.proofs.Guarded.{way_is}
 
 -- ## The innermost activation

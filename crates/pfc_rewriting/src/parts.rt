@@ -189,7 +189,8 @@ impl<'t> Going<'t> {
     fn offer(&mut self, spot: TypedSpot, goal: Goal<'t>, site: Site<'t, '_>) -> Result<(), Memory>
         requires { HasRoom self.old }
         ensures { (t : Tables) → let c = context (env_view site.entry.env) self.old.line in
-            going_ahead t (env_view site.entry.env) self.new ≡ from_location c (goal_over (waiting t self.old.pending.items) goal.entry) (typed_spot_view spot) }
+            going_ahead t (env_view site.entry.env) self.new
+            ≡ from_location c (goal_over (waiting t self.old.pending.items) goal.entry) (typed_spot_view spot) }
     {
         match goal {
             Goal::OfferTo(message, choosing) => self.offer_to(spot, message, choosing),
@@ -238,7 +239,8 @@ impl<'t> Going<'t> {
     ) -> Result<(), Memory>
         requires { HasRoom self.old }
         ensures { (t : Tables) → let c = context (env_view site.entry.env) self.old.line in
-            going_ahead t (env_view site.entry.env) self.new ≡ from_location c (goal_over (waiting t self.old.pending.items) (goal.OfferFrom receiver.entry choosing.entry)) (typed_spot_view spot) }
+            going_ahead t (env_view site.entry.env) self.new
+            ≡ from_location c (goal_over (waiting t self.old.pending.items) (goal.OfferFrom receiver.entry choosing.entry)) (typed_spot_view spot) }
     {
         match reach_from(spot, receiver, choosing, site) {
             Ok(step) => {

@@ -12,7 +12,7 @@ use Rattle.pfc_semantics.specs.Configurations.{Config, Effect, goes_on}
 use Rattle.pfc_semantics.specs.Channels.{Side, arm_of, behind_open, side_of, sent_into, sent_to, received_out, received_from}
 use Rattle.pfc_semantics.specs.Rendezvous.{called_into, called_at}
 use Rattle.pfc_semantics.specs.Selects.{communicates_by, communicates_with, communicates, partner_at, meets_or_waits, meets_at, matched_places, place_taken}
-use Rattle.pfc_semantics.specs.Selects.{open_at, takes, takes_matched, Timeout, open_timeout, latest, waits_until, waits_or_closed, times_out, goes_otherwise}
+use Rattle.pfc_semantics.specs.Selects.{open_at, takes, Timeout, open_timeout, latest, waits_until, waits_or_closed, times_out, goes_otherwise}
 use Rattle.pfc_semantics.specs.Selects.{decides_by, decides_at}
 
 -- ## What an action comes to

@@ -1,15 +1,15 @@
 -- The laws on picks.
-use Rattle.std.proofs.Common.{◌≡◌, ℕ, zero, suc, ◌+◌, ◌-◌, ◌<◌, ◌≤◌, ◌%◌, Bool, true, false, cond, nat_lt, nat_le, min, List, [], ◌∷◌, length, drop, get_or}
-use Rattle.std.proofs.Common.{Option, Some, None, refl, ap, ◌∙◌, sym, subst, arith, slice_get, slice_index, unwrap_or}
+use Rattle.std.proofs.Common.{◌≡◌, ℕ, zero, suc, ◌+◌, ◌-◌, ◌<◌, ◌≤◌, ◌%◌, Bool, true, false, cond, nat_lt, nat_le, List, [], ◌∷◌, length, get_or}
+use Rattle.std.proofs.Common.{Option, Some, None, refl, ap, ◌∙◌, sym, subst, arith, slice_get, unwrap_or}
 use Rattle.std.proofs.lemmas.Bool.Decides.{nat_tests}
-use Rattle.pfc_state.specs.Stands.{Stand, Is_idle, is_ready}
+use Rattle.pfc_state.specs.Stands.{Stand, is_ready}
 use Rattle.pfc_world.specs.Tables.{at}
 use Rattle.pfc_sched.specs.declared.picking.Pick.{Pick}
-use Rattle.pfc_sched.specs.declared.picking.Pick.TheVariants.{Process, Nobody, NotReady, NoProcess, ScriptEnd}
-use Rattle.pfc_sched.specs.Words.{word, after_word}
-use Rattle.pfc_world.specs.Ready.{ready_from, ready_numbers, at_or_after, turn_of}
-use Rattle.pfc_sched.specs.Picks.{Picking, by_words, by_turn, by_list, named, picked_among, picked, after_picked, after_pick}
-use Rattle.pfc_sched.specs.Laws.{run_of_picks, script_pick, script_left, picks_in_order, IsPlain, recorded, PicksReady, PicksAlike, TakesInOrder, Replays}
+use Rattle.pfc_sched.specs.declared.picking.Pick.TheVariants.{Process, Nobody, NotReady, NoProcess}
+use Rattle.pfc_sched.specs.Words.{word}
+use Rattle.pfc_world.specs.Ready.{ready_from, ready_numbers, at_or_after}
+use Rattle.pfc_sched.specs.Picks.{Picking, by_words, by_turn, by_list, named, picked_among, picked}
+use Rattle.pfc_sched.specs.Laws.{run_of_picks, PicksReady, PicksAlike}
 
 pub picks_alike : PicksAlike
 picks_alike p q tables e = ap (λ x. run_of_picks x tables) e

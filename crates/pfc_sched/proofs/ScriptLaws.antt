@@ -1,6 +1,6 @@
 -- The laws on scripts: they are taken in order, and recorded picks can be replayed.
 use Rattle.std.proofs.Common.{◌≡◌, ℕ, zero, suc, ◌+◌, ◌-◌, ◌<◌, ◌≤◌, Bool, true, false, cond, nat_lt, min, List, [], ◌∷◌, length, drop, Option, Some, None}
-use Rattle.std.proofs.Common.{refl, ap, ◌∙◌, sym, subst, arith, slice_get}
+use Rattle.std.proofs.Common.{refl, ap, ◌∙◌, arith, slice_get}
 use Rattle.std.proofs.lemmas.Bool.Decides.{nat_tests}
 use Rattle.pfc_state.specs.Stands.{Stand, is_ready}
 use Rattle.pfc_world.specs.Tables.{at}

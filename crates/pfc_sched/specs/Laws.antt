@@ -1,5 +1,5 @@
 -- Laws on picks.
-use Rattle.std.specs.Prelude.{◌≡◌, ℕ, ◌<◌, List, [], ◌∷◌, length, drop, Option, Some, None, slice_get, true}
+use Rattle.std.specs.Prelude.{◌≡◌, ℕ, ◌<◌, List, [], ◌∷◌, length, drop, slice_get, true}
 use Rattle.pfc_state.specs.Stands.{Stand, is_ready}
 use Rattle.pfc_world.specs.Tables.{at}
 use Rattle.pfc_sched.specs.declared.picking.Pick.{Pick}

@@ -1,5 +1,5 @@
 -- The picker's fields as what contracts see of it.
-use Rattle.std.specs.Prelude.{ℕ, ◌+◌, ◌≤◌, length}
+use Rattle.std.specs.Prelude.{◌+◌, ◌≤◌, length}
 use Rattle.pfc_sched.specs.declared.picking.Mode.{Mode}
 use Rattle.pfc_sched.specs.declared.picking.Mode.TheVariants.{Fair, Unfair, Script}
 use Rattle.pfc_sched.specs.Picks.{Picking, by_words, by_turn, by_list}

@@ -8,7 +8,8 @@ ghost use Rattle.pfc_machines.specs.Descriptors.{descriptor_of};
 ghost use Rattle.pfc_machines.specs.Offers.{first_sought};
 ghost use Rattle.pfc_machines.specs.declared.alternatives.Sought.{Sought};
 ghost use Rattle.pfc_select_actions.specs.Conditions.{CanWait};
-ghost use Rattle.pfc_select_actions.specs.Selects.{open_count, open_ones, open_arms, matched_places, waits_at, seconds_of, times_out, waits_or_closed, goes_otherwise, takes_up};
+ghost use Rattle.pfc_select_actions.specs.Selects.{open_count, open_ones, open_arms, matched_places, waits_at, seconds_of, times_out, waits_or_closed};
+ghost use Rattle.pfc_select_actions.specs.Selects.{goes_otherwise, takes_up};
 
 use crate::partners::go_on;
 use pfc_base::RunFault;

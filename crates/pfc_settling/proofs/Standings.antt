@@ -1,10 +1,9 @@
 -- Standings, and the table behind the end of children that only serve.
 use Rattle.std.proofs.Common.{◌≡◌, ◌≢◌, ℕ, zero, suc, ◌+◌, Bool, true, false, not, ◌&&◌, ◌||◌, List, [], ◌∷◌, length, map, set, Option, Some, None, is_none}
-use Rattle.std.proofs.Common.{if◌then◌else◌, refl, sym, ap, ◌∙◌, arith}
+use Rattle.std.proofs.Common.{if◌then◌else◌, refl, ap, ◌∙◌, arith}
 use Rattle.std.proofs.lemmas.List.{length-map, length-set}
 use Rattle.pfc_state.specs.declared.standings.State.{State}
 use Rattle.pfc_state.specs.declared.standings.State.TheVariants.{Waiting}
-use Rattle.pfc_state.specs.declared.waits.Why.{Why}
 use Rattle.pfc_state.specs.declared.waits.Why.TheVariants.{Select}
 use Rattle.pfc_state.specs.Stands.{Stand, Is_idle, Is_created, Is_ready, Waits, Is_done, state_of, ticket_of, due_of, is_ready, may_end, woken}
 use Rattle.pfc_world.specs.Tables.{Table, at, some_ready}

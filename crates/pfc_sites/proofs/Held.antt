@@ -1,5 +1,5 @@
 -- A name that was found stands in its scope; where a variable lies depends on the scopes alone.
-use Rattle.std.proofs.Common.{◌≡◌, ℕ, zero, suc, ◌<◌, ◌≤◌, Bool, true, false, List, [], ◌∷◌, length, get_or, Option, Some, None, option_map, IfSome, refl, sym}
+use Rattle.std.proofs.Common.{◌≡◌, ℕ, zero, suc, ◌<◌, ◌≤◌, Bool, true, false, List, [], ◌∷◌, length, Option, Some, None, option_map, IfSome, refl, sym}
 use Rattle.std.proofs.Common.{ap, ◌∙◌, subst, arith}
 use Rattle.std.specs.Prelude.{if◌then◌else◌, nat_lt, bytes_eq}
 use Rattle.std.specs.Map.{keys_of}
@@ -12,7 +12,6 @@ use Rattle.pfc_types.specs.Scopes.{Names, Level, scope_at, meaning_in, position_
 use Rattle.pfc_types.specs.declared.scope.Meaning.{Meaning}
 use Rattle.pfc_types.specs.declared.view.Found.{Found}
 use Rattle.pfc_types.specs.rules.Expressions.{Env, find}
-use Rattle.pfc_semantics.specs.Displays.{TypedSpot}
 use Rattle.pfc_semantics.specs.Expressions.{spot_of, found_spot}
 use Rattle.pfc_types.specs.Views.{levels}
 use Rattle.pfc_phrases.specs.Views.{env_view}

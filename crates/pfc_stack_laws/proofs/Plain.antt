@@ -11,7 +11,7 @@ use Rattle.pfc_semantics.specs.Values.{Value, Values}
 use Rattle.pfc_cells.specs.Shapes as cells
 use Rattle.pfc_cells.specs.Shapes.{Fits, has_parts, IsPath, here, into_element, into_field}
 use Rattle.pfc_standing_code.specs.Shapes as code
-use Rattle.pfc_standing_code.specs.Shapes.{IsSound, a_number, a_whole, shape_of, shape_cells, IsShaped, has_object_form, is_object_type}
+use Rattle.pfc_standing_code.specs.Shapes.{a_number, a_whole, shape_of, shape_cells, IsShaped, has_object_form, is_object_type}
 use Rattle.pfc_standing_code.specs.ValueTypes.{IsValueType, value_simple, value_array, value_record, AreValueFields, no_value_field, one_value_field}
 use Rattle.pfc_stack_laws.specs.Standing.{AreTypes}
 

@@ -1,6 +1,7 @@
 //! Instructions of the stacks alone do on the stacks what the source text has them do.
 //!
-//! It promises that a quiet instruction leads where the laws on standing code have it lead, and that reads, writes and turns give and leave what the store of the
+//! It promises that a quiet instruction leads where the laws on standing code have it lead, and that reads, writes
+//! and turns give and leave what the store of the
 //! source text has. It has no code, and knows no other process.
 #![tactic(auto)]
 

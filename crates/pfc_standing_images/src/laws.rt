@@ -18,7 +18,8 @@ ghost use Rattle.pfc_standing_images.specs.Images.{IsOfImage, IsOfBlock, HasPhra
 ghost use Rattle.pfc_standing_images.specs.Bodies.{requeued_body, IsReady, AreReady, IsGuardReady, EachGuardReady};
 
 /// The blocks of an image are those of its program, in the same order, and main's behind them: each with its code at its addresses. The number
-/// by which code names the block of a scope, where there is one, is its place in that order. At the address that the image has for the scan of a resource stands its turn, with the line of the resource's final `end`.
+/// by which code names the block of a scope, where there is one, is its place in that order. At the address that the
+/// image has for the scan of a resource stands its turn, with the line of the resource's final `end`.
 pub fn blocks_stand()
     ensures blocks { (t : ProgramTree) (g : Setting) (k : ℕ) (b : Block) (c : CodeBlock) → IsOfImage t g
         → slice_get g.program.blocks k ≡ Some b → slice_get (image_of t).blocks k ≡ Some c → BlockStands g b c }

@@ -1,7 +1,9 @@
 //! The place of one process in the table.
 ghost use Rattle.std.specs.Prelude.{◌≡◌, ◌≤◌, false, length, IfOk, []};
 ghost use Rattle.pfc_state.specs.Seats.{seated, vacated};
-ghost use Rattle.pfc_state.specs.Stands.{Is_idle, Is_created, Is_ready, Waits, Is_done, IsWaiting, state_of, ticket_of, arms_of, due_of, is_ready, is_created, is_unfinished, is_at_coend, may_end, started, woken, is_above, ticket_at, rank_on, ticket_offering, ticket_barred};
+ghost use Rattle.pfc_state.specs.Stands.{Is_idle, Is_created, Is_ready, Waits, Is_done, IsWaiting, state_of, ticket_of, arms_of, due_of, is_ready};
+ghost use Rattle.pfc_state.specs.Stands.{is_created, is_unfinished, is_at_coend, may_end, started, woken, is_above, ticket_at, rank_on, ticket_offering};
+ghost use Rattle.pfc_state.specs.Stands.{ticket_barred};
 ghost use Rattle.pfc_state.specs.Waits.{is_select, has_arm, place_of_arm};
 
 use crate::offers::Offers;

@@ -229,7 +229,8 @@ module _ (g : Program) (block : Block) (view : List Level) (around : Around) (li
         let behind = and-right (clean (broken_term s.env first)) (clean rule && tail) h in
         let signed = signed_known sign x.0 (subst (λ (o : Option TypeId). clean (signed_rule (Some sign) o) ≡ true) x.1 (and-left (clean rule) tail behind)) in
         let is = ap (λ (o : Option TypeId). signed_type (Some sign) o) x.1 ∙ signed.1 in
-        let y = more_typed rest integer (subst (λ (o : Option TypeId). clean (broken_summands s.env o rest) ≡ true) is (and-right (clean rule) tail behind)) in (
+        let y = more_typed rest integer (subst (λ (o : Option TypeId). clean (broken_summands s.env o rest) ≡ true) is (and-right
+        (clean rule) tail behind)) in (
           y.0,
           ap (λ (o : Option TypeId). summed s.env o rest) is ∙
               y.1,

@@ -126,4 +126,5 @@ guard_own t lawful k b w there e i seen =
     let three : SeesThree b w =
     subst (λ (o : Option Guard). IfSome o (λ z. SeesThree b z)) e (each_of IsGuardView (program_of t).blocks k b (guards_see t lawful) there) in
     let blocks = (program_of t).state.blocks in
-    one_of_three (is_mains blocks) b.scope b.outer i (guard_of_mains t lawful k b w there e) refl (subst (λ (v : List Level). list_any (λ (l : Level). l.scope == i) v ≡ true) three.3 seen)
+    one_of_three (is_mains blocks) b.scope b.outer i (guard_of_mains t lawful k b w there e) refl (subst (λ (v : List Level). list_any (λ
+    (l : Level). l.scope == i) v ≡ true) three.3 seen)

@@ -5,7 +5,8 @@ ghost use Rattle.pfc_types.specs.rules.Whole.{finished, broken};
 ghost use Rattle.pfc_translation.specs.Sites.{Site};
 ghost use Rattle.pfc_typed_phrases.specs.Names.{AreKnown};
 ghost use Rattle.pfc_typed_statements.specs.Reached.{AreReached, AreCallable, HaveResults, HaveStarts};
-ghost use Rattle.pfc_typed_statements.specs.Statements.{AssignmentsAreTyped, SendsAreTyped, ReceivesAreTyped, RequeuesAreTyped, ItemsAreWritten, ItemsAreRead, CallsAreTyped};
+ghost use Rattle.pfc_typed_statements.specs.Statements.{AssignmentsAreTyped, SendsAreTyped, ReceivesAreTyped, RequeuesAreTyped, ItemsAreWritten};
+ghost use Rattle.pfc_typed_statements.specs.Statements.{ItemsAreRead, CallsAreTyped};
 
 /// An assignment, a send, a receive or a requeue in which no rule is broken has parts of the shapes that its code needs.
 pub fn messages_are_typed()

@@ -29,9 +29,18 @@ impl Model for Scopes {
 
     ghost Value = { Blocks };
 
-    ghost view = { λ s. record { scopes = s.scopes.items; subs = s.subs.items; modules = s.modules.items; processes = s.processes.items; entries = s.entries.items; population = s.population; noted = s.noted.items } };
+    ghost view = { λ s. record {
+      scopes = s.scopes.items;
+      subs = s.subs.items;
+      modules = s.modules.items;
+      processes = s.processes.items;
+      entries = s.entries.items;
+      population = s.population;
+      noted = s.noted.items;
+    } };
 
-    ghost invariant = { λ s. (length s.scopes.items < 2 ^ 32) × (length s.subs.items < 2 ^ 32) × (length s.modules.items < 2 ^ 32) × (length s.processes.items < 2 ^ 32) × (length s.entries.items < 2 ^ 32) };
+    ghost invariant = { λ s. (length s.scopes.items < 2 ^ 32) × (length s.subs.items < 2 ^ 32) × (length s.modules.items < 2 ^ 32)
+        × (length s.processes.items < 2 ^ 32) × (length s.entries.items < 2 ^ 32) };
 }
 
 /// Whether a list with this many items is full.
@@ -42,7 +51,8 @@ fn is_full(len: usize) -> bool
 }
 
 impl Scopes {
-    ghost use Rattle.pfc_types.specs.Blocks.{no_blocks, opened, with_name, with_sub, with_module, with_process, with_entry, with_population, with_noted, with_export};
+    ghost use Rattle.pfc_types.specs.Blocks.{no_blocks, opened, with_name, with_population, with_noted};
+    ghost use Rattle.pfc_types.specs.Blocks.{with_sub, with_module, with_process, with_entry, with_export};
     ghost use Rattle.pfc_types.specs.Scopes.{scope_at, meaning_in};
     ghost use Rattle.pfc_types.specs.declared.scope.ScopeFault.TheVariants.{Repeated};
 

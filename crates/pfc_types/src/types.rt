@@ -1,5 +1,6 @@
 //! Types of a program, as the table of types keeps them.
-ghost use Rattle.std.specs.Prelude.{◌≡◌, ◌++◌, List, [], ◌∷◌, ◌<◌, ℕ, IsSome, is_some, IfOk, IfErr, IsErr, OnOk, OnErr, IsTrue, ◌↔◌, length, Some, None, Err, option_map, option_copied, get_or};
+ghost use Rattle.std.specs.Prelude.{◌≡◌, ◌++◌, List, [], ◌∷◌, ◌<◌, ℕ, IsSome, is_some, IfOk, IfErr, IsErr, OnOk, OnErr, IsTrue, ◌↔◌, length, Some, None};
+ghost use Rattle.std.specs.Prelude.{Err, option_map, option_copied, get_or};
 
 use crate::ScopeFault;
 use indexmap::IndexMap;

@@ -19,7 +19,7 @@ use Rattle.pfc_cells.specs.Homes.{Home, Homes, Lies, layout_at, cells_before}
 use Rattle.pfc_cells.specs.Memory.{Entry, Entries, Lives}
 use Rattle.pfc_standing_code.specs.Shapes.{is_object_type}
 use Rattle.pfc_standing_code.specs.Settings.{View}
-use Rattle.pfc_standing_code.specs.Typed.{is_seen, variables_of}
+use Rattle.pfc_standing_code.specs.Typed.{variables_of}
 use Rattle.pfc_standing_code.specs.Words.{is_known}
 
 -- ## Static links

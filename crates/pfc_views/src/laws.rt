@@ -20,7 +20,8 @@ ghost use Rattle.pfc_standing_code.specs.Words.{AreKnown, IsWord, IsChecked};
 ghost use Rattle.pfc_views.specs.Views.{own_place, Sees, LiesAt, AreObjects, AreFew};
 ghost use Rattle.pfc_views.specs.Keeping.{IsLike};
 
-/// Where code has a word for a variable, or a part of one, that is in view, the location which the source text has for that spot lies there, and its activation is
+/// Where code has a word for a variable, or a part of one, that is in view, the location which the source text has
+/// for that spot lies there, and its activation is
 /// kept.
 pub fn named_variables_lie_in_view()
     ensures { (g : Program) (homes : Homes) (entries : Entries) (store : Store) (keeps : ℕ → Bool) (display : Display) (b : Block) (accepts : List ℕ) (w : ℤ)

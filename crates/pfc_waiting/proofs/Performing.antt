@@ -30,7 +30,7 @@ use Rattle.pfc_semantics.specs.Programs.{Program}
 use Rattle.pfc_semantics.specs.Remainders.{Context, Remainder, AwaitsValue, Action}
 use Rattle.pfc_semantics.specs.Rewriting.{holding, from_value}
 use Rattle.pfc_semantics.specs.Configurations as configurations
-use Rattle.pfc_semantics.specs.Configurations.{Config, Effect, activity_of, doing_next, goes_on, with_table, with_counted, with_monitors, number_for}
+use Rattle.pfc_semantics.specs.Configurations.{Config, Effect, goes_on, with_table, with_counted, with_monitors, number_for}
 use Rattle.pfc_semantics.specs.Steps.{effect}
 use Rattle.pfc_pending.specs.Waiting.{remainder_of, awaits_of}
 use Rattle.pfc_pending.specs.declared.actions.Deed.TheVariants as deed

@@ -1,5 +1,5 @@
 -- The run of a walker is that of its tree, and what is written of it.
-use Rattle.std.proofs.Common.{◌≡◌, ◌⊎◌, inl, inr, ℕ, Bool, List, [], ◌∷◌, ◌++◌, Option, Some, None, refl, sym, ap, ap₂, ◌∙◌, subst}
+use Rattle.std.proofs.Common.{◌≡◌, ◌⊎◌, inl, inr, ℕ, Bool, List, [], ◌∷◌, ◌++◌, Option, refl, sym, ap, ap₂, ◌∙◌, subst}
 use Rattle.std.proofs.lemmas.List.{append-nil}
 use Rattle.std.specs.Io.KnownBytes.{Appends}
 use Rattle.std.proofs.KnownBytes.{Appends-trans}
@@ -38,7 +38,7 @@ use Rattle.pfc_labels.specs.Processes.{processes_in}
 use Rattle.pfc_run_laws.specs.Outputs.{Extends}
 use Rattle.pfc_report.specs.Reports.{HasReport}
 use Rattle.pfc_outcome.specs.Meanings.{Run as ToldRun}
-use Rattle.pfc_outcome.specs.Outcomes.{ran_with, report_of, status_of}
+use Rattle.pfc_outcome.specs.Outcomes.{report_of, status_of}
 use Rattle.pfc_outcome.specs.Requests.{Settings}
 use Rattle.pfc_walk.specs.Answers.{Gives, IsAnswerToText}
 use Rattle.pfc_walk.specs.Meanings.{run_of, whole_meaning}

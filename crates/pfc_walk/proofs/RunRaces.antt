@@ -1,5 +1,5 @@
 -- The races of a walker's run are those of its tree, and what is written of them.
-use Rattle.std.proofs.Common.{◌≡◌, ◌≢◌, ◌≤◌, ℕ, Bool, false, List, [], length, Result, Ok, Err, refl, sym, ap, ◌∙◌, subst, arith}
+use Rattle.std.proofs.Common.{◌≡◌, ◌≢◌, ◌≤◌, ℕ, Bool, false, List, [], length, Result, Ok, refl, sym, ap, ◌∙◌, arith}
 use Rattle.pfc_hb.specs.declared.events.Event.{Event}
 use Rattle.pfc_sched.specs.Picks.{Picking, first_picking}
 use Rattle.pfc_sched.specs.declared.picking.Policy.{Policy}

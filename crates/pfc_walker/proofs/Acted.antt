@@ -1,7 +1,6 @@
 -- An action that was done, and what is told of it.
-use Rattle.std.proofs.Common.{◌≡◌, ℕ, ◌<◌, ◌≤◌, ◌*◌, ◌^◌, Bool, List, [], ◌∷◌, ◌++◌, length, decimal, Ok, Err, Result, refl, sym, ap, ◌∙◌, subst, arith}
+use Rattle.std.proofs.Common.{◌≡◌, ℕ, ◌<◌, ◌≤◌, ◌*◌, ◌^◌, Bool, List, [], ◌∷◌, ◌++◌, length, Ok, sym, ap, ◌∙◌, subst, arith}
 use Rattle.std.proofs.Common.{append-nil, length-append}
-use Rattle.pfc_base.specs.declared.faults.RunFault.{RunFault}
 use Rattle.pfc_values.specs.Outputs.{Gains, is_open_line}
 use Rattle.pfc_world.specs.Tables.{Table, at}
 use Rattle.pfc_world.specs.Tickets.{IsNew}

@@ -3,7 +3,7 @@ use Rattle.std.proofs.Common.{◌≡◌, ◌≢◌, ◌-◌, arith, ℕ, zero, s
 use Rattle.std.proofs.Common.{Some, None, refl, sym, ap, ◌∙◌, subst, append-nil}
 use Rattle.std.proofs.KnownBytes.{Appends-nil}
 use Rattle.pfc_io.specs.Writes.{AppendsFront}
-use Rattle.pfc_io.proofs.Written.{AppendsFront-none, AppendsFront-whole}
+use Rattle.pfc_io.proofs.Written.{AppendsFront-none}
 use Rattle.pfc_base.specs.declared.faults.RunFault.{RunFault}
 use Rattle.pfc_state.specs.declared.endings.Ending.{Ending}
 use Rattle.pfc_state.specs.declared.endings.Ending.TheVariants.{Finished, Fault, Deadlock, Limit, Memory as NoMemory}
@@ -21,17 +21,16 @@ use Rattle.pfc_semantics.specs.Programs.{Program}
 use Rattle.pfc_semantics.specs.Configurations.{Config, FaultAt}
 use Rattle.pfc_semantics.specs.Time.{terminated_over, settled_config}
 use Rattle.pfc_semantics.specs.Selects.{choices}
-use Rattle.pfc_semantics.specs.Steps.{next_of, effect}
+use Rattle.pfc_semantics.specs.Steps.{next_of}
 use Rattle.pfc_semantics.specs.Events.{Event, Step, step}
 use Rattle.pfc_semantics.specs.Runs.{Run, is_done, ending_at, ended_with, unless_ended, by_pick, behind_event, choice_among, behind_choice, run_from}
 use Rattle.pfc_races.specs.RunSteps.{of_process, steps_behind, steps_from, unless_over}
-use Rattle.pfc_activities.specs.declared.changes.Done.{Done}
 use Rattle.pfc_activities.specs.declared.changes.Done.TheVariants.{Stepped, Faulted}
 use Rattle.pfc_activities.specs.declared.source.Source.{Source}
 use Rattle.pfc_activities.specs.declared.state.State.{State}
 use Rattle.pfc_activities.specs.Relation.{Stands, Reports, MayAct}
 use Rattle.pfc_activities.proofs.Acting.{reports_of}
-use Rattle.pfc_walker.specs.Courses.{GoesOn, IsPassed, on_the_way, Completes, IsBrokenOff, Continues, IsOver, IsPick}
+use Rattle.pfc_walker.specs.Courses.{GoesOn, on_the_way, Completes, IsBrokenOff, Continues, IsOver, IsPick}
 use Rattle.pfc_walker.specs.Telling.{AreTold, IsTold, step_by, behind_step}
 use Rattle.pfc_walker.specs.declared.telling.Told.{Told}
 use Rattle.pfc_walker.proofs.Joining.{goes_here, told_as, told_end, told_still, told_twice}

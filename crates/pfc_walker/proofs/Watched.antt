@@ -1,5 +1,5 @@
 -- A run that is watched, event by event.
-use Rattle.std.proofs.Common.{◌≡◌, ℕ, ◌+◌, Bool, List, [], ◌∷◌, ◌++◌, Option, Some, None, append_assoc, append-nil, refl, sym, ap, ◌∙◌}
+use Rattle.std.proofs.Common.{◌≡◌, ℕ, ◌+◌, Bool, List, [], ◌∷◌, ◌++◌, Option, append_assoc, append-nil, refl, sym, ap, ◌∙◌}
 use Rattle.pfc_hb.specs.declared.events.Event.{Event as EventSeen}
 use Rattle.pfc_state.specs.declared.endings.Ending.TheVariants.{Fault}
 use Rattle.pfc_sched.specs.Picks.{Picking}
@@ -9,11 +9,8 @@ use Rattle.pfc_semantics.specs.Time.{settled_config}
 use Rattle.pfc_semantics.specs.Events.{Step}
 use Rattle.pfc_semantics.specs.Steps.{next_of}
 use Rattle.pfc_races.specs.Ordered.{event_behind, ordered, unless_fault, waited_behind}
-use Rattle.pfc_races.specs.RunSteps.{steps_from}
 use Rattle.pfc_activities.specs.declared.source.Source.{Source}
 use Rattle.pfc_activities.specs.declared.state.State.{State}
-use Rattle.pfc_activities.specs.Programs.{IsProgram}
-use Rattle.pfc_activities.specs.Relation.{Stands}
 use Rattle.pfc_acting.specs.Acting.{IsAction}
 use Rattle.pfc_watching.specs.Watching.{Watches, done_of, step_by}
 use Rattle.pfc_watching.specs.declared.acting.Walked.{Walked}

@@ -1,7 +1,6 @@
 -- What is told of a step, on both sides.
 use Rattle.std.proofs.Common.{◌≡◌, ℕ, Bool, List, Ok, Err, refl, sym, ap, ◌∙◌}
 use Rattle.std.specs.Prelude.{◌==◌, ◌&&◌, if◌then◌else◌}
-use Rattle.pfc_hb.specs.declared.events.Event.{Event as EventSeen}
 use Rattle.pfc_sched.specs.Picks.{Picking}
 use Rattle.pfc_state.specs.Stands.{is_at_coend}
 use Rattle.pfc_world.specs.Tables.{Table, at}

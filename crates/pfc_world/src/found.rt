@@ -1,10 +1,8 @@
 //! Who was found last among those who are barred at each resource.
 
+use crate::lists::MOST_PLACES;
 use pfc_base::Memory;
 use std::alloc::Global;
-
-/// The most resources that have a place of their own.
-const MOST_PLACES: u32 = 262_144;
 
 /// Who was found last at each resource: where to look for the next. Nothing rests on it but the time that this takes, so its
 /// contracts say nothing. Resources whose numbers differ by a multiple of the number of places share one.

@@ -5,7 +5,7 @@ ghost use Rattle.pfc_world.specs.Lists.{list_count, list_at, list_of, call_place
 use crate::Why;
 
 /// The most lists that each cause of waits has.
-const MOST_PLACES: u32 = 262_144;
+pub(crate) const MOST_PLACES: u32 = 262_144;
 
 /// How waits are spread over lists: how many each cause of waits has, and how many processes there are.
 #[derive(Clone, Copy, Drop)]

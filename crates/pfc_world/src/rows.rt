@@ -316,6 +316,7 @@ impl Rows {
     pub(crate) fn is_barred_since(&self, p: u32, resource: u32, ticket: u64) -> bool
         ensures within { result ≡ true → p < length self.now.rows }
         ensures barred { result ≡ true → ticket_barred resource None (at self.now.rows p) ≡ Some ticket }
+        ensures told { p < length self.now.rows → ticket_barred resource None (at self.now.rows p) ≡ Some ticket → result ≡ true }
     {
         let Some(row) = self.rows.get(p as usize) else {
             return false;

@@ -53,8 +53,8 @@ impl World {
     /// idle, and the clock is at 0. Each kind of wait, and of alternatives, has as many lists as there are objects, but at
     /// least one and at most 262,144. Where all numbers of semaphores, channels, monitors, conditions and resources
     /// are below this, and n times the number of entries of a process is no more, no two objects share a list. The memory
-    /// of a list is 8 bytes, and each object counts for seventeen, and for 4 bytes more. Its only refusal is want of memory; no other call takes
-    /// memory.
+    /// of a list is 8 bytes, and each object counts for seventeen, and for 4 bytes more. Its only refusal is want of
+    /// memory; no other call takes memory.
     pub fn with_processes(alloc: Global, n: u32, arms: u32, objects: u32) -> Result<World, Memory>
         requires some { 0 < n }
         requires few { n ≤ 1024 }

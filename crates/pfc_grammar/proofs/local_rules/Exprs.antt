@@ -1,8 +1,8 @@
 -- The readers of expressions look no further than at the symbol on which they end.
 use Rattle.std.proofs.Common.{ℕ, zero, suc, Bool, true, false, Option}
 use Rattle.pfc_tree.specs.Symbols.{Text}
-use Rattle.pfc_grammar.proofs.Local.{Local, local_pure, local_stop, local_stop_deep, local_bind, local_branch, local_choose, local_take, local_finish}
-use Rattle.pfc_grammar.proofs.LocalLoops.{local_onto, local_many, local_list, local_some, local_list_end, local_while}
+use Rattle.pfc_grammar.proofs.Local.{Local, local_pure, local_stop, local_stop_deep, local_bind, local_branch, local_choose, local_take}
+use Rattle.pfc_grammar.proofs.LocalLoops.{local_many, local_list, local_some, local_list_end}
 use Rattle.pfc_grammar.specs.Reading.{Reader}
 use Rattle.pfc_base.specs.declared.word.TheConstants.{NOT}
 use Rattle.pfc_tree.specs.declared.tree.Sign as plus_or_minus

@@ -1,4 +1,4 @@
-use Rattle.std.proofs.Common.{sym, ap, ◌∙◌}
+use Rattle.std.proofs.Common.{ap, ◌∙◌}
 use Rattle.pfc_pending.specs.Waiting.{remainder_of, waiting}
 use Rattle.pfc_beginning.proofs.Parts.{performs}
 use Rattle.pfc_beginning.proofs.bodies.put_some.Goals as goal

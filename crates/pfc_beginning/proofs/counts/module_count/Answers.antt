@@ -1,7 +1,6 @@
 use Rattle.std.proofs.Common.{◌≡◌, ◌∙◌, ℕ, Bool, ◌+◌, ◌<◌, length, take, sym, ap, arith}
 use Rattle.std.specs.Prelude.{if◌then◌else◌}
 use Rattle.pfc_types.specs.Blocks.{no_module}
-use Rattle.pfc_types.specs.declared.heads.ModuleHead.{ModuleHead}
 use Rattle.pfc_semantics.specs.Objects.{of_kind}
 use Rattle.pfc_store.proofs.Counting.{kind_next}
 use Rattle.pfc_beginning.proofs.counts.module_count.Goals as goal

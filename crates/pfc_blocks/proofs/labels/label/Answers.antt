@@ -1,13 +1,13 @@
-use Rattle.std.proofs.Common.{◌≡◌, ◌∙◌, List, ℕ, [], Some, IfOk, sym, ap, subst}
+use Rattle.std.proofs.Common.{◌≡◌, ◌∙◌, [], Some, IfOk, sym, ap, subst}
 use Rattle.std.specs.Prelude.{position}
 use Rattle.pfc_tree.specs.Symbols.{Text}
-use Rattle.pfc_types.specs.Scopes.{Names, scope_at}
+use Rattle.pfc_types.specs.Scopes.{Names}
 use Rattle.pfc_types.specs.declared.scope.Meaning.{Meaning}
 use Rattle.pfc_types.specs.declared.scope.Meaning.TheVariants.{Faulty}
 use Rattle.pfc_program.specs.Views.{tables_view}
 use Rattle.pfc_translation.specs.Images as images
 use Rattle.pfc_labels.proofs.Found.{found}
-use Rattle.pfc_blocks.proofs.LabelPlaces.{is_named, label_at}
+use Rattle.pfc_blocks.proofs.LabelPlaces.{label_at}
 use Rattle.pfc_blocks.proofs.labels.label.Goals as goal
 
 pub returns-then-place-k : goal.returns-then-place-k

@@ -1,11 +1,10 @@
-use Rattle.std.proofs.Common.{rules, ◌≡◌, ◌∙◌, ◌+◌, ◌-◌, ◌<◌, ◌∷◌, ◌++◌, [], ℕ, ℤ, pos, List, suc, take, drop, Some, None, OnOk, sym, subst, ap, ap₂, arith}
+use Rattle.std.proofs.Common.{rules, ◌≡◌, ◌∙◌, ◌+◌, ◌-◌, ◌<◌, ◌∷◌, ◌++◌, [], ℕ, ℤ, pos, suc, take, drop, Some, None, OnOk, sym, subst, ap, ap₂, arith}
 use Rattle.std.specs.Prelude.{◌+ℤ◌}
 use Rattle.std.proofs.lemmas.Int.{ints}
 use Rattle.std.specs.Option.{option_copied}
 use Rattle.pfc_tree.specs.Symbols.{Text}
 use Rattle.std.proofs.lemmas.List.{drop_all}
 use Rattle.pfc_types.specs.Types.{extent}
-use Rattle.pfc_code.specs.declared.images.ProcessInfo.{ProcessInfo}
 use Rattle.pfc_translation.specs.Objects.{Labelled, labelled_before, all_labelled, elements_labelled, process_info}
 use Rattle.pfc_labels.specs.Processes.{known, infos}
 use Rattle.pfc_labels.proofs.Labelled.{labelled_of_form, part_before, part_past, none_held, nothing_labelled, none_labelled, elements_next, elements_done}

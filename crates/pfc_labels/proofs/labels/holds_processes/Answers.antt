@@ -1,9 +1,8 @@
-use Rattle.std.proofs.Common.{◌≡◌, ℕ, [], arith, ap, ◌∙◌, sym}
+use Rattle.std.proofs.Common.{◌≡◌, [], arith, ap, ◌∙◌, sym}
 use Rattle.std.proofs.lemmas.Bool.Decides.{nat_tests}
 use Rattle.pfc_types.specs.declared.table.Held.{Held}
 use Rattle.pfc_types.specs.declared.scope.Meaning.{Meaning}
 use Rattle.pfc_translation.specs.Objects.{all_labelled, name_labelled}
-use Rattle.pfc_types.specs.Types.{held_of}
 use Rattle.pfc_labels.proofs.Labelled.{none_held}
 use Rattle.pfc_labels.proofs.labels.holds_processes.Goals as goal
 

@@ -1,6 +1,5 @@
-use Rattle.std.proofs.Common.{[], refl, ap, subst, ◌∙◌, w64, ℤ}
+use Rattle.std.proofs.Common.{[], ap, subst, ◌∙◌, w64, ℤ}
 use Rattle.std.proofs.lemmas.Int.{to_z-of_z}
-use Rattle.pfc_pending.specs.declared.actions.Deed.{Deed}
 use Rattle.pfc_pending.specs.declared.actions.Deed.TheVariants as deed
 use Rattle.pfc_activities.specs.Relation.{Performs}
 use Rattle.pfc_performing.proofs.Performed.{done_so, given_so, stays_same}

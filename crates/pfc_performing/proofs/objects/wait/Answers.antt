@@ -1,5 +1,4 @@
-use Rattle.std.proofs.Common.{refl, ap}
-use Rattle.pfc_pending.specs.declared.actions.Deed.{Deed}
+use Rattle.std.proofs.Common.{ap}
 use Rattle.pfc_pending.specs.declared.actions.Deed.TheVariants as deed
 use Rattle.pfc_performing.proofs.Performed.{done_so, given_so, stays_same}
 use Rattle.pfc_performing.proofs.objects.wait.Goals as goal

@@ -1,7 +1,7 @@
 use Rattle.std.proofs.Common.{◌≡◌, refl, sym, subst}
 use Rattle.std.specs.Prelude.{IfOk, IfErr}
 use Rattle.pfc_performing.specs.Performing.{IsDone}
-use Rattle.pfc_performing.proofs.Performed.{tried_done, not_choosing, in_any, stays_same}
+use Rattle.pfc_performing.proofs.Performed.{tried_done, not_choosing, in_any}
 use Rattle.pfc_performing.proofs.performing.perform_other.Goals as goal
 
 pub returns-in_default-clause-ok : goal.returns-in_default-clause-ok

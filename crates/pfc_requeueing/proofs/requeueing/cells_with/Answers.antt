@@ -1,4 +1,4 @@
-use Rattle.std.proofs.Common.{◌≡◌, ℕ, false, List, [], drop, ap, ◌∙◌}
+use Rattle.std.proofs.Common.{◌≡◌, List, [], ap, ◌∙◌}
 use Rattle.std.specs.Prelude.{nat_le}
 use Rattle.pfc_program.specs.Views.{block_view}
 use Rattle.pfc_semantics.specs.Calls as calls

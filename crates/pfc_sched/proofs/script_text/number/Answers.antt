@@ -1,4 +1,4 @@
-use Rattle.std.proofs.Common.{◌≡◌, Bool, refl, true, false, not, arith, ◌∙◌, sym}
+use Rattle.std.proofs.Common.{◌≡◌, true, false, not, arith, ◌∙◌, sym}
 use Rattle.std.specs.Char.{is_ascii_digit}
 use Rattle.pfc_sched.proofs.Numbers.{past_at, at_least}
 use Rattle.pfc_sched.proofs.script_text.number.Goals as goal

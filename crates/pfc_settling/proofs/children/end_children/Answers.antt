@@ -1,4 +1,4 @@
-use Rattle.std.proofs.Common.{length, ◌≤◌, sym, ◌∙◌, arith}
+use Rattle.std.proofs.Common.{length, ◌≤◌, ◌∙◌, arith}
 use Rattle.pfc_settling.proofs.Ending.{all_so}
 use Rattle.pfc_settling.proofs.children.end_children.Goals as goal
 

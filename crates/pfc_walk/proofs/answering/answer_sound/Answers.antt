@@ -1,9 +1,9 @@
-use Rattle.std.proofs.Common.{◌≡◌, Ok, Err, Result, ℕ, List, rules, sym, ap, ◌∙◌}
+use Rattle.std.proofs.Common.{◌≡◌, Ok, Err, Result, ℕ, rules, sym, ap, ◌∙◌}
 use Rattle.pfc_io.proofs.Written.{AppendsFront-none}
 use Rattle.pfc_sched.specs.declared.picking.Policy.{Policy}
 use Rattle.pfc_tree.specs.views.Parts.{tree_view}
 use Rattle.pfc_outcome.specs.Loaded.{asks}
-use Rattle.pfc_outcome.specs.Outcomes.{Outcome, behind, without_run}
+use Rattle.pfc_outcome.specs.Outcomes.{behind, without_run}
 use Rattle.pfc_outcome.specs.Requests.{policy_of, settings_of}
 use Rattle.pfc_walk.specs.Traces.{program_shown, run_shown, under_shown}
 use Rattle.pfc_walk.proofs.Outcomes.{stopped_written, written_as}

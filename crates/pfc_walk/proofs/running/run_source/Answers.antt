@@ -1,4 +1,4 @@
-use Rattle.std.proofs.Common.{◌≡◌, ℕ, List, refl, sym, subst, ap, ◌∙◌}
+use Rattle.std.proofs.Common.{◌≡◌, ℕ, List, refl, subst, ap, ◌∙◌}
 use Rattle.pfc_io.proofs.Written.{AppendsFront-append, AppendsFront-none}
 use Rattle.pfc_tree.specs.declared.tree.Tree.{Tree}
 use Rattle.pfc_tree.specs.views.Parts.{tree_view}

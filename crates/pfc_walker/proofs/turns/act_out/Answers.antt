@@ -1,6 +1,4 @@
 use Rattle.std.proofs.Common.{rules, ap, ◌∙◌, subst}
-use Rattle.pfc_semantics.specs.Programs.{Program}
-use Rattle.pfc_semantics.specs.Configurations.{Config}
 use Rattle.pfc_world.specs.Tables.{Table}
 use Rattle.pfc_activities.specs.declared.changes.Done.{Done}
 use Rattle.pfc_acting.proofs.Before.{before_any}

@@ -1,4 +1,4 @@
-use Rattle.std.proofs.Common.{◌≡◌, ◌-◌, ◌++◌, List, [], Option, Some, None, ap, arith, subst, sym}
+use Rattle.std.proofs.Common.{◌≡◌, ◌-◌, ◌++◌, List, [], Option, Some, ap, arith, subst, sym}
 use Rattle.pfc_hb.specs.declared.events.Event.{Event as EventSeen}
 use Rattle.pfc_walker.specs.Watching.{IsFirstEvent, IsNextEvent, Watched, events_from}
 use Rattle.pfc_walker.proofs.Watched.{watched_all, watched_more}

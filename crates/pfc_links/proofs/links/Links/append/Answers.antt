@@ -1,5 +1,5 @@
 use Rattle.std.proofs.Common.{◌≡◌, ◌<◌, ◌+◌, length, arith, sym, ap, ◌∙◌, subst}
-use Rattle.pfc_links.specs.Members.{Lists, member_at, in_list, latest}
+use Rattle.pfc_links.specs.Members.{latest}
 use Rattle.pfc_links.proofs.In.{Comes, last-room, put-in}
 use Rattle.pfc_links.proofs.links.Links.append.Goals as goal
 

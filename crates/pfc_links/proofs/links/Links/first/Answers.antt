@@ -1,5 +1,4 @@
-use Rattle.std.proofs.Common.{◌+◌, ◌<◌, length, arith, refl, sym, ap, ◌∙◌}
-use Rattle.pfc_links.specs.Members.{latest}
+use Rattle.std.proofs.Common.{◌+◌, ◌<◌, length, arith, refl, ◌∙◌}
 use Rattle.pfc_links.specs.Linked.{IsFrom}
 use Rattle.pfc_links.proofs.Looks.{behind-read, first-of}
 use Rattle.pfc_links.proofs.links.Links.first.Goals as goal

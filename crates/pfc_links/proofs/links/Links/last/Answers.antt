@@ -1,4 +1,4 @@
-use Rattle.std.proofs.Common.{◌+◌, ◌<◌, length, arith, refl, sym, ap, ◌∙◌}
+use Rattle.std.proofs.Common.{◌+◌, ◌<◌, length, arith, refl, ◌∙◌}
 use Rattle.pfc_links.specs.Members.{latest}
 use Rattle.pfc_links.specs.Linked.{IsBackFrom}
 use Rattle.pfc_links.proofs.Looks.{before-read, last-of}

@@ -1,4 +1,4 @@
-use Rattle.std.proofs.Common.{◌<◌, length, true, is_some, arith, sym, subst}
+use Rattle.std.proofs.Common.{◌<◌, length, arith, sym, subst}
 use Rattle.pfc_links.specs.Members.{member_at}
 use Rattle.pfc_links.proofs.Out.{HasMember, member-of, before-room, behind-room, taken-out}
 use Rattle.pfc_links.proofs.links.Links.remove.Goals as goal

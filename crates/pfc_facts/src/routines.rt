@@ -3,6 +3,8 @@ ghost use Rattle.std.specs.Prelude.{◌≡◌};
 ghost use Rattle.pfc_semantics.specs.Predeclared as predeclared;
 ghost use Rattle.pfc_facts.specs.Views.{function_view, procedure_view};
 
+use pfc_types::PredeclaredName;
+
 /// A predeclared function.
 #[derive(Clone, Copy, Debug, PartialEq, Eq)]
 pub enum Function {
@@ -39,42 +41,42 @@ pub enum Procedure {
     NoProcedure,
 }
 
-/// The function with the number of a predeclared name.
-pub fn function_of(k: u8) -> Function
+/// The function that a predeclared name is.
+pub fn function_of(k: PredeclaredName) -> Function
     ensures { function_view result ≡ predeclared.function_of k }
 {
     match k {
-        1 => Function::Abs,
-        2 => Function::Sqr,
-        3 => Function::Odd,
-        4 => Function::Ord,
-        5 => Function::Chr,
-        6 => Function::Succ,
-        7 => Function::Pred,
-        8 => Function::Eof,
-        9 => Function::Eoln,
-        10 => Function::Empty,
-        11 => Function::Clock,
-        12 => Function::Random,
+        PredeclaredName::Abs => Function::Abs,
+        PredeclaredName::Sqr => Function::Sqr,
+        PredeclaredName::Odd => Function::Odd,
+        PredeclaredName::Ord => Function::Ord,
+        PredeclaredName::Chr => Function::Chr,
+        PredeclaredName::Succ => Function::Succ,
+        PredeclaredName::Pred => Function::Pred,
+        PredeclaredName::Eof => Function::Eof,
+        PredeclaredName::Eoln => Function::Eoln,
+        PredeclaredName::Empty => Function::Empty,
+        PredeclaredName::Clock => Function::Clock,
+        PredeclaredName::Random => Function::Random,
         _ => Function::NoFunction,
     }
 }
 
-/// The procedure with the number of a predeclared name.
-pub fn procedure_of(k: u8) -> Procedure
+/// The procedure that a predeclared name is.
+pub fn procedure_of(k: PredeclaredName) -> Procedure
     ensures { procedure_view result ≡ predeclared.procedure_of k }
 {
     match k {
-        13 => Procedure::Reader(false),
-        14 => Procedure::Reader(true),
-        15 => Procedure::Writer(false),
-        16 => Procedure::Writer(true),
-        17 => Procedure::Initial,
-        18 => Procedure::Wait,
-        19 => Procedure::Signal,
-        20 => Procedure::Delay,
-        21 => Procedure::Resume,
-        22 => Procedure::Sleep,
+        PredeclaredName::Read => Procedure::Reader(false),
+        PredeclaredName::Readln => Procedure::Reader(true),
+        PredeclaredName::Write => Procedure::Writer(false),
+        PredeclaredName::Writeln => Procedure::Writer(true),
+        PredeclaredName::Initial => Procedure::Initial,
+        PredeclaredName::Wait => Procedure::Wait,
+        PredeclaredName::Signal => Procedure::Signal,
+        PredeclaredName::Delay => Procedure::Delay,
+        PredeclaredName::Resume => Procedure::Resume,
+        PredeclaredName::Sleep => Procedure::Sleep,
         _ => Procedure::NoProcedure,
     }
 }

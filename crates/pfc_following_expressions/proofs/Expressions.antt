@@ -27,6 +27,7 @@ use Rattle.pfc_types.specs.declared.types.TypeId.{TypeId}
 use Rattle.pfc_types.specs.declared.types.TypeForm.{TypeForm}
 use Rattle.pfc_types.specs.declared.types.TypeForm.TheVariants.{Channel, Array, Record, Process as AProcess}
 use Rattle.pfc_types.specs.declared.view.Around.{Around}
+use Rattle.pfc_types.specs.declared.predeclared.PredeclaredName.{PredeclaredName}
 use Rattle.pfc_types.specs.declared.scope.Meaning.{Meaning}
 use Rattle.pfc_types.specs.declared.scope.Meaning.TheVariants.{Constant, Named, Variable, Sub as ASub, Module, Process, Entry, Predeclared, Faulty}
 use Rattle.pfc_types.specs.declared.heads.Formal.{Formal}
@@ -516,7 +517,7 @@ module _ (g : Setting) (b : Block) (names : List Level) (around : Around) (check
       → ((formals : List Formal) → A formals → IsSized (args formals) ×
       ((at n held : ℕ) → held_after g.program held ((args formals).put at n) ≡ formals_cells forms formals + held) ×
       Passes (args formals) formals trees (from_all formals))
-      → ((k : ℕ) → m ≡ Some (Predeclared k) → F (function_of k) → Evaluates (predeclared (function_of k)) h (from_predeclared (function_of k)))
+      → ((k : PredeclaredName) → m ≡ Some (Predeclared k) → F (function_of k) → Evaluates (predeclared (function_of k)) h (from_predeclared (function_of k)))
       → Evaluates (name_code s m ss (base_code s v.spot ⨾ selectors_code s v.t ss) args predeclared) h
       (λ u go. from_name x m u go (λ goal arrive. from_selectors x v ss goal arrive) (λ formals call. from_all formals [] call) (λ f. from_predeclared f u go))
   name_follows (Some (Constant t c)) h ss v trees args predeclared from_all from_predeclared A F

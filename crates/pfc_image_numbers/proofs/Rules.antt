@@ -1,8 +1,6 @@
 -- What unbroken rules say of names and arguments.
-use Rattle.std.proofs.Common.{◌≡◌, ℕ, ◌+◌, ◌-◌, ◌≤◌, zero, suc, Bool, true, false, not, ◌&&◌, nat_lt, ◌⊎◌, inl, inr, List, [], ◌∷◌, ◌++◌, get_or, take, drop}
-use Rattle.std.proofs.Common.{Option, Some, None, if◌then◌else◌, refl, ap, sym, ◌∙◌, subst, arith}
-use Rattle.std.proofs.lemmas.Bool.Decides.{nat_tests}
-use Rattle.std.proofs.lemmas.List.{get_or-append-add}
+use Rattle.std.proofs.Common.{◌≡◌, ℕ, Bool, true, false, not, ◌&&◌, ◌⊎◌, inl, inr, List, [], ◌∷◌, ◌++◌}
+use Rattle.std.proofs.Common.{Option, Some, None, if◌then◌else◌, refl, ap, subst}
 use Rattle.pfc_base.specs.declared.places.Place.{Place}
 use Rattle.pfc_types.specs.declared.types.TypeId.{TypeId}
 use Rattle.pfc_types.specs.declared.scope.Meaning.{Meaning}
@@ -24,11 +22,13 @@ use Rattle.pfc_types.specs.declared.heads.Formal.{Formal}
 use Rattle.pfc_types.specs.declared.view.Found.{Found}
 use Rattle.pfc_types.specs.Scopes.{Level, meaning_of}
 use Rattle.pfc_types.specs.rules.Expressions.{Env, find, broken_selectors, field_type, selected, selected_by, broken_actuals, found_lends, use_rules}
-use Rattle.pfc_types.specs.rules.Routines.{Want, a_value, a_variable_of, gives, Site, in_main, in_monitor_sub, Routine, the_signal, a_function, a_procedure}
-use Rattle.pfc_types.specs.rules.Routines.{a_delay, a_reader, a_writer, one_condition, one_integer, anywhere, routines, routine_of, nothing_called, called_sort}
+use Rattle.pfc_types.specs.declared.predeclared.PredeclaredName.{PredeclaredName}
+use Rattle.pfc_types.specs.declared.predeclared.PredeclaredName.TheVariants as name
+use Rattle.pfc_types.specs.rules.Routines.{Want, a_value, a_variable_of, gives, Site, in_main, in_monitor_sub, Routine, a_function, a_procedure}
+use Rattle.pfc_types.specs.rules.Routines.{a_delay, a_reader, a_writer, one_condition, one_integer, anywhere, routine_of, nothing_called, called_sort}
 use Rattle.pfc_types.specs.rules.Routines.{called_routine, is_function_sort, wants_for}
-use Rattle.pfc_semantics.specs.Predeclared.{Function, abs, sqr, odd, ord, chr, succ, pred, eof, eoln, empty, clock, random, no_function, functions, function_of}
-use Rattle.pfc_semantics.specs.Predeclared.{Procedure as AProcedure, reader, writer, initial, wait, signal, delay, resume, sleep, no_procedure, procedures}
+use Rattle.pfc_semantics.specs.Predeclared.{Function, abs, sqr, odd, ord, chr, succ, pred, eof, eoln, empty, clock, random, no_function, function_of}
+use Rattle.pfc_semantics.specs.Predeclared.{Procedure as AProcedure, reader, writer, initial, wait, signal, delay, resume, sleep, no_procedure}
 use Rattle.pfc_semantics.specs.Predeclared.{procedure_of}
 use Rattle.pfc_types.specs.declared.view.Around.{Around}
 use Rattle.pfc_image_numbers.proofs.Alike.{AreAlike}
@@ -76,23 +76,30 @@ abbrev pub IsOfFunction : Function → Routine → Type 0
 IsOfFunction empty r = r ≡ a_function one_condition (gives boolean) in_monitor_sub
 IsOfFunction f r = Unit {0}
 
-Functions : List Function → List Routine → Type 0
-Functions [] rs = Unit {0}
-Functions (f ∷ fs) [] = IsOfFunction f the_signal × Functions fs []
-Functions (f ∷ fs) (r ∷ rs) = IsOfFunction f r × Functions fs rs
-
-functions_at : (fs : List Function) (rs : List Routine) (k : ℕ) → Functions fs rs → IsOfFunction (get_or fs k no_function) (get_or rs k the_signal)
-unfolding Functions
-functions_at [] rs k h = tt
-functions_at (f ∷ fs) [] zero h = h.0
-functions_at (f ∷ fs) [] (suc k) h = functions_at fs [] k h.1
-functions_at (f ∷ fs) (r ∷ rs) zero h = h.0
-functions_at (f ∷ fs) (r ∷ rs) (suc k) h = functions_at fs rs k h.1
-
-pub matches_function : (k : ℕ) → IsOfFunction (function_of k) (routine_of k)
-unfolding Functions
-matches_function k =
-    functions_at functions routines k (tt, (tt, (tt, (tt, (tt, (tt, (tt, (tt, (tt, (tt, (refl, (tt, (tt, tt)))))))))))))
+pub matches_function : (k : PredeclaredName) → IsOfFunction (function_of k) (routine_of k)
+matches_function name.Any = tt
+matches_function name.Abs = tt
+matches_function name.Sqr = tt
+matches_function name.Odd = tt
+matches_function name.Ord = tt
+matches_function name.Chr = tt
+matches_function name.Succ = tt
+matches_function name.Pred = tt
+matches_function name.Eof = tt
+matches_function name.Eoln = tt
+matches_function name.Empty = refl
+matches_function name.Clock = tt
+matches_function name.Random = tt
+matches_function name.Read = tt
+matches_function name.Readln = tt
+matches_function name.Write = tt
+matches_function name.Writeln = tt
+matches_function name.Initial = tt
+matches_function name.Wait = tt
+matches_function name.Signal = tt
+matches_function name.Delay = tt
+matches_function name.Resume = tt
+matches_function name.Sleep = tt
 
 abbrev pub IsEmpty : Function → Type 0
 IsEmpty empty = Unit {0}
@@ -125,62 +132,30 @@ IsOfProcedure resume r = (t : Option TypeId) × (ws : List Want) × (site : Site
 IsOfProcedure sleep r = (ws : List Want) × (site : Site) × (r ≡ a_procedure ws site)
 IsOfProcedure no_procedure r = Unit {0}
 
-Procedures : List AProcedure → List Routine → Type 0
-Procedures [] rs = Unit {0}
-Procedures (f ∷ fs) [] = IsOfProcedure f the_signal × Procedures fs []
-Procedures (f ∷ fs) (r ∷ rs) = IsOfProcedure f r × Procedures fs rs
-
-procedures_at :
-    (fs : List AProcedure) (rs : List Routine) (k : ℕ) → Procedures fs rs → IsOfProcedure (get_or fs k no_procedure) (get_or rs k the_signal)
-unfolding Procedures
-procedures_at [] rs k h = tt
-procedures_at (f ∷ fs) [] zero h = h.0
-procedures_at (f ∷ fs) [] (suc k) h = procedures_at fs [] k h.1
-procedures_at (f ∷ fs) (r ∷ rs) zero h = h.0
-procedures_at (f ∷ fs) (r ∷ rs) (suc k) h = procedures_at fs rs k h.1
-
-abbrev called_routines : List Routine
-called_routines = drop 13 routines
-
-pub matches_procedure : (k : ℕ) → IsOfProcedure (procedure_of k) (routine_of k)
-unfolding Procedures
-matches_procedure k = by (nat_lt k 13) refl
-  where
-    by : (r : Bool) → nat_lt k 13 ≡ r → IsOfProcedure (if r then no_procedure else get_or procedures (k - 13) no_procedure) (routine_of k)
-    by true e = tt
-    by false e =
-        let more : 13 + (k - 13) ≡ k = let h : 13 ≤ k = grind (arith, nat_tests) in omega (arith, h) in
-        let is : get_or routines (13 + (k - 13)) the_signal ≡ get_or called_routines (k - 13) the_signal =
-        get_or-append-add (take 13 routines) called_routines (k - 13) the_signal in
-        subst (λ (r : Routine). IsOfProcedure (get_or procedures (k - 13) no_procedure) r) (sym is ∙ ap (λ n. get_or routines n the_signal) more)
-        (procedures_at procedures called_routines (k - 13) (
-          (true, refl),
-          (
-            (false, refl),
-            (
-              (true, refl),
-              (
-                (false, refl),
-                (
-                  (Some semaphore, a_value (Some integer) ∷ [], in_main, refl),
-                  (
-                    (Some semaphore, [], anywhere, refl),
-                    (
-                      (Some semaphore, [], anywhere, refl),
-                      (
-                        refl,
-                        (
-                          (Some condition, [], in_monitor_sub, refl),
-                          ((one_integer, anywhere, refl), tt),
-                        ),
-                      ),
-                    ),
-                  ),
-                ),
-              ),
-            ),
-          ),
-        ))
+pub matches_procedure : (k : PredeclaredName) → IsOfProcedure (procedure_of k) (routine_of k)
+matches_procedure name.Any = tt
+matches_procedure name.Abs = tt
+matches_procedure name.Sqr = tt
+matches_procedure name.Odd = tt
+matches_procedure name.Ord = tt
+matches_procedure name.Chr = tt
+matches_procedure name.Succ = tt
+matches_procedure name.Pred = tt
+matches_procedure name.Eof = tt
+matches_procedure name.Eoln = tt
+matches_procedure name.Empty = tt
+matches_procedure name.Clock = tt
+matches_procedure name.Random = tt
+matches_procedure name.Read = (true, refl)
+matches_procedure name.Readln = (false, refl)
+matches_procedure name.Write = (true, refl)
+matches_procedure name.Writeln = (false, refl)
+matches_procedure name.Initial = (Some semaphore, a_value (Some integer) ∷ [], in_main, refl)
+matches_procedure name.Wait = (Some semaphore, [], anywhere, refl)
+matches_procedure name.Signal = (Some semaphore, [], anywhere, refl)
+matches_procedure name.Delay = refl
+matches_procedure name.Resume = (Some condition, [], in_monitor_sub, refl)
+matches_procedure name.Sleep = (one_integer, anywhere, refl)
 
 -- ## Arguments
 
@@ -351,7 +326,7 @@ call_is env x no_selectors p args h = h
 call_is env x (more_selectors s ss) p args h = h
 
 pub routine_called :
-    (env : Env) (k : ℕ) (ss : SelectorTrees) (p : Place) (args : ActualTrees) → IsClean (call_of env (Some (Predeclared k)) ss p args)
+    (env : Env) (k : PredeclaredName) (ss : SelectorTrees) (p : Place) (args : ActualTrees) → IsClean (call_of env (Some (Predeclared k)) ss p args)
     → IsClean (call_routine env (routine_of k) p args)
 routine_called env k no_selectors p args h = h
 routine_called env k (more_selectors s ss) p args h = absurd h.0

@@ -8,7 +8,7 @@ use crate::{
     Best, fault_unless, has, has_object, has_simple, may_be_simple, may_have, value_fault,
 };
 use pfc_base::{Place, Refusal};
-use pfc_types::{Around, Formal, Meaning, Scopes, SubSort, TypeId, TypeTable};
+use pfc_types::{Around, Formal, Meaning, PredeclaredName, Scopes, SubSort, TypeId, TypeTable};
 
 /// What an argument has to be.
 #[derive(Clone, Copy, Debug, PartialEq, Eq)]
@@ -138,41 +138,55 @@ const INTEGER_VALUE: Gives = Gives::Always(TypeId::INTEGER);
 
 const CHAR_VALUE: Gives = Gives::Always(TypeId::CHAR);
 
-/// The predeclared name with a number.
-pub(crate) fn routine_of(k: u8) -> Routine<'static>
+/// What a predeclared name is called with, what it gives, and where it may be called.
+pub(crate) fn routine_of(k: PredeclaredName) -> Routine<'static>
     ensures { routine_view result ≡ routines.routine_of k }
 {
     match k {
-        // any
-        0 => Routine::Signal,
-        // abs, sqr, odd, ord, chr, succ, pred
-        1 => Routine::Function(ONE_INTEGER, INTEGER_VALUE, Site::Anywhere),
-        2 => Routine::Function(ONE_INTEGER, INTEGER_VALUE, Site::Anywhere),
-        3 => Routine::Function(ONE_INTEGER, BOOLEAN_VALUE, Site::Anywhere),
-        4 => Routine::Function(Wants::OneSimple, INTEGER_VALUE, Site::Anywhere),
-        5 => Routine::Function(ONE_INTEGER, CHAR_VALUE, Site::Anywhere),
-        6 => Routine::Function(Wants::OneSimple, Gives::Alike, Site::Anywhere),
-        7 => Routine::Function(Wants::OneSimple, Gives::Alike, Site::Anywhere),
-        // eof, eoln, empty, clock, random
-        8 => Routine::Function(NO_ARGUMENT, BOOLEAN_VALUE, Site::Anywhere),
-        9 => Routine::Function(NO_ARGUMENT, BOOLEAN_VALUE, Site::Anywhere),
-        10 => Routine::Function(ONE_CONDITION, BOOLEAN_VALUE, Site::InMonitorSub),
-        11 => Routine::Function(NO_ARGUMENT, INTEGER_VALUE, Site::Anywhere),
-        12 => Routine::Function(ONE_INTEGER, INTEGER_VALUE, Site::Anywhere),
-        // read, readln, write, writeln
-        13 => Routine::Reader(true),
-        14 => Routine::Reader(false),
-        15 => Routine::Writer(true),
-        16 => Routine::Writer(false),
-        // initial, wait, signal, delay, resume, sleep
-        17 => Routine::Procedure(SEMAPHORE_AND_INTEGER, Site::InMain),
-        18 => Routine::Procedure(ONE_SEMAPHORE, Site::Anywhere),
-        19 => Routine::Procedure(ONE_SEMAPHORE, Site::Anywhere),
-        20 => Routine::Delay,
-        21 => Routine::Procedure(ONE_CONDITION, Site::InMonitorSub),
-        22 => Routine::Procedure(ONE_INTEGER, Site::Anywhere),
-        _ => Routine::Signal,
+        PredeclaredName::Any => Routine::Signal,
+        PredeclaredName::Abs => Routine::Function(ONE_INTEGER, INTEGER_VALUE, Site::Anywhere),
+        PredeclaredName::Sqr => Routine::Function(ONE_INTEGER, INTEGER_VALUE, Site::Anywhere),
+        PredeclaredName::Odd => Routine::Function(ONE_INTEGER, BOOLEAN_VALUE, Site::Anywhere),
+        PredeclaredName::Ord => Routine::Function(Wants::OneSimple, INTEGER_VALUE, Site::Anywhere),
+        PredeclaredName::Chr => Routine::Function(ONE_INTEGER, CHAR_VALUE, Site::Anywhere),
+        PredeclaredName::Succ => Routine::Function(Wants::OneSimple, Gives::Alike, Site::Anywhere),
+        PredeclaredName::Pred => Routine::Function(Wants::OneSimple, Gives::Alike, Site::Anywhere),
+        PredeclaredName::Eof => Routine::Function(NO_ARGUMENT, BOOLEAN_VALUE, Site::Anywhere),
+        PredeclaredName::Eoln => Routine::Function(NO_ARGUMENT, BOOLEAN_VALUE, Site::Anywhere),
+        PredeclaredName::Empty => Routine::Function(
+            ONE_CONDITION,
+            BOOLEAN_VALUE,
+            Site::InMonitorSub,
+        ),
+        PredeclaredName::Clock => Routine::Function(NO_ARGUMENT, INTEGER_VALUE, Site::Anywhere),
+        PredeclaredName::Random => Routine::Function(ONE_INTEGER, INTEGER_VALUE, Site::Anywhere),
+        PredeclaredName::Read => Routine::Reader(true),
+        PredeclaredName::Readln => Routine::Reader(false),
+        PredeclaredName::Write => Routine::Writer(true),
+        PredeclaredName::Writeln => Routine::Writer(false),
+        PredeclaredName::Initial => Routine::Procedure(SEMAPHORE_AND_INTEGER, Site::InMain),
+        PredeclaredName::Wait => Routine::Procedure(ONE_SEMAPHORE, Site::Anywhere),
+        PredeclaredName::Signal => Routine::Procedure(ONE_SEMAPHORE, Site::Anywhere),
+        PredeclaredName::Delay => Routine::Delay,
+        PredeclaredName::Resume => Routine::Procedure(ONE_CONDITION, Site::InMonitorSub),
+        PredeclaredName::Sleep => Routine::Procedure(ONE_INTEGER, Site::Anywhere),
     }
+}
+
+/// Whether a predeclared name stands in guards: `abs`, `sqr`, `odd`, `ord`, `chr`, `succ` and `pred`.
+pub(crate) fn guard_function(k: PredeclaredName) -> bool
+    ensures { result ≡ routines.guard_function k }
+{
+    matches!(
+        k,
+        PredeclaredName::Abs
+            | PredeclaredName::Sqr
+            | PredeclaredName::Odd
+            | PredeclaredName::Ord
+            | PredeclaredName::Chr
+            | PredeclaredName::Succ
+            | PredeclaredName::Pred
+    )
 }
 
 /// What `delay` wants where it has n arguments: a condition, and behind it a rank where there are more than one.

@@ -8,19 +8,12 @@ ghost use Rattle.pfc_phrases.specs.Found.{noted};
 ghost use Rattle.pfc_phrases.specs.Views.{env_view, callee_view};
 
 use crate::routines::{
-    called_function, is_function_routine, is_function_sort, is_signal, routine_of, routine_value,
-    sort_value,
+    called_function, guard_function, is_function_routine, is_function_sort, is_signal, routine_of,
+    routine_value, sort_value,
 };
 use crate::{Best, Callee, Env, is_any, meaning_of, where_so};
 use pfc_base::Place;
 use pfc_types::{Found, Meaning, Scopes, TypeId};
-
-/// Whether a predeclared name stands in guards: `abs`, `sqr`, `odd`, `ord`, `chr`, `succ` and `pred`.
-fn guard_function(k: u8) -> bool
-    ensures { result ≡ routines.guard_function k }
-{
-    1 <= k && k <= 7
-}
 
 /// 310: a name in an expression is a constant, a variable, a function, or `any` alone. With selectors, where it is not
 /// `alone`, it is a variable, and with arguments, where it is not `bare`, a function.

@@ -1,5 +1,7 @@
--- The predeclared functions and procedures, by their numbers from `any` on.
-use Rattle.std.specs.Prelude.{ℕ, ◌-◌, nat_lt, Bool, true, false, List, [], ◌∷◌, get_or, if◌then◌else◌}
+-- The predeclared functions and procedures.
+use Rattle.std.specs.Prelude.{Bool, true, false}
+use Rattle.pfc_types.specs.declared.predeclared.PredeclaredName.{PredeclaredName}
+use Rattle.pfc_types.specs.declared.predeclared.PredeclaredName.TheVariants as name
 
 pub data Function : Type 0 where
   abs : Function
@@ -17,11 +19,20 @@ pub data Function : Type 0 where
   -- any other predeclared name
   no_function : Function
 
-abbrev pub functions : List Function
-functions = no_function ∷ abs ∷ sqr ∷ odd ∷ ord ∷ chr ∷ succ ∷ pred ∷ eof ∷ eoln ∷ empty ∷ clock ∷ random ∷ []
-
-abbrev pub function_of : ℕ → Function
-function_of k = get_or functions k no_function
+abbrev pub function_of : PredeclaredName → Function
+function_of name.Abs = abs
+function_of name.Sqr = sqr
+function_of name.Odd = odd
+function_of name.Ord = ord
+function_of name.Chr = chr
+function_of name.Succ = succ
+function_of name.Pred = pred
+function_of name.Eof = eof
+function_of name.Eoln = eoln
+function_of name.Empty = empty
+function_of name.Clock = clock
+function_of name.Random = random
+function_of k = no_function
 
 pub data Procedure : Type 0 where
   -- `read`, or `readln`
@@ -37,9 +48,15 @@ pub data Procedure : Type 0 where
   -- any other predeclared name
   no_procedure : Procedure
 
-abbrev pub procedures : List Procedure
-procedures = reader false ∷ reader true ∷ writer false ∷ writer true ∷ initial ∷ wait ∷ signal ∷ delay ∷ resume ∷ sleep ∷ []
-
--- `read` is the 13th behind `any`
-abbrev pub procedure_of : ℕ → Procedure
-procedure_of k = if nat_lt k 13 then no_procedure else get_or procedures (k - 13) no_procedure
+abbrev pub procedure_of : PredeclaredName → Procedure
+procedure_of name.Read = reader false
+procedure_of name.Readln = reader true
+procedure_of name.Write = writer false
+procedure_of name.Writeln = writer true
+procedure_of name.Initial = initial
+procedure_of name.Wait = wait
+procedure_of name.Signal = signal
+procedure_of name.Delay = delay
+procedure_of name.Resume = resume
+procedure_of name.Sleep = sleep
+procedure_of k = no_procedure

@@ -1,17 +1,18 @@
 -- In a scan only the guard of another is tried.
-use Rattle.std.proofs.Common.{◌≡◌, ℕ, zero, suc, ◌≤◌, ◌==◌, ℤ, Bool, true, false, List, Option, Some, None, nat_le, refl, sym, subst, arith, inl, inr}
+use Rattle.std.proofs.Common.{◌≡◌, ℕ, ◌==◌, ℤ, Bool, true, false, List, Option, Some, None, refl, sym, subst, arith, inl, inr}
 use Rattle.std.proofs.lemmas.Bool.Decides.{nat_tests}
 use Rattle.std.proofs.lemmas.Option.{same_Some}
 use Rattle.pfc_types.specs.declared.types.TypeId.{TypeId}
 use Rattle.pfc_types.specs.declared.heads.Formal.{Formal}
 use Rattle.pfc_types.specs.declared.view.Found.{Found}
+use Rattle.pfc_types.specs.declared.predeclared.PredeclaredName.{PredeclaredName}
+use Rattle.pfc_types.specs.declared.predeclared.PredeclaredName.TheVariants as name
 use Rattle.pfc_types.specs.declared.scope.Meaning.{Meaning}
 use Rattle.pfc_types.specs.declared.scope.Meaning.TheVariants.{Variable, Sub, Predeclared}
 use Rattle.pfc_types.specs.Scopes.{meaning_of}
 use Rattle.pfc_types.specs.Blocks.{Blocks, State}
 use Rattle.pfc_types.specs.rules.Routines.{guard_function}
 use Rattle.pfc_types.specs.rules.Expressions.{Env, guard_names, guard_allows}
-use Rattle.pfc_types.proofs.Clean.{and-right}
 use Rattle.pfc_semantics.specs.Predeclared.{function_of}
 use Rattle.pfc_semantics.specs.Programs.{Block}
 use Rattle.pfc_semantics.specs.Remainders.{Context, Call, Action, to_procedure, to_function, to_module, to_requeue, to_process, to_entry, reads, writes, turns}
@@ -83,19 +84,30 @@ guard_tried (of_another attempt) env is = is
 -- ## Names of a guard
 
 -- what a guard names asks for nothing but its argument
-asked_apart : {A : Type 0} (k : ℕ) → guard_function k ≡ true → is_asked (function_of k) ≡ true → A
-asked_apart k g a = by k (let few = and-right (nat_le 1 k) (nat_le k 7) g in grind (arith, nat_tests)) a
-  where
-    by : {A : Type 0} (k : ℕ) → k ≤ 7 → is_asked (function_of k) ≡ true → A
-    by zero few a = never (sym a)
-    by (suc zero) few a = never (sym a)
-    by (suc (suc zero)) few a = never (sym a)
-    by (suc (suc (suc zero))) few a = never (sym a)
-    by (suc (suc (suc (suc zero)))) few a = never (sym a)
-    by (suc (suc (suc (suc (suc zero))))) few a = never (sym a)
-    by (suc (suc (suc (suc (suc (suc zero)))))) few a = never (sym a)
-    by (suc (suc (suc (suc (suc (suc (suc zero))))))) few a = never (sym a)
-    by (suc (suc (suc (suc (suc (suc (suc (suc k)))))))) few a = absurd (omega (arith, few))
+asked_apart : {A : Type 0} (k : PredeclaredName) → guard_function k ≡ true → is_asked (function_of k) ≡ true → A
+asked_apart name.Any g a = never (sym g)
+asked_apart name.Abs g a = never (sym a)
+asked_apart name.Sqr g a = never (sym a)
+asked_apart name.Odd g a = never (sym a)
+asked_apart name.Ord g a = never (sym a)
+asked_apart name.Chr g a = never (sym a)
+asked_apart name.Succ g a = never (sym a)
+asked_apart name.Pred g a = never (sym a)
+asked_apart name.Eof g a = never (sym g)
+asked_apart name.Eoln g a = never (sym g)
+asked_apart name.Empty g a = never (sym g)
+asked_apart name.Clock g a = never (sym g)
+asked_apart name.Random g a = never (sym g)
+asked_apart name.Read g a = never (sym g)
+asked_apart name.Readln g a = never (sym g)
+asked_apart name.Write g a = never (sym g)
+asked_apart name.Writeln g a = never (sym g)
+asked_apart name.Initial g a = never (sym g)
+asked_apart name.Wait g a = never (sym g)
+asked_apart name.Signal g a = never (sym g)
+asked_apart name.Delay g a = never (sym g)
+asked_apart name.Resume g a = never (sym g)
+asked_apart name.Sleep g a = never (sym g)
 
 -- where a guard does not allow what a name is, the process is in no scan
 named_own : (t : Trial) (env : Env) → IsInTrial t env → (o : Option Found) → guard_allows env.around.guard o ≡ true → (m : Meaning) → meaning_of o ≡ Some m
@@ -119,8 +131,8 @@ pub sub_own : (g : Setting) (env : Env) → IsInTrial g.trial env → (o : Optio
     → meaning_of o ≡ Some (Sub n) → g.trial ≡ of_own
 sub_own g env h o allows n e = named_own g.trial env h o allows (Sub n) e (λ r scope a. never (sym a))
 
-pub asked_own : (g : Setting) (env : Env) → IsInTrial g.trial env → (o : Option Found) → guard_allows env.around.guard o ≡ true → (k : ℕ)
-    → meaning_of o ≡ Some (Predeclared k) → is_asked (function_of k) ≡ true → g.trial ≡ of_own
+pub asked_own : (g : Setting) (env : Env) → IsInTrial g.trial env → (o : Option Found) → guard_allows env.around.guard o ≡ true
+    → (k : PredeclaredName) → meaning_of o ≡ Some (Predeclared k) → is_asked (function_of k) ≡ true → g.trial ≡ of_own
 asked_own g env h o allows k e asked = named_own g.trial env h o allows (Predeclared k) e (λ r scope a. asked_apart k a asked)
 
 -- ## Variables of a guard

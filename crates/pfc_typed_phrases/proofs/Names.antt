@@ -1,5 +1,5 @@
 -- A name that is a factor, in which no rule is broken: a constant, a variable with its selectors, or a function with its arguments.
-use Rattle.std.proofs.Common.{◌≡◌, ℕ, zero, suc, ◌==◌, Bool, true, false, not, ◌&&◌, ◌||◌, if◌then◌else◌, List, [], ◌∷◌, length, get_or, is_some, Option, Some}
+use Rattle.std.proofs.Common.{◌≡◌, ℕ, ◌==◌, Bool, true, false, not, ◌&&◌, ◌||◌, if◌then◌else◌, List, [], ◌∷◌, length, is_some, Option, Some}
 use Rattle.std.proofs.Common.{None, refl, sym, ap, ◌∙◌, subst}
 use Rattle.pfc_base.specs.declared.places.Place.{Place}
 use Rattle.pfc_tree.specs.Symbols.{Text}
@@ -19,14 +19,16 @@ use Rattle.pfc_types.specs.declared.heads.SubSort.{SubSort}
 use Rattle.pfc_types.specs.declared.heads.SubSort.TheVariants.{Procedure, Guarded, Function}
 use Rattle.pfc_types.specs.rules.Kinds.{variable_type, has_simple}
 use Rattle.pfc_types.specs.rules.FaultyNames.{all_typed}
+use Rattle.pfc_types.specs.declared.predeclared.PredeclaredName.{PredeclaredName}
+use Rattle.pfc_types.specs.declared.predeclared.PredeclaredName.TheVariants as predeclared_name
 use Rattle.pfc_types.specs.rules.Routines.{Want, a_value, a_simple_value, a_variable_of, wants_for, gives, gives_alike, Site as Stand, anywhere, in_main}
-use Rattle.pfc_types.specs.rules.Routines.{in_monitor_sub, Routine, the_signal, a_function, routines, routine_of, one_integer, one_simple, one_condition}
+use Rattle.pfc_types.specs.rules.Routines.{in_monitor_sub, Routine, a_function, routine_of, one_integer, one_simple, one_condition}
 use Rattle.pfc_types.specs.rules.Routines.{site_fits, site_rule, Callee, nothing_called, called_sort, called_routine, called_function, given, sort_value}
 use Rattle.pfc_types.specs.rules.Routines.{routine_value, is_function_sort, is_signal, is_function_routine, fits_use, is_any}
 use Rattle.pfc_types.specs.rules.Expressions.{find, no_selector, no_actual, guard_allows, use_rules, plain_use, use_type, actual_count, count_rule, selected}
 use Rattle.pfc_types.specs.rules.Expressions.{args_fit, first_type, expr_type, broken_selectors, broken_actuals}
 use Rattle.pfc_types.proofs.Clean.{clean, and-left, and-right}
-use Rattle.pfc_semantics.specs.Predeclared.{Function as AFunction, abs, sqr, odd, ord, chr, succ, pred, eof, eoln, empty, clock, random, no_function, functions}
+use Rattle.pfc_semantics.specs.Predeclared.{Function as AFunction, abs, sqr, odd, ord, chr, succ, pred, eof, eoln, empty, clock, random, no_function}
 use Rattle.pfc_semantics.specs.Predeclared.{function_of}
 use Rattle.pfc_semantics.specs.Programs.{Block, Program}
 use Rattle.pfc_semantics.specs.Expressions.{spot_of}
@@ -121,38 +123,30 @@ data IsPair : Routine → AFunction → Type 0 where
   of_condition : IsPair (a_function one_condition (gives boolean) in_monitor_sub) empty
   no_pair : {r : Routine} {f : AFunction} → is_function_routine r ≡ false → IsPair r f
 
-data ArePairs : List Routine → List AFunction → Type 0 where
-  none_paired : ArePairs [] []
-  one_pair : {r : Routine} {rs : List Routine} {f : AFunction} {fs : List AFunction} → IsPair r f → ArePairs rs fs → ArePairs (r ∷ rs) (f ∷ fs)
-  lone : {r : Routine} {rs : List Routine} → is_function_routine r ≡ false → ArePairs rs [] → ArePairs (r ∷ rs) []
-
-pair_at : (rs : List Routine) (fs : List AFunction) → ArePairs rs fs → (k : ℕ) → IsPair (get_or rs k the_signal) (get_or fs k no_function)
-pair_at [] [] none_paired k = no_pair refl
-pair_at [] (f ∷ fs) p k = elim p [ ]
-pair_at (r ∷ rs) (f ∷ fs) (one_pair p ps) zero = p
-pair_at (r ∷ rs) (f ∷ fs) (one_pair p ps) (suc k) = pair_at rs fs ps k
-pair_at (r ∷ rs) [] (lone p ps) zero = no_pair p
-pair_at (r ∷ rs) [] (lone p ps) (suc k) = pair_at rs [] ps k
-
-pairs : ArePairs routines functions
-pairs =
-    one_pair (no_pair refl)
-    (one_pair (of_integer integer refl refl)
-    (one_pair (of_integer integer refl refl)
-    (one_pair (of_integer boolean refl refl)
-    (one_pair (of_simple integer refl refl)
-    (one_pair (of_integer char refl refl)
-    (one_pair (alike refl)
-    (one_pair (alike refl)
-    (one_pair (of_nothing boolean refl refl)
-    (one_pair (of_nothing boolean refl refl)
-    (one_pair of_condition
-    (one_pair (of_nothing integer refl refl)
-    (one_pair (of_integer integer refl refl)
-    (lone refl (lone refl (lone refl (lone refl (lone refl (lone refl (lone refl (lone refl (lone refl (lone refl none_paired))))))))))))))))))))))
-
-function_pair : (k : ℕ) → IsPair (routine_of k) (function_of k)
-function_pair k = pair_at routines functions pairs k
+function_pair : (k : PredeclaredName) → IsPair (routine_of k) (function_of k)
+function_pair predeclared_name.Any = no_pair refl
+function_pair predeclared_name.Abs = of_integer integer refl refl
+function_pair predeclared_name.Sqr = of_integer integer refl refl
+function_pair predeclared_name.Odd = of_integer boolean refl refl
+function_pair predeclared_name.Ord = of_simple integer refl refl
+function_pair predeclared_name.Chr = of_integer char refl refl
+function_pair predeclared_name.Succ = alike refl
+function_pair predeclared_name.Pred = alike refl
+function_pair predeclared_name.Eof = of_nothing boolean refl refl
+function_pair predeclared_name.Eoln = of_nothing boolean refl refl
+function_pair predeclared_name.Empty = of_condition
+function_pair predeclared_name.Clock = of_nothing integer refl refl
+function_pair predeclared_name.Random = of_integer integer refl refl
+function_pair predeclared_name.Read = no_pair refl
+function_pair predeclared_name.Readln = no_pair refl
+function_pair predeclared_name.Write = no_pair refl
+function_pair predeclared_name.Writeln = no_pair refl
+function_pair predeclared_name.Initial = no_pair refl
+function_pair predeclared_name.Wait = no_pair refl
+function_pair predeclared_name.Signal = no_pair refl
+function_pair predeclared_name.Delay = no_pair refl
+function_pair predeclared_name.Resume = no_pair refl
+function_pair predeclared_name.Sleep = no_pair refl
 
 -- ## What is called
 

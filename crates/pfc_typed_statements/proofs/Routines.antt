@@ -1,21 +1,20 @@
 -- Calls of predeclared procedures in which no rule is broken.
-use Rattle.std.proofs.Common.{◌≡◌, ℕ, zero, suc, ◌+◌, ◌-◌, ◌≤◌, Bool, true, false, ◌&&◌, if◌then◌else◌, nat_lt, List, [], ◌∷◌, get_or, drop, Some, None, refl}
-use Rattle.std.proofs.Common.{ap, ◌∙◌, subst, arith}
-use Rattle.std.proofs.lemmas.Bool.Decides.{nat_tests}
-use Rattle.std.proofs.lemmas.List.{get_or-drop}
+use Rattle.std.proofs.Common.{◌≡◌, ℕ, Bool, true, false, ◌&&◌, if◌then◌else◌, nat_lt, List, [], ◌∷◌, Some, None, refl}
 use Rattle.pfc_base.specs.declared.places.Place.{Place}
 use Rattle.pfc_tree.specs.trees.Exprs.{ActualTrees, no_actuals, more_actuals, actual, actual_width}
 use Rattle.pfc_types.specs.Types.{integer, semaphore, condition}
 use Rattle.pfc_types.specs.Scopes.{Level}
 use Rattle.pfc_types.specs.declared.types.TypeId.{TypeId}
+use Rattle.pfc_types.specs.declared.predeclared.PredeclaredName.{PredeclaredName}
+use Rattle.pfc_types.specs.declared.predeclared.PredeclaredName.TheVariants as name
 use Rattle.pfc_types.specs.declared.view.Around.{Around}
-use Rattle.pfc_types.specs.rules.Routines.{Want, a_value, a_variable_of, Site as Stand, anywhere, in_main, in_monitor_sub, Routine, the_signal, a_procedure}
-use Rattle.pfc_types.specs.rules.Routines.{a_delay, a_reader, a_writer, routines, routine_of, one_integer, one_semaphore, one_condition, ranked_condition}
+use Rattle.pfc_types.specs.rules.Routines.{Want, a_value, a_variable_of, Site as Stand, anywhere, in_main, in_monitor_sub, Routine, a_procedure}
+use Rattle.pfc_types.specs.rules.Routines.{a_delay, a_reader, a_writer, routine_of, one_integer, one_semaphore, one_condition, ranked_condition}
 use Rattle.pfc_types.specs.rules.Routines.{called_with, site_rule}
 use Rattle.pfc_types.specs.rules.Expressions.{actual_count, count_rule, first_type, broken_actuals}
 use Rattle.pfc_types.specs.rules.Calls.{asked, some_rule, broken_reads, broken_writes, call_routine}
 use Rattle.pfc_types.proofs.Clean.{clean, and-left, and-right}
-use Rattle.pfc_semantics.specs.Predeclared.{Procedure, reader, writer, initial, wait, signal, delay, resume, sleep, no_procedure, procedures, procedure_of}
+use Rattle.pfc_semantics.specs.Predeclared.{Procedure, reader, writer, initial, wait, signal, delay, resume, sleep, no_procedure, procedure_of}
 use Rattle.pfc_semantics.specs.Programs.{Block, Program}
 use Rattle.pfc_semantics.specs.Statements.{expr_of, behind_first}
 use Rattle.pfc_translation.specs.Sites.{Site}
@@ -41,35 +40,30 @@ data IsPair : Routine → Procedure → Type 0 where
   sleeps : (stand : Stand) → IsPair (a_procedure one_integer stand) sleep
   no_pair : {r : Routine} → IsPair r no_procedure
 
-data ArePairs : List Routine → List Procedure → Type 0 where
-  none_paired : ArePairs [] []
-  one_pair : {r : Routine} {rs : List Routine} {p : Procedure} {ps : List Procedure} → IsPair r p → ArePairs rs ps → ArePairs (r ∷ rs) (p ∷ ps)
-
-pair_at : (rs : List Routine) (ps : List Procedure) → ArePairs rs ps → (k : ℕ) → IsPair (get_or rs k the_signal) (get_or ps k no_procedure)
-pair_at [] [] none_paired k = no_pair
-pair_at [] (p ∷ ps) h k = elim h [ ]
-pair_at (r ∷ rs) [] h k = elim h [ ]
-pair_at (r ∷ rs) (p ∷ ps) (one_pair h hs) zero = h
-pair_at (r ∷ rs) (p ∷ ps) (one_pair h hs) (suc k) = pair_at rs ps hs k
-
-pairs : ArePairs (drop 13 routines) procedures
-pairs =
-    one_pair (reads true false) (one_pair (reads false true) (one_pair (writes true false) (one_pair (writes false true)
-    (one_pair (starts in_main)
-    (one_pair (waits anywhere)
-    (one_pair (signals anywhere) (one_pair delays (one_pair (resumes in_monitor_sub) (one_pair (sleeps anywhere) none_paired)))))))))
-
-procedure_pair : (k : ℕ) → IsPair (routine_of k) (procedure_of k)
-procedure_pair k = by (nat_lt k 13) refl
-  where
-    by : (b : Bool) → nat_lt k 13 ≡ b → IsPair (routine_of k) (if b then no_procedure else get_or procedures (k - 13) no_procedure)
-    by true h = no_pair
-    by false h =
-        let past : 13 ≤ k = grind (arith, nat_tests) in
-        let same : 13 + (k - 13) ≡ k = omega (arith, past) in
-        subst (λ (r : Routine). IsPair r (get_or procedures (k - 13) no_procedure))
-        (get_or-drop 13 routines (k - 13) the_signal ∙ ap (λ (n : ℕ). get_or routines n the_signal) same)
-        (pair_at (drop 13 routines) procedures pairs (k - 13))
+procedure_pair : (k : PredeclaredName) → IsPair (routine_of k) (procedure_of k)
+procedure_pair name.Any = no_pair
+procedure_pair name.Abs = no_pair
+procedure_pair name.Sqr = no_pair
+procedure_pair name.Odd = no_pair
+procedure_pair name.Ord = no_pair
+procedure_pair name.Chr = no_pair
+procedure_pair name.Succ = no_pair
+procedure_pair name.Pred = no_pair
+procedure_pair name.Eof = no_pair
+procedure_pair name.Eoln = no_pair
+procedure_pair name.Empty = no_pair
+procedure_pair name.Clock = no_pair
+procedure_pair name.Random = no_pair
+procedure_pair name.Read = reads true false
+procedure_pair name.Readln = reads false true
+procedure_pair name.Write = writes true false
+procedure_pair name.Writeln = writes false true
+procedure_pair name.Initial = starts in_main
+procedure_pair name.Wait = waits anywhere
+procedure_pair name.Signal = signals anywhere
+procedure_pair name.Delay = delays
+procedure_pair name.Resume = resumes in_monitor_sub
+procedure_pair name.Sleep = sleeps anywhere
 
 -- ## Arguments that are wanted
 
@@ -140,6 +134,6 @@ module _ (g : Program) (block : Block) (view : List Level) (around : Around) (li
           let is = asked_wanted one_condition in_monitor_sub p args ((condition, refl), tt) h in
           (lent_first s condition args [] is, none_second s (a_variable_of (Some condition)) args is)
 
-  pub predeclared_typed : (k : ℕ) (p : Place) (args : ActualTrees) →
+  pub predeclared_typed : (k : PredeclaredName) (p : Place) (args : ActualTrees) →
       clean (call_routine s.env (routine_of k) p args) ≡ true → IsProcedure s (procedure_of k) args
   predeclared_typed k p args h = routine_typed (routine_of k) (procedure_of k) p args (procedure_pair k) h

@@ -1,12 +1,14 @@
 -- Faulty names that are factors: a name with its selectors and arguments has a type exactly where it fits its place, they have
 -- theirs, and its own declaration is whole.
-use Rattle.std.proofs.Common.{◌≡◌, ℕ, zero, suc, Bool, true, false, not, ◌&&◌, ◌||◌, ◌==◌, if◌then◌else◌, is_some, List, [], ◌∷◌, length, get_or, Option, Some}
+use Rattle.std.proofs.Common.{◌≡◌, ℕ, Bool, true, false, not, ◌&&◌, ◌||◌, ◌==◌, if◌then◌else◌, is_some, List, [], ◌∷◌, length, Option, Some}
 use Rattle.std.proofs.Common.{None, ℤ, refl, sym, ap, ap₂, ◌∙◌}
 use Rattle.pfc_base.specs.declared.places.Place.{Place}
 use Rattle.pfc_tree.specs.trees.Exprs.{SelectorTrees, ActualTree, ActualTrees, no_selectors, more_selectors, no_actuals, more_actuals, actual, actual_width}
 use Rattle.pfc_types.specs.Faults.{Faults, ◌⨾◌, unless}
 use Rattle.pfc_types.specs.Blocks.{sub_at}
 use Rattle.pfc_types.specs.declared.types.TypeId.{TypeId}
+use Rattle.pfc_types.specs.declared.predeclared.PredeclaredName.{PredeclaredName}
+use Rattle.pfc_types.specs.declared.predeclared.PredeclaredName.TheVariants as name
 use Rattle.pfc_types.specs.declared.scope.Meaning.{Meaning}
 use Rattle.pfc_types.specs.declared.scope.Meaning.TheVariants.{Constant, Named, Variable, Sub, Module, Process, Entry, Predeclared, Faulty}
 use Rattle.pfc_types.specs.declared.view.Found.{Found}
@@ -18,7 +20,7 @@ use Rattle.pfc_types.specs.Scopes.{meaning_of}
 use Rattle.pfc_types.specs.rules.Kinds.{a_variable, name_rules, variable_type}
 use Rattle.pfc_types.specs.rules.Declarations.{whole_sort}
 use Rattle.pfc_types.specs.rules.Routines.{Want, wants_for, Gives, gives, gives_alike, Site, anywhere, in_main, in_monitor_sub, Routine, the_signal, a_function}
-use Rattle.pfc_types.specs.rules.Routines.{a_procedure, a_delay, a_reader, a_writer, routines, routine_of, site_fits, site_rule, Callee, nothing_called}
+use Rattle.pfc_types.specs.rules.Routines.{a_procedure, a_delay, a_reader, a_writer, routine_of, site_fits, site_rule, Callee, nothing_called}
 use Rattle.pfc_types.specs.rules.Routines.{called_with, called_sort, called_routine, called_function, given, sort_value, routine_value, is_function_sort}
 use Rattle.pfc_types.specs.rules.Routines.{is_signal, is_function_routine, fits_use, is_any}
 use Rattle.pfc_types.specs.rules.Expressions.{Env, no_selector, no_actual, guard_allows, use_rules, plain_use, use_type, actual_count, count_rule, is_variable}
@@ -56,59 +58,30 @@ IsLawful a_delay = Unit {0}
 IsLawful (a_reader some) = Unit {0}
 IsLawful (a_writer some) = Unit {0}
 
-abbrev AreLawful : List Routine → Type 0
-AreLawful [] = Unit {0}
-AreLawful (r ∷ rs) = IsLawful r × AreLawful rs
-
-lawful_at : (rs : List Routine) → AreLawful rs → (k : ℕ) → IsLawful (get_or rs k the_signal)
-lawful_at [] h k = tt
-lawful_at (r ∷ rs) h zero = h.0
-lawful_at (r ∷ rs) h (suc k) = lawful_at rs h.1 k
-
-lawful_functions : AreLawful routines
-lawful_functions = (
-  tt,
-  (
-    (refl, tt),
-    (
-      (refl, tt),
-      (
-        (refl, tt),
-        (
-          (refl, tt),
-          (
-            (refl, tt),
-            (
-              (refl, tt),
-              (
-                (refl, tt),
-                (
-                  (refl, tt),
-                  (
-                    (refl, tt),
-                    (
-                      (refl, tt),
-                      (
-                        (refl, tt),
-                        (
-                          (refl, tt),
-                          (tt, (tt, (tt, (tt, (tt, (tt, (tt, (tt, (tt, (tt, tt)))))))))),
-                        ),
-                      ),
-                    ),
-                  ),
-                ),
-              ),
-            ),
-          ),
-        ),
-      ),
-    ),
-  ),
-)
-
-lawful_routine : (k : ℕ) → IsLawful (routine_of k)
-lawful_routine k = lawful_at routines lawful_functions k
+lawful_routine : (k : PredeclaredName) → IsLawful (routine_of k)
+lawful_routine name.Any = tt
+lawful_routine name.Abs = (refl, tt)
+lawful_routine name.Sqr = (refl, tt)
+lawful_routine name.Odd = (refl, tt)
+lawful_routine name.Ord = (refl, tt)
+lawful_routine name.Chr = (refl, tt)
+lawful_routine name.Succ = (refl, tt)
+lawful_routine name.Pred = (refl, tt)
+lawful_routine name.Eof = (refl, tt)
+lawful_routine name.Eoln = (refl, tt)
+lawful_routine name.Empty = (refl, tt)
+lawful_routine name.Clock = (refl, tt)
+lawful_routine name.Random = (refl, tt)
+lawful_routine name.Read = tt
+lawful_routine name.Readln = tt
+lawful_routine name.Write = tt
+lawful_routine name.Writeln = tt
+lawful_routine name.Initial = tt
+lawful_routine name.Wait = tt
+lawful_routine name.Signal = tt
+lawful_routine name.Delay = tt
+lawful_routine name.Resume = tt
+lawful_routine name.Sleep = tt
 
 arg_typed : (env : Env) (w : Want) (a : ActualTree) → arg_fits env w a ≡ true → is_some (arg_type env a) ≡ true
 arg_typed env w (actual e) h = fits_typed env.state.forms w (is_variable env None e) (expr_type env e) h
@@ -259,7 +232,8 @@ routine_exact env args q (a_function wants g site) lawful known =
     by true true false true = refl
     by true true false false = refl
 
-predeclared_exact : (env : Env) (ss : SelectorTrees) (args : ActualTrees) (q : Place) (k : ℕ) → ArgumentsExact env args → IsExact env ss args q (Predeclared k)
+predeclared_exact : (env : Env) (ss : SelectorTrees) (args : ActualTrees) (q : Place) (k : PredeclaredName) → ArgumentsExact env args
+    → IsExact env ss args q (Predeclared k)
 predeclared_exact env (more_selectors s ss) args q k known = refl
 predeclared_exact env no_selectors args q k known = routine_exact env args q (routine_of k) (lawful_routine k) known
 

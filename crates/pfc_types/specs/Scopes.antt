@@ -6,6 +6,7 @@ use Rattle.pfc_tree.specs.Symbols.{Text}
 use Rattle.pfc_types.specs.Types.{integer, boolean, char, semaphore, condition, synchronous}
 use Rattle.pfc_types.specs.declared.scope.Meaning.{Meaning}
 use Rattle.pfc_types.specs.declared.scope.Meaning.TheVariants.{Constant, Named, Predeclared}
+use Rattle.pfc_types.specs.declared.predeclared.PredeclaredName.TheVariants as name
 use Rattle.pfc_types.specs.declared.view.Found.{Found}
 
 -- the names of one block with what they stand for, in the order of the text, which is that of the layout
@@ -32,29 +33,29 @@ predeclared_names =
     ∷ (codes "true", Constant boolean (pos 1))
     ∷ (codes "false", Constant boolean (pos 0))
     ∷ (codes "maxint", Constant integer (pos 2147483647))
-    ∷ (codes "any", Predeclared 0)
-    ∷ (codes "abs", Predeclared 1)
-    ∷ (codes "sqr", Predeclared 2)
-    ∷ (codes "odd", Predeclared 3)
-    ∷ (codes "ord", Predeclared 4)
-    ∷ (codes "chr", Predeclared 5)
-    ∷ (codes "succ", Predeclared 6)
-    ∷ (codes "pred", Predeclared 7)
-    ∷ (codes "eof", Predeclared 8)
-    ∷ (codes "eoln", Predeclared 9)
-    ∷ (codes "empty", Predeclared 10)
-    ∷ (codes "clock", Predeclared 11)
-    ∷ (codes "random", Predeclared 12)
-    ∷ (codes "read", Predeclared 13)
-    ∷ (codes "readln", Predeclared 14)
-    ∷ (codes "write", Predeclared 15)
-    ∷ (codes "writeln", Predeclared 16)
-    ∷ (codes "initial", Predeclared 17)
-    ∷ (codes "wait", Predeclared 18)
-    ∷ (codes "signal", Predeclared 19)
-    ∷ (codes "delay", Predeclared 20)
-    ∷ (codes "resume", Predeclared 21)
-    ∷ (codes "sleep", Predeclared 22)
+    ∷ (codes "any", Predeclared name.Any)
+    ∷ (codes "abs", Predeclared name.Abs)
+    ∷ (codes "sqr", Predeclared name.Sqr)
+    ∷ (codes "odd", Predeclared name.Odd)
+    ∷ (codes "ord", Predeclared name.Ord)
+    ∷ (codes "chr", Predeclared name.Chr)
+    ∷ (codes "succ", Predeclared name.Succ)
+    ∷ (codes "pred", Predeclared name.Pred)
+    ∷ (codes "eof", Predeclared name.Eof)
+    ∷ (codes "eoln", Predeclared name.Eoln)
+    ∷ (codes "empty", Predeclared name.Empty)
+    ∷ (codes "clock", Predeclared name.Clock)
+    ∷ (codes "random", Predeclared name.Random)
+    ∷ (codes "read", Predeclared name.Read)
+    ∷ (codes "readln", Predeclared name.Readln)
+    ∷ (codes "write", Predeclared name.Write)
+    ∷ (codes "writeln", Predeclared name.Writeln)
+    ∷ (codes "initial", Predeclared name.Initial)
+    ∷ (codes "wait", Predeclared name.Wait)
+    ∷ (codes "signal", Predeclared name.Signal)
+    ∷ (codes "delay", Predeclared name.Delay)
+    ∷ (codes "resume", Predeclared name.Resume)
+    ∷ (codes "sleep", Predeclared name.Sleep)
     ∷ []
 
 -- ## Names in view

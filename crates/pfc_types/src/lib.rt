@@ -8,6 +8,7 @@
 mod checked;
 mod heads;
 pub mod laws;
+mod predeclared;
 mod scope;
 mod scopes;
 mod table;
@@ -16,6 +17,7 @@ mod view;
 
 pub use checked::Checked;
 pub use heads::{Formal, Formals, ModuleHead, ProcessHead, SubHead, SubSort};
+pub use predeclared::PredeclaredName;
 pub use scope::{Meaning, Scope, ScopeFault};
 pub use scopes::Scopes;
 pub use table::{Held, TypeFault, TypeTable, cells_of, value_count};

@@ -1,7 +1,7 @@
 //! What a name of a program stands for, and the names of one block.
 ghost use Rattle.std.specs.Prelude.{◌≡◌, ◌++◌, List, [], ◌∷◌, ◌<◌, ℕ, IsSome, IfOk, IfErr, OnOk, OnErr, length, option_map, option_copied, get_or};
 
-use crate::TypeId;
+use crate::{PredeclaredName, TypeId};
 use indexmap::IndexMap;
 use pfc_base::{Memory, Name};
 use std::alloc::Global;
@@ -24,8 +24,8 @@ pub enum Meaning {
     Process(u32),
     /// An entry of the process around, numbered from 0 in the order of the text.
     Entry(u32),
-    /// A predeclared name that is no type and no constant, numbered from 0, which is `any`.
-    Predeclared(u8),
+    /// A predeclared name that is no type and no constant.
+    Predeclared(PredeclaredName),
     /// A name whose declaration has a fault.
     Faulty,
 }

@@ -1,10 +1,12 @@
 -- What is called, and what it wants of its arguments.
-use Rattle.std.specs.Prelude.{ℕ, Bool, true, false, not, ◌&&◌, ◌||◌, if◌then◌else◌, nat_le, nat_lt, List, [], ◌∷◌, map, get_or, Option, Some, None}
+use Rattle.std.specs.Prelude.{ℕ, Bool, true, false, not, ◌&&◌, ◌||◌, if◌then◌else◌, nat_lt, List, [], ◌∷◌, map, Option, Some, None}
 use Rattle.pfc_base.specs.declared.places.Place.{Place}
 use Rattle.pfc_types.specs.Faults.{Faults, none, ◌⨾◌, unless}
 use Rattle.pfc_types.specs.Types.{Forms, integer, boolean, char, semaphore, condition}
 use Rattle.pfc_types.specs.Blocks.{Blocks, sub_at}
 use Rattle.pfc_types.specs.declared.types.TypeId.{TypeId}
+use Rattle.pfc_types.specs.declared.predeclared.PredeclaredName.{PredeclaredName}
+use Rattle.pfc_types.specs.declared.predeclared.PredeclaredName.TheVariants as name
 use Rattle.pfc_types.specs.declared.scope.Meaning.{Meaning}
 use Rattle.pfc_types.specs.declared.scope.Meaning.TheVariants.{Constant, Named, Variable, Sub, Module, Process, Entry, Predeclared, Faulty}
 use Rattle.pfc_types.specs.declared.view.Around.{Around}
@@ -99,45 +101,42 @@ ranked_condition = a_variable_of (Some condition) ∷ a_value (Some integer) ∷
 abbrev pub delay_wants : ℕ → List Want
 delay_wants n = if nat_lt 1 n then ranked_condition else one_condition
 
--- by their numbers, from `any` on
-abbrev pub routines : List Routine
-routines =
-    -- any
-    the_signal
-    -- abs, sqr, odd, ord, chr, succ, pred
-    ∷ a_function one_integer (gives integer) anywhere
-    ∷ a_function one_integer (gives integer) anywhere
-    ∷ a_function one_integer (gives boolean) anywhere
-    ∷ a_function one_simple (gives integer) anywhere
-    ∷ a_function one_integer (gives char) anywhere
-    ∷ a_function one_simple gives_alike anywhere
-    ∷ a_function one_simple gives_alike anywhere
-    -- eof, eoln, empty, clock, random
-    ∷ a_function [] (gives boolean) anywhere
-    ∷ a_function [] (gives boolean) anywhere
-    ∷ a_function one_condition (gives boolean) in_monitor_sub
-    ∷ a_function [] (gives integer) anywhere
-    ∷ a_function one_integer (gives integer) anywhere
-    -- read, readln, write, writeln
-    ∷ a_reader true
-    ∷ a_reader false
-    ∷ a_writer true
-    ∷ a_writer false
-    -- initial, wait, signal, delay, resume, sleep
-    ∷ a_procedure (a_variable_of (Some semaphore) ∷ a_value (Some integer) ∷ []) in_main
-    ∷ a_procedure one_semaphore anywhere
-    ∷ a_procedure one_semaphore anywhere
-    ∷ a_delay
-    ∷ a_procedure one_condition in_monitor_sub
-    ∷ a_procedure one_integer anywhere
-    ∷ []
+-- what each predeclared name is called with, what it gives, and where it may be called
+abbrev pub routine_of : PredeclaredName → Routine
+routine_of name.Any = the_signal
+routine_of name.Abs = a_function one_integer (gives integer) anywhere
+routine_of name.Sqr = a_function one_integer (gives integer) anywhere
+routine_of name.Odd = a_function one_integer (gives boolean) anywhere
+routine_of name.Ord = a_function one_simple (gives integer) anywhere
+routine_of name.Chr = a_function one_integer (gives char) anywhere
+routine_of name.Succ = a_function one_simple gives_alike anywhere
+routine_of name.Pred = a_function one_simple gives_alike anywhere
+routine_of name.Eof = a_function [] (gives boolean) anywhere
+routine_of name.Eoln = a_function [] (gives boolean) anywhere
+routine_of name.Empty = a_function one_condition (gives boolean) in_monitor_sub
+routine_of name.Clock = a_function [] (gives integer) anywhere
+routine_of name.Random = a_function one_integer (gives integer) anywhere
+routine_of name.Read = a_reader true
+routine_of name.Readln = a_reader false
+routine_of name.Write = a_writer true
+routine_of name.Writeln = a_writer false
+routine_of name.Initial = a_procedure (a_variable_of (Some semaphore) ∷ a_value (Some integer) ∷ []) in_main
+routine_of name.Wait = a_procedure one_semaphore anywhere
+routine_of name.Signal = a_procedure one_semaphore anywhere
+routine_of name.Delay = a_delay
+routine_of name.Resume = a_procedure one_condition in_monitor_sub
+routine_of name.Sleep = a_procedure one_integer anywhere
 
-abbrev pub routine_of : ℕ → Routine
-routine_of n = get_or routines n the_signal
-
--- abs, sqr, odd, ord, chr, succ and pred
-abbrev pub guard_function : ℕ → Bool
-guard_function n = nat_le 1 n && nat_le n 7
+-- the predeclared names that stand in guards
+abbrev pub guard_function : PredeclaredName → Bool
+guard_function name.Abs = true
+guard_function name.Sqr = true
+guard_function name.Odd = true
+guard_function name.Ord = true
+guard_function name.Chr = true
+guard_function name.Succ = true
+guard_function name.Pred = true
+guard_function k = false
 
 -- 403: `initial` stands in the main body
 -- 408: `delay`, `resume` and `empty` stand in a sub of the condition's monitor. A condition that is in view is a variable of the

@@ -1,5 +1,5 @@
 -- Small runs and their races, computed.
-use Rattle.std.specs.Prelude.{◌≡◌, ℕ, true, false, List, [], ◌∷◌, pos, refl, codes}
+use Rattle.std.specs.Prelude.{◌≡◌, ℕ, true, false, List, [], ◌∷◌, ◌++◌, pos, refl, codes}
 use Rattle.pfc_hb.specs.declared.accesses.Access.{Access}
 use Rattle.pfc_hb.specs.declared.events.Event.{Event}
 use Rattle.pfc_hb.specs.declared.events.Race.{Race}
@@ -45,7 +45,10 @@ lost_update = wakes 0 1 ∷ wakes 0 2 ∷ acts 0 ∷ reads 1 ∷ reads 2 ∷ wri
 three_races : races_of lost_update ≡ race 4 7 ∷ race 5 6 ∷ race 6 7 ∷ []
 three_races = refl
 
-three_lines : race_lines_text lost_update (races_of lost_update) ≡ codes "-- race: action 4 process 1 reads at line 1, action 7 process 2 writes at line 1\n-- race: action 5 process 2 reads at line 1, action 6 process 1 writes at line 1\n-- race: action 6 process 1 writes at line 1, action 7 process 2 writes at line 1\n"
+three_lines : race_lines_text lost_update (races_of lost_update)
+    ≡ codes "-- race: action 4 process 1 reads at line 1, action 7 process 2 writes at line 1\n"
+        ++ codes "-- race: action 5 process 2 reads at line 1, action 6 process 1 writes at line 1\n"
+        ++ codes "-- race: action 6 process 1 writes at line 1, action 7 process 2 writes at line 1\n"
 unfolding digits
 three_lines = refl
 

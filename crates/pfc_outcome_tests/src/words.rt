@@ -181,14 +181,22 @@ fn words_are_read(rt: HostRuntime) -> Result<(), Fail> {
     Ok(())
 }
 
+/// What the text for 31 ends with.
+const ENDING: &[u8] = b"array[1..31] of producer; c: array[1..31] of consumer;
+begin
+  initial(m, 1);
+  cobegin
+    for k := 1 to 31 do p[k];
+    for k := 1 to 31 do c[k]
+  coend;
+  writeln('total  ', total)
+end.
+";
+
 #[test]
 fn a_made_text_names_its_size(rt: HostRuntime) -> Result<(), Fail> {
     let text = make_text(rt.alloc(), 31)?;
     assert!(rt; text.len() == 983, "{} bytes", text.len());
-    assert!(rt;
-        text.ends_with(
-            b"array[1..31] of producer; c: array[1..31] of consumer;\nbegin\n  initial(m, 1);\n  cobegin\n    for k := 1 to 31 do p[k];\n    for k := 1 to 31 do c[k]\n  coend;\n  writeln('total  ', total)\nend.\n"
-        )
-    );
+    assert!(rt; text.ends_with(ENDING), "other bytes at the end");
     Ok(())
 }

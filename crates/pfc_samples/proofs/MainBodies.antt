@@ -1,5 +1,5 @@
 -- Programs that are their main body alone.
-use Rattle.std.specs.Prelude.{◌≡◌, [], ◌∷◌, codes, refl}
+use Rattle.std.specs.Prelude.{◌≡◌, [], ◌∷◌, ◌++◌, codes, refl}
 use Rattle.pfc_base.specs.declared.faults.RunFault.TheVariants.{Overflow, Division, Index, Range, Case, InputEnd, NoInteger, Below, Width}
 use Rattle.pfc_state.specs.declared.endings.Ending.TheVariants.{Finished, Fault, Limit}
 use Rattle.pfc_sched.specs.Picks.{by_turn}
@@ -74,13 +74,21 @@ sum_by_case : ran (codes
 unfolding ran
 sum_by_case = refl
 
--- program w; type p = record x, y: integer end; var a, b: array[0..1] of p; c: p; begin a[1].y := 7; b := a; c := (b[1]); b[1].y := 8; writeln(a[1].y, b[1].y, c.y, c.x) end.
-whole_values : ran (codes "program w; type p = record x, y: integer end; var a, b: array[0..1] of p; c: p; begin a[1].y := 7; b := a; c := (b[1]); b[1].y := 8; writeln(a[1].y, b[1].y, c.y, c.x) end.") [] 1 (by_turn 0) 100 ≡ shows (codes "7870\n") Finished []
+-- program w; type p = record x, y: integer end; var a, b: array[0..1] of p; c: p; begin a[1].y := 7; b := a; c := (b[1]); b[1].y := 8;
+-- writeln(a[1].y, b[1].y, c.y, c.x) end.
+whole_values :
+    ran (codes "program w; type p = record x, y: integer end; var a, b: array[0..1] of p; c: p; begin a[1].y := 7; b := a; c := (b[1]); b[1].y := 8; "
+        ++ codes "writeln(a[1].y, b[1].y, c.y, c.x) end.") [] 1 (by_turn 0) 100
+    ≡ shows (codes "7870\n") Finished []
 unfolding ran
 whole_values = refl
 
--- program f; var c: char; b: boolean; begin c := chr(65); b := succ(false); writeln(c, succ(c), pred('b'), ord(b), abs(-3), sqr(4), odd(3), not b, ord('a'):5) end.
-functions : ran (codes "program f; var c: char; b: boolean; begin c := chr(65); b := succ(false); writeln(c, succ(c), pred('b'), ord(b), abs(-3), sqr(4), odd(3), not b, ord('a'):5) end.") [] 1 (by_turn 0) 100 ≡ shows (codes "ABa1316truefalse   97\n") Finished []
+-- program f; var c: char; b: boolean; begin c := chr(65); b := succ(false); writeln(c, succ(c), pred('b'), ord(b), abs(-3), sqr(4), odd(3), not b,
+-- ord('a'):5) end.
+functions :
+    ran (codes "program f; var c: char; b: boolean; begin c := chr(65); b := succ(false); "
+        ++ codes "writeln(c, succ(c), pred('b'), ord(b), abs(-3), sqr(4), odd(3), not b, ord('a'):5) end.") [] 1 (by_turn 0) 100
+    ≡ shows (codes "ABa1316truefalse   97\n") Finished []
 unfolding ran
 functions = refl
 
@@ -135,8 +143,12 @@ target_first : ran (codes "program e; var t: array[1..2] of integer; begin t[3] 
 unfolding ran
 target_first = refl
 
--- program c; const size = 4; star = '*'; low = -size; var i: integer; t: array[low..size] of char; begin for i := low to size do t[i] := star; t[low] := '<'; writeln(t[-4], t[size], low, maxint) end.
-named_constants : ran (codes "program c; const size = 4; star = '*'; low = -size; var i: integer; t: array[low..size] of char; begin for i := low to size do t[i] := star; t[low] := '<'; writeln(t[-4], t[size], low, maxint) end.") [] 1 (by_turn 0) 200 ≡ shows (codes "<*-42147483647\n") Finished []
+-- program c; const size = 4; star = '*'; low = -size; var i: integer; t: array[low..size] of char; begin for i := low to size do t[i] := star; t[low]
+-- := '<'; writeln(t[-4], t[size], low, maxint) end.
+named_constants :
+    ran (codes "program c; const size = 4; star = '*'; low = -size; var i: integer; t: array[low..size] of char; "
+        ++ codes "begin for i := low to size do t[i] := star; t[low] := '<'; writeln(t[-4], t[size], low, maxint) end.") [] 1 (by_turn 0) 200
+    ≡ shows (codes "<*-42147483647\n") Finished []
 unfolding ran
 named_constants = refl
 
@@ -151,8 +163,12 @@ behind_maxint : ran (codes "program s; begin writeln(succ(maxint)) end.") [] 1 (
 unfolding ran
 behind_maxint = refl
 
--- program f; var c: char; b: boolean; i: integer; begin for c := 'a' to 'c' do write(c); for b := true downto false do write(b); for i := -maxint downto -maxint - 1 do write(' ', i); writeln end.
-counts_of_each_type : ran (codes "program f; var c: char; b: boolean; i: integer; begin for c := 'a' to 'c' do write(c); for b := true downto false do write(b); for i := -maxint downto -maxint - 1 do write(' ', i); writeln end.") [] 1 (by_turn 0) 100 ≡ shows (codes "abctruefalse -2147483647 -2147483648\n") Finished []
+-- program f; var c: char; b: boolean; i: integer; begin for c := 'a' to 'c' do write(c); for b := true downto false do write(b); for i := -maxint
+-- downto -maxint - 1 do write(' ', i); writeln end.
+counts_of_each_type :
+    ran (codes "program f; var c: char; b: boolean; i: integer; begin for c := 'a' to 'c' do write(c); for b := true downto false do write(b); "
+        ++ codes "for i := -maxint downto -maxint - 1 do write(' ', i); writeln end.") [] 1 (by_turn 0) 100
+    ≡ shows (codes "abctruefalse -2147483647 -2147483648\n") Finished []
 unfolding ran
 counts_of_each_type = refl
 
@@ -206,7 +222,11 @@ unfolding ran
 below_zero = refl
 
 -- all loops
-loops : ran (codes "program l;\nvar i, j: integer;\nbegin\n  i := 3;\n  while i > 0 do begin write(i); i := i - 1 end;\n  repeat i := i + 1; if odd(i) then write('o') else write('e') until i = 4;\n  for j := 3 downto 2 do write(j:2);\n  for j := 2 to 1 do write('never');\n  writeln\nend.\n") [] 1 (by_turn 0) 200 ≡ shows (codes "321oeoe 3 2\n") Finished []
+loops :
+    ran (codes "program l;\nvar i, j: integer;\nbegin\n  i := 3;\n  while i > 0 do begin write(i); i := i - 1 end;\n"
+        ++ codes "  repeat i := i + 1; if odd(i) then write('o') else write('e') until i = 4;\n  for j := 3 downto 2 do write(j:2);\n"
+        ++ codes "  for j := 2 to 1 do write('never');\n  writeln\nend.\n") [] 1 (by_turn 0) 200
+    ≡ shows (codes "321oeoe 3 2\n") Finished []
 unfolding ran
 loops = refl
 

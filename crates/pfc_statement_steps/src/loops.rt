@@ -68,7 +68,8 @@ pub(crate) fn begin_repeat<'t>(
     test: &'t Option<Box<Expr>>,
     place: Place,
 ) -> Begun<'t>
-    ensures { (t : Tables) (env : Known) (w : Waiting) → stmt_at s.entry ≡ repeat_of (stmts_view ss.now.items) (option_map (λ e. expr_view e.value) test.now) place →
+    ensures { (t : Tables) (env : Known) (w : Waiting)
+        → stmt_at s.entry ≡ repeat_of (stmts_view ss.now.items) (option_map (λ e. expr_view e.value) test.now) place →
         begun_ahead t env w result ≡ from_stmt env n (repeat_of (stmts_view ss.now.items) (option_map (λ e. expr_view e.value) test.now) place) (remainder_of w)
         (from_remainder env (remainder_of w)) }
 {

@@ -1,8 +1,11 @@
 -- What images hold beside their code: blocks, processes, objects by cell, strings, conditions, scans, alternatives.
-use Rattle.std.specs.Prelude.{◌≡◌, [], ◌∷◌, Some, codes, refl}
+use Rattle.std.specs.Prelude.{◌≡◌, [], ◌∷◌, ◌++◌, Some, codes, refl}
 use Rattle.pfc_translation_samples.specs.Shows.{beside_code}
 
-whole_of_the_lost_update : (beside_code (codes "program a; var x: integer; process p; begin x := x + 1 end; process q; begin x := x + 1 end; begin cobegin p; q coend; writeln(x) end.")) ≡ Some (record {
+whole_of_the_lost_update :
+    (beside_code (codes "program a; var x: integer; process p; begin x := x + 1 end; process q; begin x := x + 1 end; begin cobegin p; q coend; "
+        ++ codes "writeln(x) end."))
+    ≡ Some (record {
   code = [];
   lines = [];
   blocks =
@@ -25,7 +28,14 @@ unfolding beside_code
 whole_of_the_lost_update = refl
 
 -- one object and one block of each kind, and strings in all bodies
-whole_of_all_kinds : (beside_code (codes "program b;\ntype pair = record s: semaphore; c: channel of char end;\nmonitor m; export go; var n: integer; full: condition;\n  procedure go(var i: integer); begin delay(full) end;\nend;\nresource r; end;\nresource z; export h; var t: array[0..1] of integer;\n  guarded procedure h(j: integer) when t[1] = -1;\n  begin write('zz') end;\nbegin write('zi') end;\nprocess type w(k: char); entry e(i: integer); var a: array[1..2] of integer;\nbegin\n  select accept e(i: integer) do begin a[1] := i end or terminate; write('no') end\nend;\nvar u: array['a'..'b', 0..1] of w; p: pair; q: array[1..2] of semaphore;\nprocess o; begin end;\nbegin write('yes') end.")) ≡ Some (record {
+whole_of_all_kinds :
+    (beside_code (codes "program b;\ntype pair = record s: semaphore; c: channel of char end;\n"
+        ++ codes "monitor m; export go; var n: integer; full: condition;\n  procedure go(var i: integer); begin delay(full) end;\nend;\n"
+        ++ codes "resource r; end;\nresource z; export h; var t: array[0..1] of integer;\n  guarded procedure h(j: integer) when t[1] = -1;\n"
+        ++ codes "  begin write('zz') end;\nbegin write('zi') end;\nprocess type w(k: char); entry e(i: integer); var a: array[1..2] of integer;\n"
+        ++ codes "begin\n  select accept e(i: integer) do begin a[1] := i end or terminate; write('no') end\nend;\n"
+        ++ codes "var u: array['a'..'b', 0..1] of w; p: pair; q: array[1..2] of semaphore;\nprocess o; begin end;\nbegin write('yes') end."))
+    ≡ Some (record {
   code = [];
   lines = [];
   blocks =

@@ -47,9 +47,8 @@ fn barred_process<'t>(state: &State<'t>, q: u32) -> Option<Tried<'t>>
 }
 
 /// The barred process of the resource with the least ticket above this one; None where there is none.
-pub(crate) fn next_tried<'t>(state: &mut State<'t>, r: u32, after: Option<u64>) -> Option<Tried<'t>>
-    ensures same { state.new ≡ state.old }
-    ensures next { IsNext state.old r after result }
+pub(crate) fn next_tried<'t>(state: &State<'t>, r: u32, after: Option<u64>) -> Option<Tried<'t>>
+    ensures { IsNext state.now r after result }
 {
     match state.world.next_barred(r, after) {
         Some(q) => barred_process(state, q),

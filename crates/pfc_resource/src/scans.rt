@@ -51,10 +51,9 @@ pub fn bar(
 /// One turn of a scan: the barred process of the resource with the least ticket above `after`, any ticket being above
 /// None. None exactly where there is none. Where the ticket is that of the process that was found last at the resource,
 /// it takes the same steps however many are barred.
-pub fn scan_next(world: &mut World, g: u32, after: Option<u64>) -> Option<Barred>
-    ensures same { world.new ≡ world.old }
-    ensures barred { result ≡ scanned world.old.rows g after }
-    ensures found { MatchOption result (next_barred world.old.rows g after ≡ None) (λ b. next_barred world.old.rows g after ≡ Some b.process) }
+pub fn scan_next(world: &World, g: u32, after: Option<u64>) -> Option<Barred>
+    ensures barred { result ≡ scanned world.now.rows g after }
+    ensures found { MatchOption result (next_barred world.now.rows g after ≡ None) (λ b. next_barred world.now.rows g after ≡ Some b.process) }
 {
     match world.next_barred(g, after) {
         Some(p) => barred_at(world, p),

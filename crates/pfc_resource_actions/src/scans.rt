@@ -83,7 +83,7 @@ pub fn scan(machine: &mut Machine, image: &Image, r: Running, g: u32)
 {
     let p = r.number();
     if let Some(scan) = machine.descriptors.scan(p) {
-        match scan_next(&mut machine.world, g, scan.after) {
+        match scan_next(&machine.world, g, scan.after) {
             Some(barred) => try_guard(machine, image, p, scan, barred),
             None => end_turns(machine, p, g, scan),
         }

@@ -3,12 +3,13 @@
 use crate::lists::MOST_PLACES;
 use pfc_base::Memory;
 use std::alloc::Global;
+use std::cell::Cell;
 
 /// Who was found last at each resource: where to look for the next. Nothing rests on it but the time that this takes, so its
-/// contracts say nothing. Resources whose numbers differ by a multiple of the number of places share one.
+/// contracts say nothing, and who looks may note it. Resources whose numbers differ by a multiple of the number of places share one.
 #[derive(Drop)]
 pub(crate) struct Found {
-    latest: Vec<u32>,
+    latest: Vec<Cell<u32>>,
 }
 
 impl Found {
@@ -17,7 +18,7 @@ impl Found {
         let places = resources.max(1).min(MOST_PLACES);
         let mut latest = Vec::with_capacity(alloc, places as usize)?;
         for _place in 0..places {
-            latest.push(0)?;
+            latest.push(Cell::new(0))?;
         }
         Ok(Found { latest })
     }
@@ -28,16 +29,18 @@ impl Found {
             .latest
             .get(resource as usize % self.latest.len().max(1))
         {
-            Some(p) => Some(*p),
+            Some(latest) => Some(latest.get()),
             None => None,
         }
     }
 
     /// This process was found last at the resource.
-    pub(crate) fn note(&mut self, resource: u32, p: u32) {
-        let place = resource as usize % self.latest.len().max(1);
-        if let Some(latest) = self.latest.get_mut(place) {
-            *latest = p;
+    pub(crate) fn note(&self, resource: u32, p: u32) {
+        if let Some(latest) = self
+            .latest
+            .get(resource as usize % self.latest.len().max(1))
+        {
+            latest.set(p);
         }
     }
 }

@@ -337,12 +337,11 @@ impl World {
     /// The process of least ticket above `after` among those that are barred at the resource; any ticket
     /// is above None. Where the ticket is that of the process that was found last at the resource, it takes
     /// the same steps however many are barred; else it looks from the first on.
-    pub fn next_barred(&mut self, resource: u32, after: Option<u64>) -> Option<u32>
-        ensures same { self.new ≡ self.old }
-        ensures first { result ≡ first (ticket_barred resource after) self.old.rows }
-        ensures found { MatchOption result (IsNobody (ticket_barred resource after) self.old.rows) (IsFirst (ticket_barred resource after) self.old.rows) }
-        ensures waits { IfSome result (λ p. IsWaiting (at self.old.rows p)) }
-        ensures within { IfSome result (λ p. p < length self.old.rows) }
+    pub fn next_barred(&self, resource: u32, after: Option<u64>) -> Option<u32>
+        ensures first { result ≡ first (ticket_barred resource after) self.now.rows }
+        ensures found { MatchOption result (IsNobody (ticket_barred resource after) self.now.rows) (IsFirst (ticket_barred resource after) self.now.rows) }
+        ensures waits { IfSome result (λ p. IsWaiting (at self.now.rows p)) }
+        ensures within { IfSome result (λ p. p < length self.now.rows) }
     {
         let whose = self.found.at(resource);
         let next = first_barred(

@@ -1,5 +1,5 @@
 -- No two processes that could meet each other both wait.
-use Rattle.std.proofs.Common.{◌≡◌, ℕ, ◌+◌, inl, inr, ◌⊎◌, Bool, true, false, ◌||◌, ◌&&◌, ◌==◌, Option, None, Some, List, [], ◌∷◌, length, set, refl, sym, ap}
+use Rattle.std.proofs.Common.{◌≡◌, ℕ, zero, suc, ◌-◌, replicate, ◌+◌, inl, inr, ◌⊎◌, Bool, true, false, ◌||◌, ◌&&◌, ◌==◌, Option, None, Some, List, [], ◌∷◌, length, set, refl, sym, ap}
 use Rattle.std.proofs.Common.{◌∙◌, subst, cond}
 use Rattle.std.specs.Prelude.{is_some}
 use Rattle.std.proofs.lemmas.Bool.{cases_eq, cases_lt, eqb-true}
@@ -14,10 +14,10 @@ use Rattle.pfc_world.specs.Firsts.{IsNobody, first}
 use Rattle.pfc_world.specs.Partners.{caller, is_accepting, or_else, partner, receiver, sender, ticket_open_to}
 use Rattle.pfc_world.specs.Rendezvous.{accepted, accepted_with, called}
 use Rattle.pfc_world.specs.Selects.{communicated, communicated_with, matched, matched_from, select_waited}
-use Rattle.pfc_world.specs.Tables.{Table, at}
+use Rattle.pfc_world.specs.Tables.{Table, at, start_table}
 use Rattle.pfc_world.specs.Transitions.{blocked, placed}
 use Rattle.pfc_world.proofs.Nobody.{first-own, nobody-first}
-use Rattle.pfc_meet.specs.Unpaired.{AreUnpaired, IsElsewhere}
+use Rattle.pfc_meet.specs.Unpaired.{AreElsewhere, AreUnpaired, IsElsewhere}
 
 none-some : (A : Type 0) (o : Option ℕ) (t : ℕ) → o ≡ None → o ≡ Some t → A
 none-some A o t e f = let g : None ≡ Some t = sym e ∙ f in cc
@@ -73,6 +73,49 @@ put rows p s fits ok = record {
     ]
   ];
 }
+
+-- where nobody waits for a message or a meeting
+pub nobody : (rows : List Stand) → ((p : ℕ) → IsElsewhere (at rows p)) → AreUnpaired rows
+nobody rows away = record {
+  channels = λ c j k t u hj hk. none-some _ _ t ((away j).closed (To c)) hj;
+  entries = λ owner e k t u hk ho. none-some _ _ u ((away owner).closed (Entry e)) ho;
+}
+
+pub changes : (rows next : List Stand) → AreElsewhere rows next → AreUnpaired rows → AreUnpaired next
+changes rows next each ok = record {
+  channels = λ c j k t u hj hk. elim (each j) [
+    | inl same ↦ elim (each k) [
+      | inl also ↦ ok.channels c j k t u (sym (ap (ticket_open_to (To c)) same) ∙ hj) (sym (ap (ticket_open_to (From c)) also) ∙ hk)
+      | inr away ↦ none-some _ _ u (away.closed (From c)) hk
+    ]
+    | inr away ↦ none-some _ _ t (away.closed (To c)) hj
+  ];
+  entries = λ owner e k t u hk ho. elim (each k) [
+    | inl same ↦ elim (each owner) [
+      | inl also ↦ ok.entries owner e k t u (sym (ap (ticket_at (Call owner e)) same) ∙ hk) (sym (ap (ticket_open_to (Entry e)) also) ∙ ho)
+      | inr away ↦ none-some _ _ u (away.closed (Entry e)) ho
+    ]
+    | inr away ↦ none-some _ _ t (away.silent owner e) hk
+  ];
+}
+
+ready_elsewhere : IsElsewhere Is_ready
+ready_elsewhere = record { closed = λ arm. refl; silent = λ owner e. refl }
+
+idle_elsewhere : IsElsewhere Is_idle
+idle_elsewhere = record { closed = λ arm. refl; silent = λ owner e. refl }
+
+idle_at : (n p : ℕ) → IsElsewhere (at (replicate n Is_idle) p)
+idle_at zero p = idle_elsewhere
+idle_at (suc n) zero = idle_elsewhere
+idle_at (suc n) (suc p) = idle_at n p
+
+started_at : (n p : ℕ) → IsElsewhere (at (Is_ready ∷ replicate n Is_idle) p)
+started_at n zero = ready_elsewhere
+started_at n (suc p) = idle_at n p
+
+pub start : (n room : ℕ) → AreUnpaired (start_table n room).rows
+start n room = nobody (start_table n room).rows (started_at (n - 1))
 
 pub elsewhere : (rows : List Stand) (p : ℕ) (s : Stand) → IsElsewhere s → AreUnpaired rows → AreUnpaired (set rows p s)
 elsewhere rows p s away ok = put rows p s (record {

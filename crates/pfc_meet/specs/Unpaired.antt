@@ -1,5 +1,5 @@
 -- Processes that could meet each other do not both wait.
-use Rattle.std.specs.Prelude.{ℕ, ◌≡◌, None, Some, List}
+use Rattle.std.specs.Prelude.{ℕ, ◌≡◌, ◌⊎◌, None, Some, List}
 use Rattle.pfc_state.specs.declared.waits.Arm.{Arm}
 use Rattle.pfc_state.specs.declared.waits.Arm.TheVariants.{Send as To, Receive as From, Accept as Entry}
 use Rattle.pfc_state.specs.declared.waits.Why.TheVariants.{Call}
@@ -17,3 +17,7 @@ pub record AreUnpaired (rows : List Stand) : Type 0 where
 pub record IsElsewhere (stand : Stand) : Type 0 where
   pub closed : (arm : Arm) → ticket_open_to arm stand ≡ None
   pub silent : (owner e : ℕ) → ticket_at (Call owner e) stand ≡ None
+
+-- each process stands where it stood, or waits for no message and no meeting to begin
+abbrev pub AreElsewhere : List Stand → List Stand → Type 0
+AreElsewhere rows next = (p : ℕ) → (at next p ≡ at rows p) ⊎ IsElsewhere (at next p)

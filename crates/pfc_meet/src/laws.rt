@@ -6,14 +6,17 @@ ghost use Rattle.pfc_world.specs.Channels.{received, sent};
 ghost use Rattle.pfc_world.specs.Partners.{partner};
 ghost use Rattle.pfc_world.specs.Rendezvous.{accepted, called};
 ghost use Rattle.pfc_world.specs.Selects.{communicated, matched, select_waited};
-ghost use Rattle.pfc_world.specs.Tables.{Table, at};
+ghost use Rattle.pfc_world.specs.Tables.{Table, at, start_table};
 ghost use Rattle.pfc_world.specs.Terminating.{finally_settled};
-ghost use Rattle.pfc_meet.specs.Unpaired.{AreUnpaired, IsElsewhere};
+ghost use Rattle.pfc_meet.specs.Unpaired.{AreElsewhere, AreUnpaired, IsElsewhere};
 
 /// Where every wait was begun by these actions, no two processes wait on opposite sides of one channel, and no caller
-/// waits for an entry that its owner waits to accept: the process that acts, and so stands as ready, keeps this by each
-/// action, and so does every change of a standing to one that waits for no message and no meeting to begin.
+/// waits for an entry that its owner waits to accept: so it is where all begins, the process that acts, and so stands as
+/// ready, keeps this by each action, and so does every change of standings, of one or of many, to those that wait for no
+/// message and no meeting to begin.
 pub fn nobody_waits_for_one_who_waits_for_it()
+    ensures start { (n room : ℕ) → AreUnpaired (start_table n room).rows }
+    ensures changes { (rows next : List Stand) → AreElsewhere rows next → AreUnpaired rows → AreUnpaired next }
     ensures elsewhere { (rows : List Stand) (p : ℕ) (stand : Stand) → IsElsewhere stand → AreUnpaired rows → AreUnpaired (slice_set rows p stand) }
     ensures send { (w : Table) (p c : ℕ) → AreUnpaired w.rows → AreUnpaired (sent w p c).rows }
     ensures receive { (w : Table) (p c : ℕ) → AreUnpaired w.rows → AreUnpaired (received w p c).rows }

@@ -4,11 +4,11 @@ ghost use Rattle.pfc_meet.specs.Meetings.{ActsAfterAccept, ActsAfterCall, IsInMe
 ghost use Rattle.pfc_world.specs.Tables.{at};
 ghost use Rattle.pfc_world.specs.Tickets.{IsNew};
 
-use crate::stage::{five_children, next_action, wait_with};
+use crate::stage::{five_children, next_action};
 use pfc_base::Memory;
 use pfc_meet::{
     Accepted, Called, Committed, Uncalled, accept, call_entry, end_accept, matches, select_commit,
-    terminate_all,
+    select_wait, terminate_all,
 };
 use pfc_world::{Arm, Running, State, Why, World};
 use std::alloc::Global;
@@ -48,10 +48,11 @@ enum Answer {
     Ends(bool),
 }
 
-static ACTIONS: [(u32, Call, Answer); 49] = [
+static ACTIONS: [(u32, Call, Answer); 51] = [
     (5, Call::Finish, Answer::Goes),
     // only an owner that is idle or has finished cannot be called, not one that is busy
     (1, Call::Entry { owner: 5, entry: 0 }, Answer::Uncalled),
+    (1, Call::Entry { owner: 6, entry: 0 }, Answer::Uncalled),
     (1, Call::Entry { owner: 2, entry: 0 }, Answer::Waits),
     (3, Call::Entry { owner: 2, entry: 0 }, Answer::Waits),
     (2, Call::Accept(0), Answer::Takes(1)),
@@ -91,6 +92,12 @@ static ACTIONS: [(u32, Call, Answer); 49] = [
         3,
         Call::Matches(Arm::Send(1), Arm::Receive(0)),
         Answer::Count(2),
+    ),
+    // a select that is matched does not wait
+    (
+        3,
+        Call::Select(Arm::Send(1), Arm::Receive(0), None),
+        Answer::Unable,
     ),
     (
         3,
@@ -208,15 +215,9 @@ fn acted(world: &mut World, r: Running, call: Call) -> Answer
             Answer::Count(count)
         }
         Call::Choose(one, other, k) => chosen(world, r, [one, other], k),
-        Call::Select(one, other, due) => {
-            if wait_with(world, r, [one, other], due) {
-                Answer::Waits
-            } else {
-                Answer::Unable
-            }
-        }
+        Call::Select(one, other, due) => selects(world, r, [one, other], due),
         Call::Serve => {
-            world.block_select(r, &[], None, true);
+            select_wait(world, r, &[], None, true);
             Answer::Waits
         }
         Call::Settle | Call::Terminate => {
@@ -299,6 +300,20 @@ fn chosen(world: &mut World, r: Running, arms: [Arm; 2], k: u32) -> Answer
     } = select_commit(world, r, &arms, k);
     world.rest(r);
     Answer::Commits(alternative, partner, partner_alternative)
+}
+
+/// A select with two alternatives, which waits where it has room for them and none is matched.
+fn selects(world: &mut World, r: Running, arms: [Arm; 2], due: Option<u64>) -> Answer
+    requires acts { world.old.acting ≡ Some r.number }
+    requires fresh { IsNew world.old.rows world.old.done }
+    ensures { world.new.acting ≡ None }
+{
+    if world.room() < 2 || matches(world, r.number(), &arms) > 0 {
+        world.rest(r);
+        return Answer::Unable;
+    }
+    select_wait(world, r, &arms, due, false);
+    Answer::Waits
 }
 
 /// The place of the first action whose answer is not the one that is owed.

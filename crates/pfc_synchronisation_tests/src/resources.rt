@@ -33,7 +33,7 @@ enum Answer {
     Finds(Option<(u32, u32, u64)>),
 }
 
-static ACTIONS: [(u32, Call, Answer); 18] = [
+static ACTIONS: [(u32, Call, Answer); 22] = [
     (1, Call::Enter, Answer::Goes),
     (2, Call::Enter, Answer::Waits),
     // who is barred gives the resource to the first entrant, and else frees it; the tickets are 4 and 5
@@ -48,20 +48,24 @@ static ACTIONS: [(u32, Call, Answer); 18] = [
     (3, Call::Scan(Some(4)), Answer::Finds(Some((2, 4, 5)))),
     (3, Call::Pass(4), Answer::Unable),
     (3, Call::Pass(1), Answer::Goes),
+    (5, Call::Enter, Answer::Waits),
     (1, Call::Leave, Answer::Next(Some(4))),
+    (4, Call::Bar(7), Answer::Next(Some(5))),
     // the requeued process waits at its new procedure, and is tried last
     (
-        4,
+        5,
         Call::Requeue {
             procedure: 6,
             to: 2,
         },
         Answer::Waits,
     ),
-    (2, Call::Scan(None), Answer::Finds(Some((4, 6, 15)))),
+    (2, Call::Scan(None), Answer::Finds(Some((4, 7, 16)))),
+    (2, Call::Scan(Some(16)), Answer::Finds(Some((5, 6, 17)))),
+    (2, Call::Scan(Some(17)), Answer::Finds(None)),
     (2, Call::Leave, Answer::Next(None)),
     (2, Call::Leave, Answer::Unable),
-    (5, Call::Enter, Answer::Goes),
+    (3, Call::Enter, Answer::Goes),
 ];
 
 fn answer_to(world: &mut World, res: &mut Resources, p: u32, call: Call) -> Answer
@@ -94,9 +98,7 @@ fn answer_to(world: &mut World, res: &mut Resources, p: u32, call: Call) -> Answ
     }
 }
 
-fn found(world: &mut World, after: Option<u64>) -> Answer
-    ensures { world.new ≡ world.old }
-{
+fn found(world: &World, after: Option<u64>) -> Answer {
     match scan_next(world, 0, after) {
         Some(barred) => Answer::Finds(Some((barred.process, barred.procedure, barred.ticket))),
         None => Answer::Finds(None),

@@ -9,11 +9,11 @@ use std::alloc::Global;
 /// More actions, or a later moment, than any of the tables comes to.
 const MANY: u64 = 10_000;
 
-/// Main waits at `coend`, and the processes 1 to 5 are ready; each may offer two alternatives.
+/// Main waits at `coend`, the processes 1 to 5 are ready, and process 6 is idle; each may offer two alternatives.
 pub(crate) fn five_children(alloc: Global) -> Result<World, Memory>
     ensures { IfOk result (λ w. w.acting ≡ None) }
 {
-    let mut world = World::with_processes(alloc, 6, 2, 8)?;
+    let mut world = World::with_processes(alloc, 7, 2, 8)?;
     let _ = world.create(1);
     let _ = world.create(2);
     let _ = world.create(3);

@@ -6,4 +6,5 @@ use Rattle.pfc_code_size.proofs.output.reads.Given as goal
 
 abbrev pub invariant-loop-a : goal.invariant-loop-a
 invariant-loop-a l =
-    l.n + reads_size l.env.scopes.now (env_view l.env) (actuals_view (drop l.a-index l.args)) l.skip ≡ l.fn.count + reads_size l.env.scopes.now (env_view l.env) (actuals_view l.args) l.skip
+    l.n + reads_size l.env.scopes.now (env_view l.env) (actuals_view (drop l.a-index l.args)) l.skip
+    ≡ l.fn.count + reads_size l.env.scopes.now (env_view l.env) (actuals_view l.args) l.skip

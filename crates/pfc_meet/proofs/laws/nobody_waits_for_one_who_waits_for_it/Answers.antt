@@ -1,5 +1,11 @@
-use Rattle.pfc_meet.proofs.Unpairing.{elsewhere, send, receive, call, accept, commit, wait}
+use Rattle.pfc_meet.proofs.Unpairing.{start, changes, elsewhere, send, receive, call, accept, commit, wait}
 use Rattle.pfc_meet.proofs.laws.nobody_waits_for_one_who_waits_for_it.Goals as goal
+
+pub returns-clause-start : goal.returns-clause-start
+returns-clause-start c = start
+
+pub returns-clause-changes : goal.returns-clause-changes
+returns-clause-changes c = changes
 
 pub returns-clause-elsewhere : goal.returns-clause-elsewhere
 returns-clause-elsewhere c = elsewhere

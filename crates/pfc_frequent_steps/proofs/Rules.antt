@@ -10,7 +10,7 @@ use Rattle.pfc_tree.specs.declared.tree.MulOp.{MulOp}
 use Rattle.pfc_tree.specs.declared.tree.Relation.{Relation}
 use Rattle.pfc_tree.specs.declared.tree.Sign.{Sign}
 use Rattle.pfc_tree.specs.trees.Exprs.{ExprTree, SimpleTree, TermTree, SummandTrees, FactorTree, MultiplierTrees, related, sum, more_summands, more_multipliers}
-use Rattle.pfc_tree.specs.trees.Stmts.{StmtTree, StmtTrees, while_do, repeat_until, repeat_forever}
+use Rattle.pfc_tree.specs.trees.Stmts.{StmtTree, StmtTrees, ArmTrees, case_of, while_do, repeat_until, repeat_forever}
 use Rattle.pfc_tree.specs.views.Stmts.{if_of}
 use Rattle.pfc_types.specs.rules.Expressions.{Env}
 use Rattle.pfc_values.specs.Numbers.{Outcome}
@@ -20,7 +20,7 @@ use Rattle.pfc_semantics.specs.Expressions.{with_number, from_expr, from_simple,
 use Rattle.pfc_semantics.specs.Statements.{from_stmt, from_stmts}
 use Rattle.pfc_semantics.specs.Alternatives.{context}
 use Rattle.pfc_semantics.specs.Rewriting.{from_remainder, from_value}
-use Rattle.pfc_pending.specs.Waiting.{choose_of, while_true_of, until_of, until_true_of}
+use Rattle.pfc_pending.specs.Waiting.{choose_of, choose_arm_of, while_true_of, until_of, until_true_of}
 
 pub related_step :
     (c : Context) (left right : SimpleTree) (op : Relation × Place) (p : Place) (u : AwaitsValue)
@@ -71,6 +71,14 @@ if_step env n st e first None p k is = ap (λ x. from_expr (context env p.line) 
 if_step env n st e first (Some other) p k is =
     ap (λ x. from_expr (context env p.line) e (choose_of n x k) (from_value (context env p.line) (choose_of n x k))) is
 
+pub case_step :
+    (env : Env) (n : ℕ) (st : StmtTree) (e : ExprTree) (arms : ArmTrees) (last : Bool) (p : Place) (k : Remainder)
+    → st ≡ case_of e arms last p
+    → from_expr (context env p.line) e (choose_arm_of n st k) (from_value (context env p.line) (choose_arm_of n st k))
+    ≡ from_stmt env n (case_of e arms last p) k (from_remainder env k)
+case_step env n st e arms last p k is =
+    ap (λ x. from_expr (context env p.line) e (choose_arm_of n x k) (from_value (context env p.line) (choose_arm_of n x k))) is
+
 pub while_step :
     (env : Env) (n : ℕ) (st : StmtTree) (e : ExprTree) (pass : StmtTree) (p : Place) (k : Remainder)
     → st ≡ while_do e pass p
@@ -90,7 +98,7 @@ pub forever_step :
     → from_stmts env n ss (turn n st k) (from_remainder env (turn n st k)) ≡ from_stmt env n (repeat_forever ss p) k (from_remainder env k)
 forever_step env n st ss p k is = ap (λ x. from_stmts env n ss (turn n x k) (from_remainder env (turn n x k))) is
 
-pub ruleset tests = (if_step, while_step, until_step, forever_step)
+pub ruleset tests = (if_step, case_step, while_step, until_step, forever_step)
 
 -- the test of a `repeat` comes behind its statements
 pub behind_statements :

@@ -5,12 +5,13 @@ use Rattle.std.specs.declared.vec.Vec.{Vec}
 use Rattle.std.specs.declared.alloc.Global.{Global}
 use Rattle.pfc_tree.specs.declared.tree.Stmt.{Stmt}
 use Rattle.pfc_tree.specs.trees.Stmts.{StmtTree, empty}
+use Rattle.pfc_tree.specs.views.Exprs.{expr_view}
 use Rattle.pfc_tree.specs.views.Stmts.{stmt_view}
 use Rattle.pfc_types.specs.rules.Expressions.{Env}
 use Rattle.pfc_program.specs.declared.tables.Tables.{Tables}
 use Rattle.pfc_store.specs.Views.{spot_view}
 use Rattle.pfc_semantics.specs.Alternatives.{context}
-use Rattle.pfc_semantics.specs.Remainders.{Context, Action, turns, reads, writes, faults}
+use Rattle.pfc_semantics.specs.Remainders.{Context, Action, assign_to, read_for, turns, reads, writes, finishes, faults}
 use Rattle.pfc_semantics.specs.Rewriting.{from_value}
 use Rattle.pfc_semantics.specs.Values.{ordinal}
 use Rattle.pfc_pending.specs.Ahead.{ahead, deed_ahead}
@@ -22,6 +23,7 @@ use Rattle.pfc_pending.specs.declared.pending.Pending.{Pending}
 use Rattle.pfc_pending.specs.declared.pending.Pending.TheVariants as pending
 use Rattle.pfc_pending.specs.declared.pending.Point.{Point}
 use Rattle.pfc_pending.specs.declared.pending.Point.TheVariants as point
+use Rattle.pfc_frequent_parts.specs.Parts.{indexed_ahead}
 use Rattle.pfc_frequent_steps.specs.declared.near.Near.{Near}
 use Rattle.pfc_frequent_steps.specs.declared.near.Near.TheVariants as near
 use Rattle.pfc_frequent_steps.specs.declared.near.Waits.{Waits}
@@ -50,6 +52,7 @@ near_ahead t c w (near.Stmts n ss) = ahead t c w (at.Stmts n ss)
 near_ahead t c w near.Turns = turns c (remainder_of w)
 near_ahead t c w (near.Reads s) = reads c (spot_view s) (awaits_of w)
 near_ahead t c w (near.Writes s n) = writes c (spot_view s) (ordinal n) (remainder_of w)
+near_ahead t c w (near.Finishes line) = finishes line
 near_ahead t c w (near.Faults f) = faults c f
 
 -- what is pending
@@ -63,6 +66,7 @@ waits_part (waits.CompareTo n r) = pending.CompareTo n r
 waits_part (waits.StoreAt s) = pending.StoreAt s
 
 abbrev pub behind_part : Behind → Pending
+behind_part (behind.Ends line) = pending.Ends line
 behind_part (behind.Perform n ss) = pending.Perform n ss
 behind_part (behind.Turn n s) = pending.Within n s point.Turn
 behind_part (behind.Again n s) = pending.Within n s point.Again
@@ -70,6 +74,7 @@ behind_part (behind.Until n s) = pending.Within n s point.Until
 
 abbrev pub test_point : Test → Point
 test_point test.Choose = point.Choose
+test_point test.ChooseArm = point.ChooseArm
 test_point test.WhileTrue = point.WhileTrue
 test_point test.UntilTrue = point.UntilTrue
 
@@ -91,6 +96,8 @@ next_ahead t c w (to.On n) = near_ahead t c w n
 next_ahead t c w (to.Over x n) = near_ahead t c (over t w (waits_part x)) n
 next_ahead t c w (to.Ahead x n) = near_ahead t c (over t w (behind_part x)) n
 next_ahead t c w (to.Tests x n) = near_ahead t c (over t w (tested_part x)) n
+next_ahead t c w (to.ToRead x) = indexed_ahead c x (read_for (awaits_of w))
+next_ahead t c w (to.ToAssign x e) = indexed_ahead c x (assign_to (expr_view e.now) (remainder_of w))
 
 abbrev pub entered_ahead : Tables → Env → Waiting → Entered → Action
 entered_ahead t env w e = next_ahead t (context env e.line) w e.next

@@ -20,6 +20,10 @@ pub(crate) fn ended<'t>(part: Behind<'t>) -> Entered<'t>
     ensures { (t : Tables) (env : Known) (w : Waiting) → entered_ahead t env w result ≡ from_remainder env (remainder_of (over t w (behind_part part.entry))) }
 {
     match part {
+        Behind::Ends(line) => Entered {
+            line,
+            next: Next::On(Near::Finishes(line)),
+        },
         Behind::Perform(n, ss) => Entered {
             line: 0,
             next: Next::On(Near::Stmts(n, ss)),

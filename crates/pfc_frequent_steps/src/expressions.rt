@@ -16,14 +16,14 @@ use crate::near::{Near, Next, Waits};
 use pfc_base::Place;
 use pfc_tree::{AddOp, Expr, Factor, MulOp, Relation, Sign, Simple, Term};
 
-/// The left side of an expression, over the right one; or the only one.
+/// The left side of an expression, over the right one; or the only one, which is taken apart at once.
 #[inline(always)]
 pub(crate) fn expr<'t>(e: &'t Expr) -> Next<'t>
     ensures { (t : Tables) (c : Context) (w : Waiting) → next_ahead t c w result ≡ ahead t c w (at.Expr e.entry) }
 {
     match &e.right {
         Some((op, right)) => related(&e.left, *op, right, e.place),
-        None => Next::On(Near::Simple(&e.left)),
+        None => simple(&e.left),
     }
 }
 
@@ -52,7 +52,7 @@ pub(crate) fn simple<'t>(s: &'t Simple) -> Next<'t>
     }
 }
 
-/// A sum without a sign.
+/// A sum without a sign; a term alone is taken apart at once.
 #[tactic(auto, using(crate::proofs::Firsts::sums))]
 #[inline(always)]
 fn unsigned<'t>(first: &'t Term, rest: &'t [((AddOp, Place), Term)]) -> Next<'t>
@@ -60,7 +60,7 @@ fn unsigned<'t>(first: &'t Term, rest: &'t [((AddOp, Place), Term)]) -> Next<'t>
         ≡ from_simple c (trees.sum None (term_view first.now) (summands_view rest.now)) (awaits_of w) (from_value c (awaits_of w)) }
 {
     match rest {
-        [] => Next::On(Near::Term(first)),
+        [] => term(first),
         _ => Next::Over(Waits::BeginSum(None, rest), Near::Term(first)),
     }
 }

@@ -1,8 +1,8 @@
 //! The frequent steps of quiet rewriting, in small values.
 //!
 //! It promises that what they come to stands for the same action as what was at hand before them. They are those of numbers, of names without
-//! selectors, of lists of statements, of assignments, of tests, of a `for` that is under way and of the way back of a loop; all else is left
-//! at hand. It knows no variable's value.
+//! selectors, of elements by one index, of lists of statements, of assignments to those, of tests, of the arms of a `case`, of a `for` that is
+//! under way, of the way back of a loop and of the end of a body; all else is left at hand. It knows no variable's value.
 #![tactic(auto)]
 
 mod counts;

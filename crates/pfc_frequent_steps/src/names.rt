@@ -1,4 +1,4 @@
-//! Factors that are literals, constants or variables as a whole.
+//! Factors that are literals, constants, variables as a whole or elements by one index.
 ghost use Rattle.std.specs.Prelude.{◌≡◌, ℕ, IfSome};
 ghost use Rattle.pfc_tree.specs.views.Exprs.{desig_view, actuals_view};
 ghost use Rattle.pfc_tree.specs.trees.Exprs as trees;
@@ -18,8 +18,10 @@ ghost use Rattle.pfc_pending.specs.declared.at_hand.At.TheVariants as at;
 ghost use Rattle.pfc_frequent_steps.specs.Names.{from_whole};
 ghost use Rattle.pfc_frequent_steps.specs.Near.{next_ahead};
 
+use crate::expressions::expr;
 use crate::near::{Near, Next};
 use pfc_base::{Name, Place};
+use pfc_frequent_parts::read;
 use pfc_phrases::{find_in, meaning_of};
 use pfc_sites::Site;
 use pfc_store::Spot;
@@ -33,13 +35,13 @@ pub(crate) fn factor<'t>(f: &'t Factor, site: Site<'t, '_>) -> Option<Next<'t>>
 {
     match f {
         Factor::Number(n, _place) => Some(Next::On(Near::Number(*n as i64))),
-        Factor::Paren(e, _place) => Some(Next::On(Near::Expr(e))),
+        Factor::Paren(e, _place) => Some(expr(e)),
         Factor::Use(d, args, place) => used(d, args, *place, site),
         _ => None,
     }
 }
 
-/// A name without selectors that means a variable or a constant; None for any other.
+/// A name without selectors that means a variable or a constant, or an element of a variable by one index; None for any other.
 #[inline(always)]
 fn used<'t>(
     d: &'t Desig,
@@ -52,7 +54,7 @@ fn used<'t>(
 {
     match d.selectors.as_slice() {
         [] => named(&d.name, site),
-        _ => None,
+        _ => Some(Next::ToRead(read(d, args, _place, site)?)),
     }
 }
 

@@ -7,6 +7,7 @@ ghost use Rattle.pfc_pending.specs.Waiting.{Waiting};
 ghost use Rattle.pfc_frequent_steps.specs.Near.{advanced_ahead, near_ahead};
 
 use pfc_base::{Place, RunFault};
+use pfc_frequent_parts::Indexed;
 use pfc_pending::{At, Deed, OneStmt, Stmts};
 use pfc_store::{Spot, Value};
 use pfc_tree::{AddOp, Expr, Factor, MulOp, Relation, Sign, Simple, Term};
@@ -25,6 +26,7 @@ pub(crate) enum Near<'t> {
     Turns,
     Reads(Spot),
     Writes(Spot, i64),
+    Finishes(u32),
     Faults(RunFault),
 }
 
@@ -40,19 +42,22 @@ pub(crate) enum Waits<'t> {
     StoreAt(Spot),
 }
 
-/// A part that is pending behind a statement: statements, the way back of a loop, the loop once more, and the test of a `repeat`.
+/// A part that is pending behind a statement: the end of a body, statements, the way back of a loop, the loop once more, and the test of a
+/// `repeat`.
 #[derive(Clone, Copy)]
 pub(crate) enum Behind<'t> {
+    Ends(u32),
     Perform(u32, Stmts<'t>),
     Turn(u32, OneStmt<'t>),
     Again(u32, OneStmt<'t>),
     Until(u32, OneStmt<'t>),
 }
 
-/// Which test of a statement waits for its value: that of an `if`, of a `while`, of a `repeat`.
+/// Which test of a statement waits for its value: that of an `if`, of a `case`, of a `while`, of a `repeat`.
 #[derive(Clone, Copy)]
 pub(crate) enum Test {
     Choose,
+    ChooseArm,
     WhileTrue,
     UntilTrue,
 }
@@ -65,13 +70,16 @@ pub(crate) struct Tested<'t> {
     pub(crate) test: Test,
 }
 
-/// What a step comes to: other at hand, perhaps over one more that is pending.
+/// What a step comes to: other at hand, perhaps over one more that is pending; the index of an element that is read, or that is assigned to,
+/// over its array.
 #[derive(Drop)]
 pub(crate) enum Next<'t> {
     On(Near<'t>),
     Over(Waits<'t>, Near<'t>),
     Ahead(Behind<'t>, Near<'t>),
     Tests(Tested<'t>, Near<'t>),
+    ToRead(Indexed<'t>),
+    ToAssign(Indexed<'t>, &'t Expr),
 }
 
 /// What a statement comes to, with the line that it has.
@@ -124,6 +132,7 @@ impl<'t> Near<'t> {
             Near::Turns => At::Deed(Deed::Turns),
             Near::Reads(spot) => At::Deed(Deed::Reads(spot)),
             Near::Writes(spot, n) => At::Deed(Deed::Writes(spot, Value::of(n))),
+            Near::Finishes(line) => At::Deed(Deed::Finishes(line)),
             Near::Faults(fault) => At::Deed(Deed::Faults(fault)),
         }
     }
@@ -136,6 +145,7 @@ impl<'t> Near<'t> {
             Near::Turns => Ok(Deed::Turns),
             Near::Reads(spot) => Ok(Deed::Reads(spot)),
             Near::Writes(spot, n) => Ok(Deed::Writes(spot, Value::of(n))),
+            Near::Finishes(line) => Ok(Deed::Finishes(line)),
             Near::Faults(fault) => Ok(Deed::Faults(fault)),
             near => Err(near),
         }

@@ -6,7 +6,8 @@ ghost use Rattle.pfc_pending.specs.Waiting.{over, waiting};
 ghost use Rattle.pfc_frequent_steps.specs.Near.{behind_over, behind_part, near_ahead, next_ahead, tested_part, waits_over, waits_part, HasRoom};
 
 use crate::near::{Behind, Near, Next, Test, Tested, Waits};
-use pfc_pending::{Pending, Point};
+use pfc_frequent_parts::put_index;
+use pfc_pending::{Goal, Pending, Point};
 use std::mem;
 
 /// A part that waits for a number, None where it is none of these. The target of an assignment is not looked at here, since it is no plain
@@ -32,6 +33,7 @@ fn behind_of<'t>(part: &Pending<'t>) -> Option<Behind<'t>>
     ensures { IfSome result (λ x. behind_part x ≡ part.now) }
 {
     match part {
+        Pending::Ends(line) => Some(Behind::Ends(*line)),
         Pending::Perform(n, ss) => Some(Behind::Perform(*n, *ss)),
         Pending::Within(n, s, Point::Turn) => Some(Behind::Turn(*n, *s)),
         Pending::Within(n, s, Point::Again) => Some(Behind::Again(*n, *s)),
@@ -154,6 +156,7 @@ fn put_behind<'t>(pending: &mut Vec<Pending<'t>>, part: Behind<'t>)
     ensures { (t : Tables) → waiting t pending.new.items ≡ over t (waiting t pending.old.items) (behind_part part.entry) }
 {
     match part {
+        Behind::Ends(line) => pending.push_reserved(Pending::Ends(line)),
         Behind::Perform(n, ss) => pending.push_reserved(Pending::Perform(n, ss)),
         Behind::Turn(n, s) => pending.push_reserved(Pending::Within(n, s, Point::Turn)),
         Behind::Again(n, s) => pending.push_reserved(Pending::Within(n, s, Point::Again)),
@@ -170,6 +173,7 @@ fn put_test<'t>(pending: &mut Vec<Pending<'t>>, part: Tested<'t>)
 {
     match part.test {
         Test::Choose => pending.push_reserved(Pending::Within(part.n, part.s, Point::Choose)),
+        Test::ChooseArm => pending.push_reserved(Pending::Within(part.n, part.s, Point::ChooseArm)),
         Test::WhileTrue => pending.push_reserved(Pending::Within(part.n, part.s, Point::WhileTrue)),
         Test::UntilTrue => pending.push_reserved(Pending::Within(part.n, part.s, Point::UntilTrue)),
     }
@@ -194,6 +198,14 @@ pub(crate) fn go_on<'t>(pending: &mut Vec<Pending<'t>>, next: Next<'t>) -> Near<
         Next::Tests(part, near) => {
             put_test(pending, part);
             near
+        }
+        Next::ToRead(element) => {
+            let index = put_index(pending, element, Goal::Read);
+            Near::Expr(index)
+        }
+        Next::ToAssign(element, value) => {
+            let index = put_index(pending, element, Goal::AssignTo(value));
+            Near::Expr(index)
         }
     }
 }

@@ -1,4 +1,4 @@
-//! Statements: lists of them, assignments to variables as a whole, tests, and loops without an end.
+//! Statements: lists of them, assignments to variables as a whole and to elements by one index, tests, and loops without an end.
 ghost use Rattle.std.specs.Prelude.{◌≡◌, ℕ, IfSome};
 ghost use Rattle.std.specs.Option.{option_copied};
 ghost use Rattle.pfc_tree.specs.trees.Stmts as trees;
@@ -18,8 +18,9 @@ ghost use Rattle.pfc_pending.specs.declared.at_hand.At.TheVariants as at;
 ghost use Rattle.pfc_frequent_steps.specs.Near.{entered_ahead, next_ahead, node_view};
 
 use crate::near::{Behind, Entered, Near, Next, Waits};
-use crate::tested::{begin_if, begin_until, begin_while};
+use crate::tested::{begin_case, begin_if, begin_until, begin_while};
 use pfc_base::{Memory, Place};
+use pfc_frequent_parts::target;
 use pfc_pending::{OneStmt, Stmts};
 use pfc_program::behind_stmt;
 use pfc_sites::Site;
@@ -84,6 +85,7 @@ fn known<'t>(n: u32, s: OneStmt<'t>, found: &'t Stmt, site: Site<'t, '_>) -> Opt
         Stmt::Block(body, _) => at_line(0, all(n, &body.stmts)),
         Stmt::Empty | Stmt::Null(_) => at_line(0, Next::On(Near::Rest)),
         Stmt::If(e, _, _, p) => Some(begin_if(n, s, e, *p)),
+        Stmt::Case(e, _, _, p) => Some(begin_case(n, s, e, *p)),
         Stmt::While(e, _, p) => Some(begin_while(n, s, e, *p)),
         Stmt::Repeat(ss, Some(e), p) => Some(begin_until(n, s, ss, e, *p)),
         Stmt::Repeat(ss, None, p) => Some(begin_forever(n, s, ss, *p)),
@@ -108,7 +110,7 @@ fn at_line<'t>(line: u32, next: Next<'t>) -> Option<Entered<'t>>
     Some(Entered { line, next })
 }
 
-/// `d := e`: the variable before the value. None where it has selectors.
+/// `d := e`: the variable before the value. None where it has other selectors than one index alone.
 #[inline(always)]
 fn assign<'t>(d: &'t Desig, e: &'t Expr, site: Site<'t, '_>) -> Option<Next<'t>>
     ensures { IfSome result (λ next. (t : Tables) (line : ℕ) (w : Waiting) → next_ahead t (context (env_view site.entry.env) line) w next
@@ -116,7 +118,7 @@ fn assign<'t>(d: &'t Desig, e: &'t Expr, site: Site<'t, '_>) -> Option<Next<'t>>
 {
     match d.selectors.as_slice() {
         [] => Some(Next::Over(Waits::StoreAt(site.spot(&d.name).spot), Near::Expr(e))),
-        _ => None,
+        _ => Some(Next::ToAssign(target(d, site)?, e)),
     }
 }
 

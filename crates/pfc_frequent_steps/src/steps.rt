@@ -18,6 +18,7 @@ use crate::stack::{go_on, take_behind, take_waits};
 use crate::statements::{stmt, stmts};
 use crate::tested::meet_test;
 use crate::values::meet;
+use pfc_frequent_parts::{Reached, meet_index};
 use pfc_pending::{At, Deed, Pending};
 use pfc_sites::Site;
 use std::alloc::Global;
@@ -89,7 +90,7 @@ fn step<'t>(
         ≡ near_ahead t (context (env_view site.entry.env) line.old) (waiting t pending.old.items) near.entry }
 {
     match near {
-        Near::Number(n) => number(n, *line, pending),
+        Near::Number(n) => number(n, *line, pending, site),
         Near::Expr(e) => Went::On(go_on(pending, expr(e))),
         Near::Simple(s) => Went::On(go_on(pending, simple(s))),
         Near::Term(t) => Went::On(go_on(pending, term(t))),
@@ -115,14 +116,33 @@ fn step<'t>(
 
 /// A number meets the innermost part that is pending.
 #[inline(always)]
-fn number<'t>(n: i64, line: u32, pending: &mut Vec<Pending<'t>>) -> Went<'t>
+fn number<'t>(n: i64, line: u32, pending: &mut Vec<Pending<'t>>, site: Site<'t, '_>) -> Went<'t>
     requires { HasRoom pending.old }
-    ensures { (t : Tables) (env : Known) → went_ahead t (context env line) (waiting t pending.new.items) result
-        ≡ near_ahead t (context env line) (waiting t pending.old.items) (near.Number n) }
+    ensures { (t : Tables) → let c = context (env_view site.entry.env) line in
+        went_ahead t c (waiting t pending.new.items) result ≡ near_ahead t c (waiting t pending.old.items) (near.Number n) }
 {
     match take_waits(pending) {
         Some(part) => Went::On(go_on(pending, meet(part, n))),
-        None => meet_test(n, line, pending),
+        None => number_inside(n, line, pending, site),
+    }
+}
+
+/// A number is an index or the value of a test.
+#[inline(always)]
+fn number_inside<'t>(
+    n: i64,
+    line: u32,
+    pending: &mut Vec<Pending<'t>>,
+    site: Site<'t, '_>,
+) -> Went<'t>
+    requires { HasRoom pending.old }
+    ensures { (t : Tables) → let c = context (env_view site.entry.env) line in
+        went_ahead t c (waiting t pending.new.items) result ≡ near_ahead t c (waiting t pending.old.items) (near.Number n) }
+{
+    match meet_index(n, pending, site) {
+        Some(Reached::Reads(spot)) => Went::On(Near::Reads(spot)),
+        Some(Reached::Stores(value)) => Went::On(Near::Expr(value)),
+        None => meet_test(n, line, pending, site.env),
     }
 }
 

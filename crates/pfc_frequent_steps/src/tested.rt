@@ -1,10 +1,10 @@
-//! The tests of statements: `if`, `while` and `repeat .. until`.
-ghost use Rattle.std.specs.Prelude.{◌≡◌, Option, Some, length, ◌-◌, slice_get, IfSome};
+//! The tests of statements: `if`, `case`, `while` and `repeat .. until`.
+ghost use Rattle.std.specs.Prelude.{◌≡◌, ℕ, Bool, Option, Some, length, ◌-◌, slice_get, IfSome};
 ghost use Rattle.std.specs.Option.{option_copied};
 ghost use Rattle.std.specs.declared.boxed.Box.{Box};
 ghost use Rattle.std.specs.declared.alloc.Global.{Global as Heap};
 ghost use Rattle.pfc_tree.specs.trees.Stmts as trees;
-ghost use Rattle.pfc_tree.specs.trees.Stmts.{StmtTree, StmtTrees};
+ghost use Rattle.pfc_tree.specs.trees.Stmts.{ArmTrees, StmtTree, StmtTrees};
 ghost use Rattle.pfc_tree.specs.views.Exprs.{expr_view};
 ghost use Rattle.pfc_tree.specs.views.Stmts.{if_of, stmts_view};
 ghost use Rattle.pfc_types.specs.rules.Expressions.{Env as Known};
@@ -15,7 +15,8 @@ ghost use Rattle.pfc_semantics.specs.Rewriting.{from_remainder, from_value};
 ghost use Rattle.pfc_semantics.specs.Statements.{from_stmt};
 ghost use Rattle.pfc_semantics.specs.Values.{ordinal};
 ghost use Rattle.pfc_pending.specs.Texts.{stmt_at};
-ghost use Rattle.pfc_pending.specs.Waiting.{Waiting, awaits_of, choose_of, over, remainder_of, until_of, until_true_of, waiting, while_true_of};
+ghost use Rattle.pfc_phrases.specs.Views.{env_view};
+ghost use Rattle.pfc_pending.specs.Waiting.{Waiting, awaits_of, choose_arm_of, choose_of, over, remainder_of, until_of, until_true_of, waiting, while_true_of};
 ghost use Rattle.pfc_frequent_steps.specs.Near.{entered_ahead, near_ahead, next_ahead, node_view, tested_part, went_ahead, HasRoom};
 ghost use Rattle.pfc_frequent_steps.specs.declared.near.Near.TheVariants as near;
 
@@ -23,7 +24,9 @@ use crate::near::{Behind, Entered, Near, Next, Test, Tested, Went};
 use crate::stack::go_on;
 use crate::statements::node;
 use pfc_base::{Memory, Place};
+use pfc_frequent_parts::arm_with;
 use pfc_pending::{OneStmt, Pending, Point, Stmts};
+use pfc_phrases::Env;
 use pfc_program::behind_stmt;
 use pfc_tree::{Expr, Stmt};
 use pfc_values::is_true;
@@ -38,6 +41,22 @@ pub(crate) fn begin_if<'t>(n: u32, s: OneStmt<'t>, e: &'t Expr, place: Place) ->
         entered_ahead t env w result ≡ from_stmt env n (if_of (expr_view e.now) first other place) (remainder_of w) (from_remainder env (remainder_of w)) }
 {
     let part = tested(n, s, Test::Choose);
+    Entered {
+        line: place.line,
+        next: Next::Tests(part, Near::Expr(e)),
+    }
+}
+
+/// `case e of .. end`: the value.
+#[tactic(auto, using(crate::proofs::Rules::tests))]
+#[inline(always)]
+pub(crate) fn begin_case<'t>(n: u32, s: OneStmt<'t>, e: &'t Expr, place: Place) -> Entered<'t>
+    ensures { (t : Tables) (env : Known) (w : Waiting) (arms : ArmTrees) (last : Bool) →
+        stmt_at s.entry ≡ trees.case_of (expr_view e.now) arms last place →
+        entered_ahead t env w result ≡ from_stmt env n (trees.case_of (expr_view e.now) arms last place) (remainder_of w)
+        (from_remainder env (remainder_of w)) }
+{
+    let part = tested(n, s, Test::ChooseArm);
     Entered {
         line: place.line,
         next: Next::Tests(part, Near::Expr(e)),
@@ -108,14 +127,14 @@ fn test_again<'t>(n: u32, s: OneStmt<'t>, e: &'t Expr, place: Place) -> Entered<
 }
 
 /// A number meets the test that is pending innermost. All is as it was where another part is, and where the test is that of a loop on another
-/// line, or the next scope of the text has a number of more than 32 bits, which never comes.
-pub(crate) fn meet_test<'t>(v: i64, line: u32, pending: &mut Vec<Pending<'t>>) -> Went<'t>
+/// line, or the next scope of the text has a number of more than 32 bits, which never comes; and where no arm of a `case` has the value.
+pub(crate) fn meet_test<'t>(v: i64, line: u32, pending: &mut Vec<Pending<'t>>, env: Env) -> Went<'t>
     requires { HasRoom pending.old }
-    ensures { (t : Tables) (env : Known) → went_ahead t (context env line) (waiting t pending.new.items) result
-        ≡ near_ahead t (context env line) (waiting t pending.old.items) (near.Number v) }
+    ensures { (t : Tables) → let c = context (env_view env.entry) line in
+        went_ahead t c (waiting t pending.new.items) result ≡ near_ahead t c (waiting t pending.old.items) (near.Number v) }
 {
     match last_test(pending) {
-        Some(part) => match decided(part, v, line) {
+        Some(part) => match decided(part, v, line, env) {
             Some(next) => {
                 take(pending, part);
                 Went::On(go_on(pending, next))
@@ -152,6 +171,7 @@ fn test_of<'t>(part: &Pending<'t>) -> Option<Tested<'t>>
 {
     match part {
         Pending::Within(n, s, Point::Choose) => Some(tested(*n, *s, Test::Choose)),
+        Pending::Within(n, s, Point::ChooseArm) => Some(tested(*n, *s, Test::ChooseArm)),
         Pending::Within(n, s, Point::WhileTrue) => Some(tested(*n, *s, Test::WhileTrue)),
         Pending::Within(n, s, Point::UntilTrue) => Some(tested(*n, *s, Test::UntilTrue)),
         _ => None,
@@ -171,12 +191,13 @@ fn take<'t>(pending: &mut Vec<Pending<'t>>, part: Tested<'t>)
 
 /// What comes where a test has its value.
 #[inline(always)]
-fn decided<'t>(part: Tested<'t>, v: i64, line: u32) -> Option<Next<'t>>
-    ensures { IfSome result (λ next. (t : Tables) (env : Known) (w : Waiting) → next_ahead t (context env line) w next
-        ≡ from_value (context env line) (awaits_of (over t w (tested_part part.entry))) (ordinal v)) }
+fn decided<'t>(part: Tested<'t>, v: i64, line: u32, env: Env) -> Option<Next<'t>>
+    ensures { IfSome result (λ next. (t : Tables) (w : Waiting) → let c = context (env_view env.entry) line in
+        next_ahead t c w next ≡ from_value c (awaits_of (over t w (tested_part part.entry))) (ordinal v)) }
 {
     match part.test {
         Test::Choose => choose(part.n, node(part.s), v),
+        Test::ChooseArm => choose_arm(part.n, node(part.s), v, env),
         Test::WhileTrue => while_true(part.n, part.s, node(part.s), v, line),
         Test::UntilTrue => Some(until_true(part.n, part.s, node(part.s), v)),
     }
@@ -202,6 +223,18 @@ fn choose<'t>(n: u32, found: Option<&'t Stmt>, v: i64) -> Option<Next<'t>>
         },
         None => Some(Next::On(Near::Rest)),
     }
+}
+
+/// The value of a `case`, None where no arm has it.
+fn choose_arm<'t>(n: u32, found: Option<&'t Stmt>, v: i64, env: Env) -> Option<Next<'t>>
+    ensures { IfSome result (λ next. (t : Tables) (line : ℕ) (w : Waiting) → let c = context (env_view env.entry) line in
+        next_ahead t c w next ≡ from_value c (choose_arm_of n (node_view (option_copied found.entry)) (remainder_of w)) (ordinal v)) }
+{
+    let Some(Stmt::Case(_, arms, _, _)) = found else {
+        return None
+    };
+    let arm = arm_with(n, v, arms, env)?;
+    Some(Next::On(Near::Stmt(arm.n, arm.s)))
 }
 
 /// The test of a `while`, whose way back has its line.

@@ -1,0 +1,4 @@
+pub mod Alone
+pub mod Entered
+pub mod Nodes
+pub mod Waiting

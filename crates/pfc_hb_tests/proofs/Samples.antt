@@ -47,8 +47,8 @@ three_races = refl
 
 three_lines : race_lines_text lost_update (races_of lost_update)
     ≡ codes "-- race: action 4 process 1 reads at line 1, action 7 process 2 writes at line 1\n"
-        ++ codes "-- race: action 5 process 2 reads at line 1, action 6 process 1 writes at line 1\n"
-        ++ codes "-- race: action 6 process 1 writes at line 1, action 7 process 2 writes at line 1\n"
+    ++ codes "-- race: action 5 process 2 reads at line 1, action 6 process 1 writes at line 1\n"
+    ++ codes "-- race: action 6 process 1 writes at line 1, action 7 process 2 writes at line 1\n"
 unfolding digits
 three_lines = refl
 

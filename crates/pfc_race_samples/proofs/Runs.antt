@@ -7,15 +7,15 @@ lost_update :
     races_in (codes "program a; var x: integer; process p; begin x := x + 1 end; process q; begin x := x + 1 end; begin cobegin p; q coend; writeln(x) end.")
     [] 1 (by_list (0 ∷ 0 ∷ 0 ∷ 1 ∷ 2 ∷ 1 ∷ 2 ∷ 1 ∷ 2 ∷ 0 ∷ 0 ∷ 0 ∷ 0 ∷ []) 0) 100
     ≡ Some (codes "-- race: action 4 process 1 reads at line 1, action 7 process 2 writes at line 1\n"
-            ++ codes "-- race: action 5 process 2 reads at line 1, action 6 process 1 writes at line 1\n"
-            ++ codes "-- race: action 6 process 1 writes at line 1, action 7 process 2 writes at line 1\n")
+    ++ codes "-- race: action 5 process 2 reads at line 1, action 6 process 1 writes at line 1\n"
+    ++ codes "-- race: action 6 process 1 writes at line 1, action 7 process 2 writes at line 1\n")
 unfolding races_in
 lost_update = refl
 
 -- what is before a signal is before what is behind the wait that it ends
 semaphore_orders :
     races_in (codes "program a; var x: integer; s: semaphore; process p; begin x := 1; signal(s) end; process q; begin wait(s); write(x) end; "
-            ++ codes "begin initial(s, 0); cobegin p; q coend end.") [] 1 (by_list (0 ∷ 0 ∷ 0 ∷ 0 ∷ 2 ∷ 1 ∷ 1 ∷ 1 ∷ 2 ∷ 2 ∷ 2 ∷ 0 ∷ []) 0) 100
+    ++ codes "begin initial(s, 0); cobegin p; q coend end.") [] 1 (by_list (0 ∷ 0 ∷ 0 ∷ 0 ∷ 2 ∷ 1 ∷ 1 ∷ 1 ∷ 2 ∷ 2 ∷ 2 ∷ 0 ∷ []) 0) 100
     ≡ Some (codes "-- no races\n")
 unfolding races_in
 semaphore_orders = refl
@@ -47,7 +47,7 @@ phases_are_joined = refl
 -- a message that writes into a process that waits is a write of its sender
 waiting_receiver :
     races_in (codes "program a; var x: integer; c: channel of integer; process p; begin c ! 7 end; process q; begin c ? x end; process r; "
-            ++ codes "begin write(x) end; begin cobegin p; q; r coend end.") [] 1 (by_list (0 ∷ 0 ∷ 0 ∷ 0 ∷ 2 ∷ 1 ∷ 3 ∷ 3 ∷ 3 ∷ 1 ∷ 2 ∷ 0 ∷ []) 0) 100
+    ++ codes "begin write(x) end; begin cobegin p; q; r coend end.") [] 1 (by_list (0 ∷ 0 ∷ 0 ∷ 0 ∷ 2 ∷ 1 ∷ 3 ∷ 3 ∷ 3 ∷ 1 ∷ 2 ∷ 0 ∷ []) 0) 100
     ≡ Some (codes "-- race: action 6 process 1 writes at line 1, action 7 process 3 reads at line 1\n")
 unfolding races_in
 waiting_receiver = refl
@@ -55,8 +55,8 @@ waiting_receiver = refl
 -- a select is at the objects of all its open alternatives
 other_alternatives :
     races_in (codes "program a; var x: integer; c, d: channel of synchronous; process p; begin x := 1; d ! any end; process r; begin c ! any end; "
-            ++ codes "process q; begin select c ? any or d ? any end; write(x); d ? any end; begin cobegin p; r; q coend end.")
-            [] 1 (by_list (0 ∷ 0 ∷ 0 ∷ 0 ∷ 1 ∷ 1 ∷ 2 ∷ 3 ∷ 3 ∷ 3 ∷ 3 ∷ 3 ∷ 1 ∷ 2 ∷ 0 ∷ []) 0) 100
+    ++ codes "process q; begin select c ? any or d ? any end; write(x); d ? any end; begin cobegin p; r; q coend end.")
+    [] 1 (by_list (0 ∷ 0 ∷ 0 ∷ 0 ∷ 1 ∷ 1 ∷ 2 ∷ 3 ∷ 3 ∷ 3 ∷ 3 ∷ 3 ∷ 1 ∷ 2 ∷ 0 ∷ []) 0) 100
     ≡ Some (codes "-- no races\n")
 unfolding races_in
 other_alternatives = refl

@@ -78,7 +78,7 @@ sum_by_case = refl
 -- writeln(a[1].y, b[1].y, c.y, c.x) end.
 whole_values :
     ran (codes "program w; type p = record x, y: integer end; var a, b: array[0..1] of p; c: p; begin a[1].y := 7; b := a; c := (b[1]); b[1].y := 8; "
-        ++ codes "writeln(a[1].y, b[1].y, c.y, c.x) end.") [] 1 (by_turn 0) 100
+    ++ codes "writeln(a[1].y, b[1].y, c.y, c.x) end.") [] 1 (by_turn 0) 100
     ≡ shows (codes "7870\n") Finished []
 unfolding ran
 whole_values = refl
@@ -87,7 +87,7 @@ whole_values = refl
 -- ord('a'):5) end.
 functions :
     ran (codes "program f; var c: char; b: boolean; begin c := chr(65); b := succ(false); "
-        ++ codes "writeln(c, succ(c), pred('b'), ord(b), abs(-3), sqr(4), odd(3), not b, ord('a'):5) end.") [] 1 (by_turn 0) 100
+    ++ codes "writeln(c, succ(c), pred('b'), ord(b), abs(-3), sqr(4), odd(3), not b, ord('a'):5) end.") [] 1 (by_turn 0) 100
     ≡ shows (codes "ABa1316truefalse   97\n") Finished []
 unfolding ran
 functions = refl
@@ -147,7 +147,7 @@ target_first = refl
 -- := '<'; writeln(t[-4], t[size], low, maxint) end.
 named_constants :
     ran (codes "program c; const size = 4; star = '*'; low = -size; var i: integer; t: array[low..size] of char; "
-        ++ codes "begin for i := low to size do t[i] := star; t[low] := '<'; writeln(t[-4], t[size], low, maxint) end.") [] 1 (by_turn 0) 200
+    ++ codes "begin for i := low to size do t[i] := star; t[low] := '<'; writeln(t[-4], t[size], low, maxint) end.") [] 1 (by_turn 0) 200
     ≡ shows (codes "<*-42147483647\n") Finished []
 unfolding ran
 named_constants = refl
@@ -167,7 +167,7 @@ behind_maxint = refl
 -- downto -maxint - 1 do write(' ', i); writeln end.
 counts_of_each_type :
     ran (codes "program f; var c: char; b: boolean; i: integer; begin for c := 'a' to 'c' do write(c); for b := true downto false do write(b); "
-        ++ codes "for i := -maxint downto -maxint - 1 do write(' ', i); writeln end.") [] 1 (by_turn 0) 100
+    ++ codes "for i := -maxint downto -maxint - 1 do write(' ', i); writeln end.") [] 1 (by_turn 0) 100
     ≡ shows (codes "abctruefalse -2147483647 -2147483648\n") Finished []
 unfolding ran
 counts_of_each_type = refl
@@ -224,8 +224,8 @@ below_zero = refl
 -- all loops
 loops :
     ran (codes "program l;\nvar i, j: integer;\nbegin\n  i := 3;\n  while i > 0 do begin write(i); i := i - 1 end;\n"
-        ++ codes "  repeat i := i + 1; if odd(i) then write('o') else write('e') until i = 4;\n  for j := 3 downto 2 do write(j:2);\n"
-        ++ codes "  for j := 2 to 1 do write('never');\n  writeln\nend.\n") [] 1 (by_turn 0) 200
+    ++ codes "  repeat i := i + 1; if odd(i) then write('o') else write('e') until i = 4;\n  for j := 3 downto 2 do write(j:2);\n"
+    ++ codes "  for j := 2 to 1 do write('never');\n  writeln\nend.\n") [] 1 (by_turn 0) 200
     ≡ shows (codes "321oeoe 3 2\n") Finished []
 unfolding ran
 loops = refl

@@ -118,7 +118,7 @@ assigned_in_its_for = refl
 -- fault 14 comes behind the guards before it and before those behind it
 timeout_below_zero_where_it_is_reached :
     ran (codes "program a; var c: channel of integer; x: integer; function g(n: integer): boolean; begin write(n); g := true end; "
-        ++ codes "begin select when g(1) => c ? x or timeout -1; or when g(2) => c ? x end end.") [] 1 (by_turn 0) 1000
+    ++ codes "begin select when g(1) => c ? x or timeout -1; or when g(2) => c ? x end end.") [] 1 (by_turn 0) 1000
     ≡ shows (codes "1") (Fault 0 1 Below) []
 unfolding ran
 timeout_below_zero_where_it_is_reached = refl
@@ -126,7 +126,7 @@ timeout_below_zero_where_it_is_reached = refl
 -- fault 14 comes also where nothing but another alternative could be taken
 timeout_below_zero_beside_else :
     ran (codes "program a; var c: channel of integer; x: integer; process p; begin c ! 1 end; process q; var y: integer; begin sleep(1); "
-        ++ codes "select c ? y or timeout -1 end end; begin cobegin p; q coend end.") [] 1 (by_turn 0) 1000
+    ++ codes "select c ? y or timeout -1 end end; begin cobegin p; q coend end.") [] 1 (by_turn 0) 1000
     ≡ shows [] (Fault 2 1 Below) []
 unfolding ran
 timeout_below_zero_beside_else = refl
@@ -175,7 +175,7 @@ else_where_spreads_leave_nothing = refl
 -- the second write of a spread's variable comes behind the communication
 received_into_the_spreads_variable :
     ran (codes "program z; var c: array[1..2] of channel of integer; k: integer; process p; begin c[2] ! 9 end; process q; "
-        ++ codes "begin select for k := 1 to 2 replicate c[k] ? k; write(k) end end; begin cobegin p; q coend end.") [] 1 (by_turn 0) 1000
+    ++ codes "begin select for k := 1 to 2 replicate c[k] ? k; write(k) end end; begin cobegin p; q coend end.") [] 1 (by_turn 0) 1000
     ≡ shows (codes "2") Finished []
 unfolding ran
 received_into_the_spreads_variable = refl
@@ -183,16 +183,16 @@ received_into_the_spreads_variable = refl
 -- a process waits at the channel that its own view has, whoever meets it
 channel_by_reference :
     ran (codes "program w; type k = channel of integer; var a, c: k; procedure get(var d: k; var v: integer); begin d ? v end; process p; "
-        ++ codes "var v: integer; begin get(c, v); write(v) end; process q; begin sleep(1); c ! 5 end; begin cobegin p; q coend; writeln end.")
-        [] 1 (by_turn 0) 1000
+    ++ codes "var v: integer; begin get(c, v); write(v) end; process q; begin sleep(1); c ! 5 end; begin cobegin p; q coend; writeln end.")
+    [] 1 (by_turn 0) 1000
     ≡ shows (codes "5\n") Finished []
 unfolding ran
 channel_by_reference = refl
 
 channel_by_reference_in_a_select :
     ran (codes "program w; type k = channel of integer; var a, c: k; procedure get(var d: k; var v: integer); begin select d ? v or a ? v end end; "
-        ++ codes "process p; var v: integer; begin get(c, v); write(v) end; process q; begin sleep(1); c ! 5 end; begin cobegin p; q coend; "
-        ++ codes "writeln end.") [] 1 (by_turn 0) 1000
+    ++ codes "process p; var v: integer; begin get(c, v); write(v) end; process q; begin sleep(1); c ! 5 end; begin cobegin p; q coend; "
+    ++ codes "writeln end.") [] 1 (by_turn 0) 1000
     ≡ shows (codes "5\n") Finished []
 unfolding ran
 channel_by_reference_in_a_select = refl
@@ -200,14 +200,14 @@ channel_by_reference_in_a_select = refl
 -- two alternatives of one select at the same channel are two among which the pick chooses
 first_of_two_alternatives_at_one_channel :
     ran (codes "program s; var c: channel of integer; process a; begin c ! 7 end; process b; var x, y: integer; begin select c ? x; "
-        ++ codes "write('x') or c ? y; write('y') end end; begin cobegin a; b coend; writeln end.") [] 1 (by_words (stream 8 1)) 1000
+    ++ codes "write('x') or c ? y; write('y') end end; begin cobegin a; b coend; writeln end.") [] 1 (by_words (stream 8 1)) 1000
     ≡ shows (codes "x\n") Finished []
 unfolding ran
 first_of_two_alternatives_at_one_channel = refl
 
 second_of_two_alternatives_at_one_channel :
     ran (codes "program s; var c: channel of integer; process a; begin c ! 7 end; process b; var x, y: integer; begin select c ? x; "
-        ++ codes "write('x') or c ? y; write('y') end end; begin cobegin a; b coend; writeln end.") [] 1 (by_words (stream 2 1)) 1000
+    ++ codes "write('x') or c ? y; write('y') end end; begin cobegin a; b coend; writeln end.") [] 1 (by_words (stream 2 1)) 1000
     ≡ shows (codes "y\n") Finished []
 unfolding ran
 second_of_two_alternatives_at_one_channel = refl

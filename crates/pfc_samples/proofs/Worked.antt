@@ -37,28 +37,28 @@ count_at_its_end = refl
 
 deadlock_of_two_semaphores :
     ran (codes "program d;\nvar a, b: semaphore;\nprocess p; begin wait(a); wait(b) end;\nprocess q; begin wait(b); wait(a) end;\nbegin\n"
-        ++ codes "  initial(a, 1); initial(b, 1);\n  cobegin p; q coend\nend.\n") [] 1 (by_list (0 ∷ 0 ∷ 0 ∷ 0 ∷ 0 ∷ 1 ∷ 2 ∷ 1 ∷ 2 ∷ []) 0) 1000
+    ++ codes "  initial(a, 1); initial(b, 1);\n  cobegin p; q coend\nend.\n") [] 1 (by_list (0 ∷ 0 ∷ 0 ∷ 0 ∷ 0 ∷ 1 ∷ 2 ∷ 1 ∷ 2 ∷ []) 0) 1000
     ≡ shows [] Deadlock (stands 0 (codes "waiting at coend") 7 ∷ stands 1 (codes "waiting on a semaphore") 3 ∷ stands 2 (codes "waiting on a semaphore") 4 ∷ [])
 unfolding ran
 deadlock_of_two_semaphores = refl
 
 script_names_a_waiting_process :
     ran (codes "program d;\nvar a, b: semaphore;\nprocess p; begin wait(a); wait(b) end;\nprocess q; begin wait(b); wait(a) end;\nbegin\n"
-        ++ codes "  initial(a, 1); initial(b, 1);\n  cobegin p; q coend\nend.\n") [] 1 (by_list (0 ∷ 0 ∷ 0 ∷ 0 ∷ 0 ∷ 0 ∷ []) 0) 1000
+    ++ codes "  initial(a, 1); initial(b, 1);\n  cobegin p; q coend\nend.\n") [] 1 (by_list (0 ∷ 0 ∷ 0 ∷ 0 ∷ 0 ∷ 0 ∷ []) 0) 1000
     ≡ shows [] (Script 6 (NotReady 0)) (stands 0 (codes "waiting at coend") 7 ∷ stands 1 (codes "ready") 3 ∷ stands 2 (codes "ready") 4 ∷ [])
 unfolding ran
 script_names_a_waiting_process = refl
 
 script_names_no_process :
     ran (codes "program d;\nvar a, b: semaphore;\nprocess p; begin wait(a); wait(b) end;\nprocess q; begin wait(b); wait(a) end;\nbegin\n"
-        ++ codes "  initial(a, 1); initial(b, 1);\n  cobegin p; q coend\nend.\n") [] 1 (by_list (9 ∷ []) 0) 1000
+    ++ codes "  initial(a, 1); initial(b, 1);\n  cobegin p; q coend\nend.\n") [] 1 (by_list (9 ∷ []) 0) 1000
     ≡ shows [] (Script 1 (NoProcess 9)) (stands 0 (codes "ready") 5 ∷ [])
 unfolding ran
 script_names_no_process = refl
 
 script_has_ended :
     ran (codes "program d;\nvar a, b: semaphore;\nprocess p; begin wait(a); wait(b) end;\nprocess q; begin wait(b); wait(a) end;\nbegin\n"
-        ++ codes "  initial(a, 1); initial(b, 1);\n  cobegin p; q coend\nend.\n") [] 1 (by_list [] 0) 1000
+    ++ codes "  initial(a, 1); initial(b, 1);\n  cobegin p; q coend\nend.\n") [] 1 (by_list [] 0) 1000
     ≡ shows [] (Script 1 Ended) (stands 0 (codes "ready") 5 ∷ [])
 unfolding ran
 script_has_ended = refl
@@ -66,9 +66,9 @@ script_has_ended = refl
 -- the resumer comes back before the entrant
 hand_over_of_a_monitor :
     ran (codes "program m;\nmonitor k;\n  export a, b, c;\n  var q: condition;\n  procedure a; begin delay(q); write('A') end;\n"
-        ++ codes "  procedure b; begin resume(q); write('B') end;\n  procedure c; begin write('C') end;\nend;\nprocess x; begin k.a end;\n"
-        ++ codes "process y; begin k.b end;\nprocess z; begin k.c end;\nbegin cobegin x; y; z coend; writeln end.\n")
-        [] 1 (by_list (0 ∷ 0 ∷ 0 ∷ 0 ∷ 1 ∷ 1 ∷ 2 ∷ 3 ∷ 2 ∷ 1 ∷ 1 ∷ 1 ∷ 2 ∷ 2 ∷ 2 ∷ 3 ∷ 3 ∷ 3 ∷ 0 ∷ 0 ∷ []) 0) 1000
+    ++ codes "  procedure b; begin resume(q); write('B') end;\n  procedure c; begin write('C') end;\nend;\nprocess x; begin k.a end;\n"
+    ++ codes "process y; begin k.b end;\nprocess z; begin k.c end;\nbegin cobegin x; y; z coend; writeln end.\n")
+    [] 1 (by_list (0 ∷ 0 ∷ 0 ∷ 0 ∷ 1 ∷ 1 ∷ 2 ∷ 3 ∷ 2 ∷ 1 ∷ 1 ∷ 1 ∷ 2 ∷ 2 ∷ 2 ∷ 3 ∷ 3 ∷ 3 ∷ 0 ∷ 0 ∷ []) 0) 1000
     ≡ shows (codes "ABC\n") Finished []
 unfolding ran
 hand_over_of_a_monitor = refl
@@ -80,16 +80,16 @@ delay_of_main = refl
 
 select_meets_a_select :
     ran (codes "program s; var c: channel of integer; process a; begin select c ! 7; or timeout 5 end end; process b; var v: integer; "
-        ++ codes "begin select c ? v; write(v) or timeout 0; write(0) end end; begin cobegin a; b coend; writeln end.")
-        [] 1 (by_list (0 ∷ 0 ∷ 0 ∷ 1 ∷ 2 ∷ 2 ∷ 2 ∷ 2 ∷ 1 ∷ 0 ∷ 0 ∷ []) 0) 1000
+    ++ codes "begin select c ? v; write(v) or timeout 0; write(0) end end; begin cobegin a; b coend; writeln end.")
+    [] 1 (by_list (0 ∷ 0 ∷ 0 ∷ 1 ∷ 2 ∷ 2 ∷ 2 ∷ 2 ∷ 1 ∷ 0 ∷ 0 ∷ []) 0) 1000
     ≡ shows (codes "7\n") Finished []
 unfolding ran
 select_meets_a_select = refl
 
 select_with_timeout :
     ran (codes "program s; var c: channel of integer; process a; begin select c ! 7; or timeout 5 end end; process b; var v: integer; "
-        ++ codes "begin select c ? v; write(v) or timeout 0; write(0) end end; begin cobegin a; b coend; writeln end.")
-        [] 1 (by_list (0 ∷ 0 ∷ 0 ∷ 2 ∷ 2 ∷ 2 ∷ 1 ∷ 1 ∷ 0 ∷ 0 ∷ []) 0) 1000
+    ++ codes "begin select c ? v; write(v) or timeout 0; write(0) end end; begin cobegin a; b coend; writeln end.")
+    [] 1 (by_list (0 ∷ 0 ∷ 0 ∷ 2 ∷ 2 ∷ 2 ∷ 1 ∷ 1 ∷ 0 ∷ 0 ∷ []) 0) 1000
     ≡ shows (codes "0\n") Finished []
 unfolding ran
 select_with_timeout = refl
@@ -97,7 +97,7 @@ select_with_timeout = refl
 -- the server does not terminate while a sibling sleeps; 16 actions are enough
 terminate :
     ran (codes "program t; process server; entry e; begin repeat select accept e or terminate end forever end; process late; begin sleep(1); "
-        ++ codes "write(clock) end; process client; begin server.e end; begin cobegin server; late; client coend; writeln end.") [] 1 (by_turn 0) 16
+    ++ codes "write(clock) end; process client; begin server.e end; begin cobegin server; late; client coend; writeln end.") [] 1 (by_turn 0) 16
     ≡ shows (codes "1\n") Finished []
 unfolding ran
 terminate = refl
@@ -105,8 +105,8 @@ terminate = refl
 -- the same for every seed
 terminate_fair_1 :
     ran (codes "program t; process server; entry e; begin repeat select accept e or terminate end forever end; process late; begin sleep(1); "
-        ++ codes "write(clock) end; process client; begin server.e end; begin cobegin server; late; client coend; writeln end.")
-        [] 1 (by_words (stream 1 1)) 1000
+    ++ codes "write(clock) end; process client; begin server.e end; begin cobegin server; late; client coend; writeln end.")
+    [] 1 (by_words (stream 1 1)) 1000
     ≡ shows (codes "1\n") Finished []
 unfolding ran
 terminate_fair_1 = refl
@@ -114,8 +114,8 @@ terminate_fair_1 = refl
 -- the same for every seed
 terminate_fair_2 :
     ran (codes "program t; process server; entry e; begin repeat select accept e or terminate end forever end; process late; begin sleep(1); "
-        ++ codes "write(clock) end; process client; begin server.e end; begin cobegin server; late; client coend; writeln end.")
-        [] 1 (by_words (stream 2 1)) 1000
+    ++ codes "write(clock) end; process client; begin server.e end; begin cobegin server; late; client coend; writeln end.")
+    [] 1 (by_words (stream 2 1)) 1000
     ≡ shows (codes "1\n") Finished []
 unfolding ran
 terminate_fair_2 = refl
@@ -123,10 +123,10 @@ terminate_fair_2 = refl
 -- by ticket, and not by the number of the process
 requeue_in_the_order_of_tickets :
     ran (codes "program r;\nresource g;\n  export go, open;\n  var n: integer; up: boolean;\n"
-        ++ codes "  guarded procedure late(i: integer) when n = 3; begin write(i) end;\n  guarded procedure go(i: integer) when up;\n"
-        ++ codes "  begin n := n + 1; requeue late(i) end;\n  procedure open; begin up := true end;\nend;\n"
-        ++ codes "process type w(i: integer); begin sleep(i); g.go(i) end;\nvar t: array[1..3] of w;\nprocess o; begin sleep(9); g.open end;\n"
-        ++ codes "begin cobegin t[1](3); t[2](1); t[3](2); o coend; writeln end.\n") [] 1 (by_turn 0) 1000
+    ++ codes "  guarded procedure late(i: integer) when n = 3; begin write(i) end;\n  guarded procedure go(i: integer) when up;\n"
+    ++ codes "  begin n := n + 1; requeue late(i) end;\n  procedure open; begin up := true end;\nend;\n"
+    ++ codes "process type w(i: integer); begin sleep(i); g.go(i) end;\nvar t: array[1..3] of w;\nprocess o; begin sleep(9); g.open end;\n"
+    ++ codes "begin cobegin t[1](3); t[2](1); t[3](2); o coend; writeln end.\n") [] 1 (by_turn 0) 1000
     ≡ shows (codes "123\n") Finished []
 unfolding ran
 requeue_in_the_order_of_tickets = refl
@@ -134,10 +134,10 @@ requeue_in_the_order_of_tickets = refl
 -- the same for every seed
 requeue_in_the_order_of_tickets_1 :
     ran (codes "program r;\nresource g;\n  export go, open;\n  var n: integer; up: boolean;\n"
-        ++ codes "  guarded procedure late(i: integer) when n = 3; begin write(i) end;\n  guarded procedure go(i: integer) when up;\n"
-        ++ codes "  begin n := n + 1; requeue late(i) end;\n  procedure open; begin up := true end;\nend;\n"
-        ++ codes "process type w(i: integer); begin sleep(i); g.go(i) end;\nvar t: array[1..3] of w;\nprocess o; begin sleep(9); g.open end;\n"
-        ++ codes "begin cobegin t[1](3); t[2](1); t[3](2); o coend; writeln end.\n") [] 1 (by_words (stream 1 1)) 1000
+    ++ codes "  guarded procedure late(i: integer) when n = 3; begin write(i) end;\n  guarded procedure go(i: integer) when up;\n"
+    ++ codes "  begin n := n + 1; requeue late(i) end;\n  procedure open; begin up := true end;\nend;\n"
+    ++ codes "process type w(i: integer); begin sleep(i); g.go(i) end;\nvar t: array[1..3] of w;\nprocess o; begin sleep(9); g.open end;\n"
+    ++ codes "begin cobegin t[1](3); t[2](1); t[3](2); o coend; writeln end.\n") [] 1 (by_words (stream 1 1)) 1000
     ≡ shows (codes "123\n") Finished []
 unfolding ran
 requeue_in_the_order_of_tickets_1 = refl
@@ -145,17 +145,17 @@ requeue_in_the_order_of_tickets_1 = refl
 -- the same for every seed
 requeue_in_the_order_of_tickets_2 :
     ran (codes "program r;\nresource g;\n  export go, open;\n  var n: integer; up: boolean;\n"
-        ++ codes "  guarded procedure late(i: integer) when n = 3; begin write(i) end;\n  guarded procedure go(i: integer) when up;\n"
-        ++ codes "  begin n := n + 1; requeue late(i) end;\n  procedure open; begin up := true end;\nend;\n"
-        ++ codes "process type w(i: integer); begin sleep(i); g.go(i) end;\nvar t: array[1..3] of w;\nprocess o; begin sleep(9); g.open end;\n"
-        ++ codes "begin cobegin t[1](3); t[2](1); t[3](2); o coend; writeln end.\n") [] 1 (by_words (stream 2 1)) 1000
+    ++ codes "  guarded procedure late(i: integer) when n = 3; begin write(i) end;\n  guarded procedure go(i: integer) when up;\n"
+    ++ codes "  begin n := n + 1; requeue late(i) end;\n  procedure open; begin up := true end;\nend;\n"
+    ++ codes "process type w(i: integer); begin sleep(i); g.go(i) end;\nvar t: array[1..3] of w;\nprocess o; begin sleep(9); g.open end;\n"
+    ++ codes "begin cobegin t[1](3); t[2](1); t[3](2); o coend; writeln end.\n") [] 1 (by_words (stream 2 1)) 1000
     ≡ shows (codes "123\n") Finished []
 unfolding ran
 requeue_in_the_order_of_tickets_2 = refl
 
 rendezvous :
     ran (codes "program v; process s; entry sq(n: integer; var r: integer); begin accept sq(n: integer; var r: integer) do r := n * n end; "
-        ++ codes "process k; var z: integer; begin s.sq(12, z); writeln(z) end; begin cobegin s; k coend end.") [] 1 (by_turn 0) 1000
+    ++ codes "process k; var z: integer; begin s.sq(12, z); writeln(z) end; begin cobegin s; k coend end.") [] 1 (by_turn 0) 1000
     ≡ shows (codes "144\n") Finished []
 unfolding ran
 rendezvous = refl
@@ -163,7 +163,7 @@ rendezvous = refl
 -- the same for every seed
 rendezvous_1 :
     ran (codes "program v; process s; entry sq(n: integer; var r: integer); begin accept sq(n: integer; var r: integer) do r := n * n end; "
-        ++ codes "process k; var z: integer; begin s.sq(12, z); writeln(z) end; begin cobegin s; k coend end.") [] 1 (by_words (stream 1 1)) 1000
+    ++ codes "process k; var z: integer; begin s.sq(12, z); writeln(z) end; begin cobegin s; k coend end.") [] 1 (by_words (stream 1 1)) 1000
     ≡ shows (codes "144\n") Finished []
 unfolding ran
 rendezvous_1 = refl
@@ -171,7 +171,7 @@ rendezvous_1 = refl
 -- the same for every seed
 rendezvous_2 :
     ran (codes "program v; process s; entry sq(n: integer; var r: integer); begin accept sq(n: integer; var r: integer) do r := n * n end; "
-        ++ codes "process k; var z: integer; begin s.sq(12, z); writeln(z) end; begin cobegin s; k coend end.") [] 1 (by_words (stream 2 1)) 1000
+    ++ codes "process k; var z: integer; begin s.sq(12, z); writeln(z) end; begin cobegin s; k coend end.") [] 1 (by_words (stream 2 1)) 1000
     ≡ shows (codes "144\n") Finished []
 unfolding ran
 rendezvous_2 = refl
@@ -192,14 +192,14 @@ activated_twice = refl
 
 nested_subs_and_references :
     ran (codes "program n; var x: integer; procedure f(var a: integer; d: integer); procedure g; begin a := a + d end; begin g; "
-        ++ codes "if d > 1 then f(a, d - 1) end; begin f(x, 4); writeln(x) end.") [] 1 (by_turn 0) 1000
+    ++ codes "if d > 1 then f(a, d - 1) end; begin f(x, 4); writeln(x) end.") [] 1 (by_turn 0) 1000
     ≡ shows (codes "10\n") Finished []
 unfolding ran
 nested_subs_and_references = refl
 
 recursion_of_a_function :
     ran (codes "program f; function fac(n: integer): integer; begin if n < 2 then fac := 1 else fac := n * fac(n - 1) end; begin writeln(fac(12)); "
-        ++ codes "writeln(fac(13)) end.") [] 1 (by_turn 0) 1000
+    ++ codes "writeln(fac(13)) end.") [] 1 (by_turn 0) 1000
     ≡ shows (codes "479001600\n") (Fault 0 1 Overflow) []
 unfolding ran
 recursion_of_a_function = refl
@@ -219,16 +219,16 @@ sleepers_3 = refl
 
 channel_of_synchronous :
     ran (codes "program s; var c: channel of synchronous; process a; begin write('x'); c ! any end; process b; begin c ? any; write('y') end; "
-        ++ codes "begin cobegin a; b coend; writeln end.") [] 1 (by_words (stream 2 1)) 1000
+    ++ codes "begin cobegin a; b coend; writeln end.") [] 1 (by_words (stream 2 1)) 1000
     ≡ shows (codes "xy\n") Finished []
 unfolding ran
 channel_of_synchronous = refl
 
 ranked_delays :
     ran (codes "program k;\nmonitor m;\n  export put, go;\n  var c: condition;\n  procedure put(i: integer); begin delay(c, i); write(i) end;\n"
-        ++ codes "  procedure go; begin while not empty(c) do resume(c) end;\nend;\nprocess type w(i: integer); begin m.put(i) end;\n"
-        ++ codes "var t: array[1..3] of w;\nprocess o; begin sleep(9); m.go end;\nbegin cobegin t[1](3); t[2](1); t[3](2); o coend; writeln end.\n")
-        [] 1 (by_turn 0) 1000
+    ++ codes "  procedure go; begin while not empty(c) do resume(c) end;\nend;\nprocess type w(i: integer); begin m.put(i) end;\n"
+    ++ codes "var t: array[1..3] of w;\nprocess o; begin sleep(9); m.go end;\nbegin cobegin t[1](3); t[2](1); t[3](2); o coend; writeln end.\n")
+    [] 1 (by_turn 0) 1000
     ≡ shows (codes "123\n") Finished []
 unfolding ran
 ranked_delays = refl
@@ -236,9 +236,9 @@ ranked_delays = refl
 -- the same for every seed
 ranked_delays_1 :
     ran (codes "program k;\nmonitor m;\n  export put, go;\n  var c: condition;\n  procedure put(i: integer); begin delay(c, i); write(i) end;\n"
-        ++ codes "  procedure go; begin while not empty(c) do resume(c) end;\nend;\nprocess type w(i: integer); begin m.put(i) end;\n"
-        ++ codes "var t: array[1..3] of w;\nprocess o; begin sleep(9); m.go end;\nbegin cobegin t[1](3); t[2](1); t[3](2); o coend; writeln end.\n")
-        [] 1 (by_words (stream 1 1)) 1000
+    ++ codes "  procedure go; begin while not empty(c) do resume(c) end;\nend;\nprocess type w(i: integer); begin m.put(i) end;\n"
+    ++ codes "var t: array[1..3] of w;\nprocess o; begin sleep(9); m.go end;\nbegin cobegin t[1](3); t[2](1); t[3](2); o coend; writeln end.\n")
+    [] 1 (by_words (stream 1 1)) 1000
     ≡ shows (codes "123\n") Finished []
 unfolding ran
 ranked_delays_1 = refl
@@ -246,18 +246,18 @@ ranked_delays_1 = refl
 -- the same for every seed
 ranked_delays_2 :
     ran (codes "program k;\nmonitor m;\n  export put, go;\n  var c: condition;\n  procedure put(i: integer); begin delay(c, i); write(i) end;\n"
-        ++ codes "  procedure go; begin while not empty(c) do resume(c) end;\nend;\nprocess type w(i: integer); begin m.put(i) end;\n"
-        ++ codes "var t: array[1..3] of w;\nprocess o; begin sleep(9); m.go end;\nbegin cobegin t[1](3); t[2](1); t[3](2); o coend; writeln end.\n")
-        [] 1 (by_words (stream 2 1)) 1000
+    ++ codes "  procedure go; begin while not empty(c) do resume(c) end;\nend;\nprocess type w(i: integer); begin m.put(i) end;\n"
+    ++ codes "var t: array[1..3] of w;\nprocess o; begin sleep(9); m.go end;\nbegin cobegin t[1](3); t[2](1); t[3](2); o coend; writeln end.\n")
+    [] 1 (by_words (stream 2 1)) 1000
     ≡ shows (codes "123\n") Finished []
 unfolding ran
 ranked_delays_2 = refl
 
 replicated_alternatives :
     ran (codes "program q;\nvar c: array[1..3] of channel of integer;\nprocess type s(i: integer); begin c[i] ! 10 * i end;\n"
-        ++ codes "var t: array[1..3] of s;\nprocess r; var k, n, v: integer;\nbegin sleep(1);\n  for n := 1 to 3 do\n"
-        ++ codes "    pri select for k := 1 to 3 replicate c[k] ? v; write(k, ':', v, ';') end\nend;\n"
-        ++ codes "begin cobegin t[1](1); t[2](2); t[3](3); r coend; writeln end.\n") [] 1 (by_turn 0) 1000
+    ++ codes "var t: array[1..3] of s;\nprocess r; var k, n, v: integer;\nbegin sleep(1);\n  for n := 1 to 3 do\n"
+    ++ codes "    pri select for k := 1 to 3 replicate c[k] ? v; write(k, ':', v, ';') end\nend;\n"
+    ++ codes "begin cobegin t[1](1); t[2](2); t[3](3); r coend; writeln end.\n") [] 1 (by_turn 0) 1000
     ≡ shows (codes "1:10;2:20;3:30;\n") Finished []
 unfolding ran
 replicated_alternatives = refl
@@ -265,9 +265,9 @@ replicated_alternatives = refl
 -- the same for every seed
 replicated_alternatives_1 :
     ran (codes "program q;\nvar c: array[1..3] of channel of integer;\nprocess type s(i: integer); begin c[i] ! 10 * i end;\n"
-        ++ codes "var t: array[1..3] of s;\nprocess r; var k, n, v: integer;\nbegin sleep(1);\n  for n := 1 to 3 do\n"
-        ++ codes "    pri select for k := 1 to 3 replicate c[k] ? v; write(k, ':', v, ';') end\nend;\n"
-        ++ codes "begin cobegin t[1](1); t[2](2); t[3](3); r coend; writeln end.\n") [] 1 (by_words (stream 1 1)) 1000
+    ++ codes "var t: array[1..3] of s;\nprocess r; var k, n, v: integer;\nbegin sleep(1);\n  for n := 1 to 3 do\n"
+    ++ codes "    pri select for k := 1 to 3 replicate c[k] ? v; write(k, ':', v, ';') end\nend;\n"
+    ++ codes "begin cobegin t[1](1); t[2](2); t[3](3); r coend; writeln end.\n") [] 1 (by_words (stream 1 1)) 1000
     ≡ shows (codes "1:10;2:20;3:30;\n") Finished []
 unfolding ran
 replicated_alternatives_1 = refl
@@ -275,9 +275,9 @@ replicated_alternatives_1 = refl
 -- the same for every seed
 replicated_alternatives_2 :
     ran (codes "program q;\nvar c: array[1..3] of channel of integer;\nprocess type s(i: integer); begin c[i] ! 10 * i end;\n"
-        ++ codes "var t: array[1..3] of s;\nprocess r; var k, n, v: integer;\nbegin sleep(1);\n  for n := 1 to 3 do\n"
-        ++ codes "    pri select for k := 1 to 3 replicate c[k] ? v; write(k, ':', v, ';') end\nend;\n"
-        ++ codes "begin cobegin t[1](1); t[2](2); t[3](3); r coend; writeln end.\n") [] 1 (by_words (stream 2 1)) 1000
+    ++ codes "var t: array[1..3] of s;\nprocess r; var k, n, v: integer;\nbegin sleep(1);\n  for n := 1 to 3 do\n"
+    ++ codes "    pri select for k := 1 to 3 replicate c[k] ? v; write(k, ':', v, ';') end\nend;\n"
+    ++ codes "begin cobegin t[1](1); t[2](2); t[3](3); r coend; writeln end.\n") [] 1 (by_words (stream 2 1)) 1000
     ≡ shows (codes "1:10;2:20;3:30;\n") Finished []
 unfolding ran
 replicated_alternatives_2 = refl
@@ -291,14 +291,14 @@ spread_without_values = refl
 -- 2 producers of 4 items and 1 consumer of 8
 bounded_buffer :
     ran (codes "program buffer;\nconst size = 8;\nmonitor b;\n  export put, take;\n  var slot: array[0..7] of integer;\n      head, count: integer;\n"
-        ++ codes "      full, none: condition;\n  procedure put(x: integer);\n  begin\n    if count = size then delay(full);\n"
-        ++ codes "    slot[(head + count) mod size] := x;\n    count := count + 1;\n    resume(none)\n  end;\n  procedure take(var x: integer);\n"
-        ++ codes "  begin\n    if count = 0 then delay(none);\n    x := slot[head];\n    head := (head + 1) mod size;\n    count := count - 1;\n"
-        ++ codes "    resume(full)\n  end;\nend;\nvar m: semaphore; total, k: integer;\nprocess type producer;\n  var i: integer;\nbegin\n"
-        ++ codes "  for i := 1 to 4 do b.put(i)\nend;\nprocess type consumer;\n  var i, v, sum: integer;\nbegin\n"
-        ++ codes "  for i := 1 to 8 do begin b.take(v); sum := sum + v end;\n  wait(m); total := total + sum; signal(m)\nend;\n"
-        ++ codes "var p: array[1..2] of producer; c: array[1..1] of consumer;\nbegin\n  initial(m, 1);\n  cobegin\n    for k := 1 to 2 do p[k];\n"
-        ++ codes "    for k := 1 to 1 do c[k]\n  coend;\n  writeln('total  ', total)\nend.\n") [] 1 (by_words (stream 1 1)) 2000
+    ++ codes "      full, none: condition;\n  procedure put(x: integer);\n  begin\n    if count = size then delay(full);\n"
+    ++ codes "    slot[(head + count) mod size] := x;\n    count := count + 1;\n    resume(none)\n  end;\n  procedure take(var x: integer);\n"
+    ++ codes "  begin\n    if count = 0 then delay(none);\n    x := slot[head];\n    head := (head + 1) mod size;\n    count := count - 1;\n"
+    ++ codes "    resume(full)\n  end;\nend;\nvar m: semaphore; total, k: integer;\nprocess type producer;\n  var i: integer;\nbegin\n"
+    ++ codes "  for i := 1 to 4 do b.put(i)\nend;\nprocess type consumer;\n  var i, v, sum: integer;\nbegin\n"
+    ++ codes "  for i := 1 to 8 do begin b.take(v); sum := sum + v end;\n  wait(m); total := total + sum; signal(m)\nend;\n"
+    ++ codes "var p: array[1..2] of producer; c: array[1..1] of consumer;\nbegin\n  initial(m, 1);\n  cobegin\n    for k := 1 to 2 do p[k];\n"
+    ++ codes "    for k := 1 to 1 do c[k]\n  coend;\n  writeln('total  ', total)\nend.\n") [] 1 (by_words (stream 1 1)) 2000
     ≡ shows (codes "total  20\n") Finished []
 unfolding ran
 bounded_buffer = refl

@@ -104,11 +104,18 @@ fn look_up(table: &[(&[u8], Meaning)], name: &[u8]) -> Option<Meaning>
     ensures { result ≡ lookup (bytes_eq name.now) (map (λ e. (e.0.now, e.1)) table.now) }
 {
     for entry in table {
-        if name == entry.0 {
+        if is_same(name, entry.0) {
             return Some(entry.1);
         }
     }
     None
+}
+
+/// Whether two names are the same: lengths of their own tell most of them apart.
+fn is_same(name: &[u8], other: &[u8]) -> bool
+    ensures { result ≡ bytes_eq name.now other.now }
+{
+    name.len() == other.len() && name == other
 }
 
 /// The predeclared names with what they stand for.

@@ -1,14 +1,15 @@
 //! The action that comes next for a process.
-ghost use Rattle.std.specs.Prelude.{◌≡◌, IfOk, OnErr};
+ghost use Rattle.std.specs.Prelude.{◌≡◌, IfOk, OnErr, MatchOption};
 ghost use Rattle.pfc_semantics.specs.Configurations.{Config};
 ghost use Rattle.pfc_activities.specs.declared.source.Source.{Source as HeldSource};
 ghost use Rattle.pfc_activities.specs.Views.{doing_ahead, deed_of};
 ghost use Rattle.pfc_activities.specs.Relation.{MayAct};
 ghost use Rattle.pfc_acting.specs.Acting.{StandsBefore, IsBeforeDeed};
+ghost use Rattle.pfc_pending.specs.declared.at_hand.At.TheVariants as at;
 
 use pfc_activities::{Doing, Source, State};
 use pfc_base::Memory;
-use pfc_frequent_steps::frequent_deed;
+use pfc_frequent_steps::step_often;
 use pfc_pending::{At, Deed};
 use pfc_program::Program;
 use pfc_rewriting::{Going, next_deed};
@@ -39,19 +40,33 @@ fn rewrite<'t>(
     ensures ok { IfOk result (λ deed. deed_of program.now.tables doing.new deed ≡ doing_ahead program.now.tables doing.old) }
     ensures err { OnErr result (doing_ahead program.now.tables doing.new ≡ doing_ahead program.now.tables doing.old) }
 {
-    match frequent_deed(
+    step_often(
         alloc,
         program,
         &doing.names,
         &mut doing.at,
         &mut doing.line,
         &mut doing.pending,
-    ) {
+    );
+    match deed_at_hand(&mut doing.at) {
         Some(deed) => Ok(deed),
-        None => match rewrite_any(alloc, program, doing) {
-            Ok(deed) => Ok(deed),
-            Err(Memory) => Err(Memory),
-        },
+        None => rewrite_any(alloc, program, doing),
+    }
+}
+
+/// The action that is at hand, taken from there; None where none is, and then all is as it was.
+fn deed_at_hand<'t>(place: &mut At<'t>) -> Option<Deed<'t>>
+    ensures { MatchOption result (place.new ≡ place.old) (λ deed. place.old ≡ at.Deed deed) }
+{
+    if !matches!(place, At::Deed(_)) {
+        return None;
+    }
+    match mem::replace(place, At::Rest) {
+        At::Deed(deed) => Some(deed),
+        other => {
+            hold(place, other);
+            None
+        }
     }
 }
 

@@ -1,5 +1,5 @@
 -- What is at hand in small values, over what is pending: the action that comes next, by the definitions.
-use Rattle.std.specs.Prelude.{◌+◌, ◌≤◌, Option, Some, None, Result, Ok, Err}
+use Rattle.std.specs.Prelude.{◌+◌, ◌≤◌, Option, Some, None}
 use Rattle.std.specs.Vec.{vec_len, vec_capacity}
 use Rattle.std.specs.declared.vec.Vec.{Vec}
 use Rattle.std.specs.declared.alloc.Global.{Global}
@@ -14,10 +14,8 @@ use Rattle.pfc_semantics.specs.Alternatives.{context}
 use Rattle.pfc_semantics.specs.Remainders.{Context, Action, assign_to, read_for, turns, reads, writes, finishes, faults}
 use Rattle.pfc_semantics.specs.Rewriting.{from_value}
 use Rattle.pfc_semantics.specs.Values.{ordinal}
-use Rattle.pfc_pending.specs.Ahead.{ahead, deed_ahead}
+use Rattle.pfc_pending.specs.Ahead.{ahead}
 use Rattle.pfc_pending.specs.Waiting.{Waiting, awaits_of, remainder_of, over}
-use Rattle.pfc_pending.specs.declared.actions.Deed.{Deed}
-use Rattle.pfc_pending.specs.declared.at_hand.At.{At}
 use Rattle.pfc_pending.specs.declared.at_hand.At.TheVariants as at
 use Rattle.pfc_pending.specs.declared.pending.Pending.{Pending}
 use Rattle.pfc_pending.specs.declared.pending.Pending.TheVariants as pending
@@ -101,16 +99,6 @@ next_ahead t c w (to.ToAssign x e) = indexed_ahead c x (assign_to (expr_view e.n
 
 abbrev pub entered_ahead : Tables → Env → Waiting → Entered → Action
 entered_ahead t env w e = next_ahead t (context env e.line) w e.next
-
--- what the steps come to: an action, or what is at hand then
-abbrev pub advanced_ahead : Tables → Context → Waiting → Result Deed Near → Action
-advanced_ahead t c w (Ok deed) = deed_ahead t c w deed
-advanced_ahead t c w (Err n) = near_ahead t c w n
-
--- the same, where what is at hand then stands at a place
-abbrev pub come_ahead : Tables → Context → Waiting → At → Option Deed → Action
-come_ahead t c w x (Some deed) = deed_ahead t c w deed
-come_ahead t c w x None = ahead t c w x
 
 -- what one step comes to
 abbrev pub went_ahead : Tables → Context → Waiting → Went → Action

@@ -4,7 +4,7 @@ ghost use Rattle.pfc_program.specs.declared.tables.Tables.{Tables};
 ghost use Rattle.pfc_semantics.specs.Remainders.{Context};
 ghost use Rattle.pfc_pending.specs.Ahead.{ahead};
 ghost use Rattle.pfc_pending.specs.Waiting.{Waiting};
-ghost use Rattle.pfc_frequent_steps.specs.Near.{advanced_ahead, near_ahead};
+ghost use Rattle.pfc_frequent_steps.specs.Near.{near_ahead};
 
 use pfc_base::{Place, RunFault};
 use pfc_frequent_parts::Indexed;
@@ -134,20 +134,6 @@ impl<'t> Near<'t> {
             Near::Writes(spot, n) => At::Deed(Deed::Writes(spot, Value::of(n))),
             Near::Finishes(line) => At::Deed(Deed::Finishes(line)),
             Near::Faults(fault) => At::Deed(Deed::Faults(fault)),
-        }
-    }
-
-    /// The action that this is, or else the same as it was.
-    pub(crate) fn deed(self) -> Result<Deed<'t>, Near<'t>>
-        ensures { (t : Tables) (c : Context) (w : Waiting) → advanced_ahead t c w result ≡ near_ahead t c w self.entry }
-    {
-        match self {
-            Near::Turns => Ok(Deed::Turns),
-            Near::Reads(spot) => Ok(Deed::Reads(spot)),
-            Near::Writes(spot, n) => Ok(Deed::Writes(spot, Value::of(n))),
-            Near::Finishes(line) => Ok(Deed::Finishes(line)),
-            Near::Faults(fault) => Ok(Deed::Faults(fault)),
-            near => Err(near),
         }
     }
 }

@@ -1,13 +1,16 @@
 //! Frequent steps, up to an action or to what is no frequent step.
-ghost use Rattle.std.specs.Prelude.{◌≡◌};
+ghost use Rattle.std.specs.Prelude.{◌≡◌, ℕ, IfSome};
 ghost use Rattle.pfc_program.specs.declared.tables.Tables.{Tables};
 ghost use Rattle.pfc_types.specs.rules.Expressions.{Env as Known};
 ghost use Rattle.pfc_semantics.specs.Alternatives.{context};
+ghost use Rattle.pfc_semantics.specs.Rewriting.{from_remainder};
+ghost use Rattle.pfc_semantics.specs.Statements.{from_stmt};
 ghost use Rattle.pfc_phrases.specs.Views.{env_view};
-ghost use Rattle.pfc_pending.specs.Ahead.{ahead};
-ghost use Rattle.pfc_pending.specs.Waiting.{waiting};
+ghost use Rattle.pfc_pending.specs.Ahead.{ahead, deed_ahead};
+ghost use Rattle.pfc_pending.specs.Texts.{stmt_at};
+ghost use Rattle.pfc_pending.specs.Waiting.{Waiting, remainder_of, waiting};
 ghost use Rattle.pfc_frequent_steps.specs.declared.near.Near.TheVariants as near;
-ghost use Rattle.pfc_frequent_steps.specs.Near.{advanced_ahead, come_ahead, near_ahead, went_ahead, HasRoom};
+ghost use Rattle.pfc_frequent_steps.specs.Near.{near_ahead, went_ahead, HasRoom};
 
 use crate::counts::go_on_counting;
 use crate::ended::ended;
@@ -15,33 +18,52 @@ use crate::expressions::{expr, simple, term};
 use crate::names::factor;
 use crate::near::{Near, Went, frequent};
 use crate::stack::{go_on, take_behind, take_waits};
-use crate::statements::{stmt, stmts};
+use crate::statements::{node, stmt, stmts};
 use crate::tested::meet_test;
 use crate::values::meet;
-use pfc_frequent_parts::{Reached, meet_index};
-use pfc_pending::{At, Deed, Pending};
+use pfc_frequent_parts::{Acts, Reached, action_of, meet_index};
+use pfc_pending::{At, OneStmt, Pending};
 use pfc_sites::Site;
 use std::alloc::Global;
 use std::mem;
 
-/// Frequent steps from what is at hand. Where they come to no action, what they come to is at hand.
+/// Frequent steps from what is at hand: what they come to is at hand then, over what is pending then.
 #[inline(never)]
-pub fn come<'t>(
-    at: &mut At<'t>,
-    line: &mut u32,
-    pending: &mut Vec<Pending<'t>>,
-    site: Site<'t, '_>,
-) -> Option<Deed<'t>>
-    ensures { (t : Tables) → come_ahead t (context (env_view site.entry.env) line.new) (waiting t pending.new.items) at.new result
+pub fn come<'t>(at: &mut At<'t>, line: &mut u32, pending: &mut Vec<Pending<'t>>, site: Site<'t, '_>)
+    ensures { (t : Tables) → ahead t (context (env_view site.entry.env) line.new) (waiting t pending.new.items) at.new
         ≡ ahead t (context (env_view site.entry.env) line.old) (waiting t pending.old.items) at.old }
 {
-    let near = frequent(at)?;
-    match advance(near, line, pending, site) {
-        Ok(deed) => Some(deed),
-        Err(near) => {
-            put(at, near.at_hand());
-            None
+    if let Some(near) = frequent(at) {
+        match advance(near, line, pending, site) {
+            Near::Stmt(n, s) => leave(n, s, at, line, site),
+            near => put(at, near.at_hand()),
         }
+    }
+}
+
+/// A statement that is none of the frequent ones: where it is one action, that is at hand, and else the statement.
+#[inline(never)]
+fn leave<'t>(n: u32, s: OneStmt<'t>, place: &mut At<'t>, line: &mut u32, site: Site<'t, '_>)
+    ensures { (t : Tables) (w : Waiting) → ahead t (context (env_view site.entry.env) line.new) w place.new
+        ≡ near_ahead t (context (env_view site.entry.env) line.old) w (near.Stmt n s.entry) }
+{
+    match acting(s, site) {
+        Some(acts) => {
+            *line = acts.line;
+            put(place, At::Deed(acts.deed));
+        }
+        None => put(place, At::Stmt(n, s)),
+    }
+}
+
+/// The action that a statement is at once, None for any other.
+fn acting<'t>(s: OneStmt<'t>, site: Site<'t, '_>) -> Option<Acts<'t>>
+    ensures { IfSome result (λ a. (t : Tables) (n : ℕ) (w : Waiting) → let env = env_view site.entry.env in
+        deed_ahead t (context env a.line) w a.deed ≡ from_stmt env n (stmt_at s.entry) (remainder_of w) (from_remainder env (remainder_of w))) }
+{
+    match node(s) {
+        Some(found) => action_of(found, site),
+        None => None,
     }
 }
 
@@ -59,22 +81,22 @@ fn advance<'t>(
     line: &mut u32,
     pending: &mut Vec<Pending<'t>>,
     site: Site<'t, '_>,
-) -> Result<Deed<'t>, Near<'t>>
-    ensures { (t : Tables) → advanced_ahead t (context (env_view site.entry.env) line.new) (waiting t pending.new.items) result
+) -> Near<'t>
+    ensures { (t : Tables) → near_ahead t (context (env_view site.entry.env) line.new) (waiting t pending.new.items) result
         ≡ near_ahead t (context (env_view site.entry.env) line.old) (waiting t pending.old.items) near.entry }
 {
     let mut near = near;
     for _step in 0..u64::MAX {
         match pending.reserve(1) {
             Ok(()) => {}
-            Err(_) => return near.deed(),
+            Err(_) => return near,
         }
         match step(near, line, pending, site) {
             Went::On(next) => near = next,
-            Went::Ends(last) => return last.deed(),
+            Went::Ends(last) => return last,
         }
     }
-    near.deed()
+    near
 }
 
 /// One step, in room that was taken before.

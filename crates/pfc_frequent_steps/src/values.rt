@@ -33,6 +33,7 @@ pub(crate) fn meet<'t>(part: Waits<'t>, v: i64) -> Next<'t>
 
 /// The first term of a sum.
 #[tactic(auto, using(crate::proofs::Rules::values))]
+#[inline(always)]
 fn begin_sum<'t>(
     sign: Option<(Sign, Place)>,
     rest: &'t [((AddOp, Place), Term)],
@@ -49,6 +50,7 @@ fn begin_sum<'t>(
 
 /// The right operand of a sum.
 #[tactic(auto, using(crate::proofs::Rules::values))]
+#[inline(always)]
 fn add_to<'t>(n: i64, op: AddOp, rest: &'t [((AddOp, Place), Term)], v: i64) -> Next<'t>
     ensures { (t : Tables) (c : Context) (w : Waiting) → next_ahead t c w result
         ≡ from_value c (remainders.add_to n op (summands_view rest.now) (awaits_of w)) (ordinal v) }
@@ -61,6 +63,7 @@ fn add_to<'t>(n: i64, op: AddOp, rest: &'t [((AddOp, Place), Term)], v: i64) -> 
 
 /// The right operand of a product.
 #[tactic(auto, using(crate::proofs::Rules::values))]
+#[inline(always)]
 fn multiply_by<'t>(n: i64, op: MulOp, rest: &'t [((MulOp, Place), Factor)], v: i64) -> Next<'t>
     ensures { (t : Tables) (c : Context) (w : Waiting) → next_ahead t c w result
         ≡ from_value c (remainders.multiply_by n op (multipliers_view rest.now) (awaits_of w)) (ordinal v) }

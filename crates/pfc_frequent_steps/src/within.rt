@@ -4,30 +4,29 @@ ghost use Rattle.pfc_types.specs.Views.{levels};
 ghost use Rattle.pfc_program.specs.Views.{names_view};
 ghost use Rattle.pfc_semantics.specs.Alternatives.{context};
 ghost use Rattle.pfc_pending.specs.Waiting.{waiting};
-ghost use Rattle.pfc_frequent_steps.specs.Near.{come_ahead};
 ghost use Rattle.pfc_pending.specs.Ahead.{ahead};
 ghost use Rattle.pfc_frequent_steps.specs.Within.{env_within, levels_of};
 
 use crate::steps::come;
-use pfc_pending::{At, Deed, Pending};
+use pfc_pending::{At, Pending};
 use pfc_phrases::Env;
 use pfc_program::{Level, Names, Program};
 use pfc_sites::Site;
 use pfc_types::{Around, View};
 use std::alloc::Global;
 
-/// The action that comes next for a process where these names are in view, if frequent steps lead to it: its line is that of its statement,
-/// and what is left behind it is pending then. Else what is at hand then has the same action ahead.
-pub fn frequent_deed<'t>(
+/// Frequent steps of a process where these names are in view. What they come to is at hand then, and has the same action ahead; where it is
+/// that action, its line is that of its statement, and what is left behind it is pending.
+pub fn step_often<'t>(
     alloc: Global,
     program: &Program<'t>,
     names: &Names,
     at: &mut At<'t>,
     line: &mut u32,
     pending: &mut Vec<Pending<'t>>,
-) -> Option<Deed<'t>>
-    ensures { come_ahead program.now.tables (context (names_view program.now.tables names.now) line.new)
-        (waiting program.now.tables pending.new.items) at.new result
+)
+    ensures { ahead program.now.tables (context (names_view program.now.tables names.now) line.new)
+        (waiting program.now.tables pending.new.items) at.new
         ≡ ahead program.now.tables (context (names_view program.now.tables names.now) line.old)
         (waiting program.now.tables pending.old.items) at.old }
 {
@@ -54,9 +53,9 @@ fn within<'t>(
     at: &mut At<'t>,
     line: &mut u32,
     pending: &mut Vec<Pending<'t>>,
-) -> Option<Deed<'t>>
-    ensures { come_ahead program.now.tables (context (env_within program.now.tables (levels.now ++ levels_of outer.entry) around) line.new)
-        (waiting program.now.tables pending.new.items) at.new result
+)
+    ensures { ahead program.now.tables (context (env_within program.now.tables (levels.now ++ levels_of outer.entry) around) line.new)
+        (waiting program.now.tables pending.new.items) at.new
         ≡ ahead program.now.tables (context (env_within program.now.tables (levels.now ++ levels_of outer.entry) around) line.old)
         (waiting program.now.tables pending.old.items) at.old }
 {
@@ -80,7 +79,7 @@ fn within<'t>(
         }
         [] => match outer {
             Some(view) => steps_within(view, around, alloc, program, at, line, pending),
-            None => None,
+            None => {}
         },
     }
 }
@@ -94,9 +93,9 @@ fn steps_within<'t>(
     at: &mut At<'t>,
     line: &mut u32,
     pending: &mut Vec<Pending<'t>>,
-) -> Option<Deed<'t>>
-    ensures { come_ahead program.now.tables (context (env_within program.now.tables (levels view.now) around) line.new)
-        (waiting program.now.tables pending.new.items) at.new result
+)
+    ensures { ahead program.now.tables (context (env_within program.now.tables (levels view.now) around) line.new)
+        (waiting program.now.tables pending.new.items) at.new
         ≡ ahead program.now.tables (context (env_within program.now.tables (levels view.now) around) line.old)
         (waiting program.now.tables pending.old.items) at.old }
 {

@@ -22,9 +22,7 @@ impl<'t> Going<'t> {
             if let Some(came) = self.turn(site)? {
                 return Ok(came);
             }
-            if let Some(deed) = come(&mut self.at, &mut self.line, &mut self.pending, site) {
-                return Ok(Came::Deed(deed));
-            }
+            come(&mut self.at, &mut self.line, &mut self.pending, site);
         }
         Err(Memory)
     }

@@ -30,8 +30,8 @@ pub struct Acts<'t> {
     pub deed: Deed<'t>,
 }
 
-/// The action that a statement is at once: a call of a procedure of the program without arguments, a `wait`, a `signal`, a `resume` and a
-/// `delay` without a rank at variables as a whole, and a message that is received into one. None for any other.
+/// The action that a statement is at once: a call of a procedure of the program without arguments, a `wait`, a `signal` and a `resume` at
+/// variables as a whole, and a message that is received into one. None for any other.
 pub fn action_of<'t>(s: &'t Stmt, site: Site<'t, '_>) -> Option<Acts<'t>>
     ensures { IfSome result (λ a. (t : Tables) (n : ℕ) (w : Waiting) → let env = env_view site.entry.env in
         deed_ahead t (context env a.line) w a.deed ≡ from_stmt env n (stmt_view s.now) (remainder_of w) (from_remainder env (remainder_of w))) }
